@@ -1,0 +1,5 @@
+pub mod SignedLemmas
+pub mod GcdLemmas
+pub mod TermsLemmas
+pub mod FracLemmas
+pub mod SumLemmas

@@ -1,0 +1,4 @@
+pub mod Frac
+pub mod Arithmetic
+pub mod Terms
+pub mod Sum

@@ -1,0 +1,12 @@
+pub mod Rows
+pub mod Instructions
+pub mod Words
+pub mod Regions
+pub mod CostRange
+pub mod Table
+pub mod Bytes
+pub mod Arithmetic
+pub mod Images
+pub mod Memory
+pub mod Machine
+pub mod Runs

@@ -1,0 +1,166 @@
+// What instructions compute of words.
+ghost use Rattle.std.specs.Prelude.{◌≡◌, ◌≢◌, ◌*◌, ◌/◌, ◌%◌, ◌^◌, ◌<◌, ◌*ℤ◌, pos, int_lt, unsigned_abs};
+ghost use Rattle.wcc_base.specs.Words.{left_shift_word, right_shift_word, signed_less_word, less_word, signed_right_shift_word, signed_quotient_word, signed_remainder_word, quotient_word, remainder_word};
+ghost use Rattle.rv_core.specs.Arithmetic.{signed, upper_word, alu_value, holds, byte_count, extended};
+
+use crate::row::{Alu, Condition, Width};
+use crate::signs::extend;
+use wcc_base::sign_extend;
+
+/// The number of a word in two's complement.
+fn signed(x: u32) -> i32
+    ensures { result ≡ signed x }
+{
+    sign_extend(x, 32)
+}
+
+fn is_less(x: u32, y: u32) -> bool
+    ensures { result ≡ int_lt (signed x) (signed y) }
+{
+    signed(x) < signed(y)
+}
+
+fn shift_left(x: u32, y: u32) -> u32
+    ensures { result ≡ left_shift_word x y }
+{
+    x << (y % 32)
+}
+
+fn shift_right(x: u32, y: u32) -> u32
+    ensures { result ≡ right_shift_word x y }
+{
+    x >> (y % 32)
+}
+
+fn shift_right_signed(x: u32, y: u32) -> u32
+    ensures { result ≡ signed_right_shift_word x y }
+{
+    (signed(x) >> (y % 32)).cast_unsigned()
+}
+
+/// The upper word of a product of two signed numbers.
+fn high_product(x: i32, y: i64) -> u32
+    requires { unsigned_abs y < 2 ^ 32 }
+    ensures { result ≡ upper_word (x *ℤ y) }
+{
+    ((i64::from(x) * y).cast_unsigned() >> 32) as u32
+}
+
+fn high_product_unsigned(x: u32, y: u32) -> u32
+    ensures { result ≡ x * y / 2 ^ 32 }
+{
+    ((u64::from(x) * u64::from(y)) >> 32) as u32
+}
+
+/// The quotient toward zero: -1 where the divisor is 0, and -2^31 where it overflows.
+fn quotient(x: u32, y: u32) -> u32
+    ensures { result ≡ signed_quotient_word x y }
+{
+    if y == 0 {
+        return (-1i32).cast_unsigned();
+    }
+    signed(x).wrapping_div(signed(y)).cast_unsigned()
+}
+
+/// The remainder of that quotient: the dividend where the divisor is 0, and 0 where it overflows.
+fn remainder(x: u32, y: u32) -> u32
+    ensures { result ≡ signed_remainder_word x y }
+{
+    if y == 0 {
+        return x;
+    }
+    signed(x).wrapping_rem(signed(y)).cast_unsigned()
+}
+
+fn quotient_unsigned(x: u32, y: u32) -> u32
+    ensures { result ≡ quotient_word x y }
+{
+    if y == 0 {
+        return u32::MAX;
+    }
+    x / y
+}
+
+fn remainder_unsigned(x: u32, y: u32) -> u32
+    ensures { result ≡ remainder_word x y }
+{
+    if y == 0 {
+        return x;
+    }
+    x % y
+}
+
+impl Condition {
+    /// Whether two words meet the condition.
+    #[tactic(auto, unfolding(crate::specs::Arithmetic::holds))]
+    pub fn holds(self, x: u32, y: u32) -> bool
+        ensures { result ≡ holds self x y }
+    {
+        match self {
+            Condition::Equal => x == y,
+            Condition::NotEqual => !(x == y),
+            Condition::Less => is_less(x, y),
+            Condition::AtLeast => !is_less(x, y),
+            Condition::LessUnsigned => x < y,
+            Condition::AtLeastUnsigned => !(x < y),
+        }
+    }
+}
+
+impl Width {
+    /// How many bytes a load or a store of this width touches.
+    pub fn byte_count(self) -> u32
+        ensures { result ≡ byte_count self }
+    {
+        match self {
+            Width::Byte => 1,
+            Width::Half => 2,
+            Width::Word => 4,
+        }
+    }
+
+    /// The word that a load of this width makes of the number that it found.
+    #[tactic(auto, unfolding(crate::specs::Arithmetic::extended))]
+    pub fn extended(self, signed: bool, number: u32) -> u32
+        requires { number < 2 ^ (8 * byte_count self) }
+        ensures { result ≡ extended self signed number }
+    {
+        if !signed {
+            return number;
+        }
+        match self {
+            Width::Byte => extend(number, 8).cast_unsigned(),
+            Width::Half => extend(number, 16).cast_unsigned(),
+            Width::Word => number,
+        }
+    }
+}
+
+impl Alu {
+    /// The value of the function.
+    #[tactic(auto, unfolding(crate::specs::Arithmetic::alu_value))]
+    pub fn value(self, x: u32, y: u32) -> u32
+        ensures { result ≡ alu_value self x y }
+    {
+        match self {
+            Alu::Sum => x.wrapping_add(y),
+            Alu::Difference => x.wrapping_sub(y),
+            Alu::ShiftLeft => shift_left(x, y),
+            Alu::IsLess => u32::from(is_less(x, y)),
+            Alu::IsLessUnsigned => u32::from(x < y),
+            Alu::BitXor => x ^ y,
+            Alu::ShiftRight => shift_right(x, y),
+            Alu::ShiftRightSigned => shift_right_signed(x, y),
+            Alu::BitOr => x | y,
+            Alu::BitAnd => x & y,
+            Alu::Product => x.wrapping_mul(y),
+            Alu::HighProduct => high_product(signed(x), i64::from(signed(y))),
+            Alu::HighProductMixed => high_product(signed(x), i64::from(y)),
+            Alu::HighProductUnsigned => high_product_unsigned(x, y),
+            Alu::Quotient => quotient(x, y),
+            Alu::QuotientUnsigned => quotient_unsigned(x, y),
+            Alu::Remainder => remainder(x, y),
+            Alu::RemainderUnsigned => remainder_unsigned(x, y),
+        }
+    }
+}

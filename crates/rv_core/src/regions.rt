@@ -1,0 +1,9 @@
+// The regions of the address space.
+
+/// A region of the address space: what stands there costs differently.
+#[derive(Clone, Copy, Debug, PartialEq, Eq)]
+pub enum Region {
+    Flash,
+    Spm,
+    Ram,
+}

@@ -1,0 +1,2 @@
+pub mod FilesLaws
+mod FileListLaws

@@ -1,0 +1,7 @@
+pub mod Outside
+pub mod FileList
+pub mod Failing
+pub mod Limits
+pub mod StatusCode
+pub mod Signs
+pub mod Words

@@ -1,0 +1,102 @@
+// Files and a sink in memory that never fail.
+ghost use Rattle.std.specs.Prelude.{◌≡◌, ◌<◌, ◌≤◌, ◌<◌, ◌-◌, ◌++◌, ℕ, [], Option, Some, Ok, length, min, IsSome, IfOk, OnErr, IsErrOf, string_bytes};
+ghost use Rattle.wcc_base.specs.Outside.{bytes_of, file_of, put_file, Reads};
+ghost use Rattle.wcc_base.specs.FileList.{told};
+
+use crate::file_list::{add_to, copy_from, empty_file, place};
+use crate::{Fault, Sink, Store};
+use std::alloc::Global;
+
+/// Files in memory. It never fails: an absent file reads as an empty one, and each call moves all
+/// that it can.
+#[derive(Drop)]
+pub struct CalmStore {
+    alloc: Global,
+    pub files: Vec<(String, Vec<u8>)>,
+}
+
+impl CalmStore {
+    /// The store of these files, whose names differ. It takes no memory.
+    pub fn new(alloc: Global, files: Vec<(String, Vec<u8>)>) -> Self
+        ensures { result.files ≡ files }
+    {
+        CalmStore { alloc, files }
+    }
+}
+
+impl Store for CalmStore {
+    ghost files = { λ s. Some (told string_bytes (λ v. v.items) s.files.items) };
+
+    ghost read_faults = { λ _. 0 };
+
+    ghost write_faults = { λ _. 0 };
+
+    fn read_at(&mut self, name: &str, at: u64, buf: &mut [u8]) -> Result<usize, Fault>
+        requires { 0 < length buf.old }
+        ensures count { result ≡ Ok (min (length (bytes_of
+            (told string_bytes (λ v. v.items) self.old.files.items) name.now) - at) (length buf.old)) }
+        ensures read { IfOk result (λ n. Reads (bytes_of
+            (told string_bytes (λ v. v.items) self.old.files.items) name.now) at n buf.new) }
+        ensures same { self.new.files ≡ self.old.files }
+    {
+        match place(&self.files, name) {
+            Some(i) => Ok(copy_from(&self.files[i].1, at, buf, usize::MAX)),
+            None => Ok(0),
+        }
+    }
+
+    fn begin(&mut self, name: &str) -> Result<(), Fault> {
+        match empty_file(self.alloc, &mut self.files, name) {
+            Ok(()) => Ok(()),
+            Err(_) => Err(Fault::Memory),
+        }
+    }
+
+    fn append(&mut self, name: &str, piece: &[u8]) -> Result<usize, Fault>
+        requires some { 0 < length piece.now }
+        requires there { IsSome (file_of (told string_bytes (λ v. v.items) self.old.files.items) name.now) }
+        ensures count { IfOk result (λ n. n ≡ length piece.now) }
+        ensures ok { IfOk result (λ n. told string_bytes (λ v. v.items) self.new.files.items
+            ≡ put_file name.now (bytes_of (told string_bytes (λ v. v.items) self.old.files.items) name.now ++ piece.now) (told string_bytes (λ v. v.items) self.old.files.items)) }
+        ensures err { OnErr result ((told string_bytes (λ v. v.items) self.new.files.items) ≡ (told string_bytes (λ v. v.items) self.old.files.items)) }
+        ensures calm { IsErrOf result Fault.Failed → ⊥ }
+    {
+        add_to(&mut self.files, name, piece)?;
+        Ok(piece.len())
+    }
+}
+
+/// Bytes in memory. It never fails, and takes each piece whole.
+#[derive(Drop)]
+pub struct CalmSink {
+    pub bytes: Vec<u8>,
+}
+
+impl CalmSink {
+    /// The sink that has taken nothing. It takes no memory.
+    pub fn new(alloc: Global) -> Self
+        ensures { result.bytes.items ≡ [] }
+    {
+        CalmSink {
+            bytes: Vec::new(alloc),
+        }
+    }
+}
+
+impl Sink for CalmSink {
+    ghost written = { λ s. Some s.bytes.items };
+
+    ghost faults = { λ _. 0 };
+
+    fn put(&mut self, piece: &[u8]) -> Result<usize, Fault>
+        ensures whole { IfOk result (λ n. n ≡ length piece.now) }
+        ensures ok { IfOk result (λ n. self.new.bytes.items ≡ self.old.bytes.items ++ piece.now) }
+        ensures err { OnErr result (self.new.bytes.items ≡ self.old.bytes.items) }
+        ensures calm { IsErrOf result Fault.Failed → ⊥ }
+    {
+        match self.bytes.extend_from_slice(piece) {
+            Ok(()) => Ok(piece.len()),
+            Err(_) => Err(Fault::Memory),
+        }
+    }
+}

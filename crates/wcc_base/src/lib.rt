@@ -1,0 +1,37 @@
+//! The outside of the compiler, and what every other crate shares.
+//!
+//! Files and the standard output stand behind two traits, `Store` and `Sink`, whose contracts say
+//! what a call did to the bytes, and that a fault is told only where a count of faults rose. Stores
+//! and sinks in memory tell their contents, so that the compiler's own contract can speak of them;
+//! the adapters `FsStore` and `OutSink` tell none, and are the trusted edge.
+//!
+//! Beside them stand the ways in which a call ends, the limits of its inputs, lists that contracts
+//! see as lists, and numbers in two's complement. Nothing here knows a language or a machine.
+#![tactic(auto)]
+
+mod calm;
+mod compare;
+mod failing;
+mod file_list;
+mod items;
+mod limits;
+mod memory;
+mod outside;
+mod signs;
+mod status;
+mod system;
+#[cfg(test)]
+mod tests;
+mod text;
+
+pub use calm::{CalmSink, CalmStore};
+pub use compare::Compare;
+pub use failing::{MemSink, MemStore};
+pub use items::Items;
+pub use limits::{Bound, limit_of};
+pub use memory::Memory;
+pub use outside::{Fault, Sink, Store};
+pub use signs::sign_extend;
+pub use status::Status;
+pub use system::{FsStore, OutSink};
+pub use text::Text;

@@ -1,0 +1,1 @@
+int main(void) { putchar(01); return 7; }

@@ -1,0 +1,1 @@
+int main(void) { putchar(2147483648); return 7; }

@@ -1,0 +1,1 @@
+int main(void) { getchar(72); return 7; }

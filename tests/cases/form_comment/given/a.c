@@ -1,0 +1,2 @@
+/* one call */
+int main(void) { putchar(72); return 7; }

@@ -1,0 +1,1 @@
+int main(void) { return 18446744073709551623; }
