@@ -1,0 +1,15 @@
+pub mod Levels
+pub mod Leads
+pub mod ReadExpr
+pub mod ReadParts
+pub mod ReadDeclarations
+pub mod ReadStatements
+pub mod ReadUnit
+pub mod Around
+pub mod SoundExpr
+pub mod SoundUnit
+pub mod SoundSteps
+pub mod Grows
+pub mod Laws
+pub mod Nodes
+pub mod Completion

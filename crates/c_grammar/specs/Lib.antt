@@ -1,0 +1,4 @@
+pub mod Begun
+pub mod Machine
+pub mod Law
+pub mod Depth

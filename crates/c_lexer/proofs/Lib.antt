@@ -1,0 +1,11 @@
+pub mod TextLemmas
+pub mod Gaps
+pub mod Quotes
+pub mod FirstBytes
+pub mod Operators
+pub mod Longest
+pub mod Numbers
+pub mod Cuts
+pub mod PragmaLemmas
+pub mod Tokens
+pub mod Unique

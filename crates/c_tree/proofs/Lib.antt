@@ -1,0 +1,3 @@
+pub mod TokenLists
+pub mod Rows
+pub mod Sizes

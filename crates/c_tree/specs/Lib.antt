@@ -1,0 +1,11 @@
+pub mod Bytes
+pub mod Constants
+pub mod Pragmas
+pub mod Words
+pub mod Said
+pub mod Tree
+pub mod Spelling
+pub mod Formed
+pub mod Size
+pub mod Named
+pub mod View
