@@ -8,7 +8,7 @@ use Rattle.elf_image.specs.Text.{contents, program_header, program_headers}
 placed_size : (s : Segment) → IsPlaced s → s.size ≤ 0x80_0000
 placed_size s p = ⊎_elim (λ f. omega (arith, f.from, f.to)) (⊎_elim (λ f. omega (arith, f.from, f.to)) (λ f. omega (arith, f.from, f.to))) p.region
 
-size_most : (s : Segment) → IsSegment s → s.size ≤ 0x80_0000
+pub size_most : (s : Segment) → IsSegment s → s.size ≤ 0x80_0000
 size_most s v = by_size s.size refl
   where
     by_size : (n : ℕ) → s.size ≡ n → s.size ≤ 0x80_0000
@@ -20,7 +20,7 @@ pub contents_most : (ss : List Segment) → AreSegments ss → length (contents 
 contents_most [] v = omega arith
 contents_most (s ∷ ss) v = omega (arith, size_most s v.0, v.0.filled, contents_most ss v.1, length-append s.bytes (contents ss))
 
-at_drop : (ss : List Segment) (i : ℕ) (e : Segment) → i < length ss → e ≡ get_or ss i e → drop i ss ≡ e ∷ drop (i + 1) ss
+pub at_drop : (ss : List Segment) (i : ℕ) (e : Segment) → i < length ss → e ≡ get_or ss i e → drop i ss ≡ e ∷ drop (i + 1) ss
 at_drop ss i e lt is = grind (arith, common_steps)
 
 pub headers-drop : (ss : List Segment) (i at : ℕ) (e : Segment) → i < length ss → e ≡ get_or ss i e → program_headers at (drop i ss) ≡ program_header at e ++ program_headers (at + length e.bytes) (drop (i + 1) ss)

@@ -1,1 +1,6 @@
 pub mod Text
+pub mod Headers
+pub mod Sorting
+pub mod Loading
+pub mod Progress
+pub mod Addresses

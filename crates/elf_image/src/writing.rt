@@ -7,9 +7,9 @@ use rv_core::{Image, Segment};
 use std::alloc::Global;
 use wcc_base::Memory;
 
-const HEADER_SIZE: u32 = 52;
+pub(crate) const HEADER_SIZE: u32 = 52;
 
-const PROGRAM_HEADER_SIZE: u32 = 32;
+pub(crate) const PROGRAM_HEADER_SIZE: u32 = 32;
 
 /// The canonical text of an image.
 pub fn write(alloc: Global, image: &Image) -> Result<Vec<u8>, Memory>

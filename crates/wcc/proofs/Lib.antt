@@ -1,8 +1,10 @@
 pub mod StraightRuns
 pub mod FileRuns
-pub mod CommandRuns
+pub mod CompileRuns
+pub mod RunRuns
 pub mod Numbers
 pub mod Pieces
 pub mod Calls
 pub mod Sources
 pub mod Endings
+pub mod Succeeding

@@ -1,7 +1,16 @@
+pub mod Words
+pub mod States
 pub mod Plain
 pub mod Compiled
+pub mod Lines
+pub mod Statuses
+pub mod Compiling
+pub mod Simulated
 pub mod Ends
+pub mod Promises
+pub mod Asked
 pub mod Straight
 pub mod Reader
 pub mod Files
 pub mod Artifacts
+pub mod Runnings

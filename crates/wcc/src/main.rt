@@ -1,17 +1,22 @@
 //! WCC, a compiler for hard real-time programs that reports a proved bound on their time.
 //!
-//! `wcc` is the top call: words, a store of files and a sink in; what was done, what it is called,
-//! and the proof that it was right out. Today it compiles plain sources: one function `main` that
-//! calls `putchar` with constants and returns one. `main` gives it the real files and the
-//! standard output, and ends with the status's code.
+//! `wcc` is the top call: words, a store of files and a sink in, a status out. It compiles plain
+//! sources, one function `main` that calls `putchar` with constants and returns one, and runs
+//! images. `main` gives it the real files and the standard output, and ends with the status's code.
+//!
+//! Proved, for every store and every sink: at each status what became of the files and of the
+//! printed line, and why; at Done that a written image does what its source does on any input, in
+//! exactly the printed cycles, and that what is printed of a run is what the machine does.
 #![tactic(auto)]
 
 mod artifact;
-mod command;
+mod compile;
 mod files;
+mod lines;
 mod outcome;
 mod plain;
 mod printing;
+mod run;
 mod straight;
 #[cfg(test)]
 mod tests;

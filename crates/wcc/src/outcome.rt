@@ -1,22 +1,61 @@
-// What the command comes to, before its line is printed.
-ghost use Rattle.std.specs.Prelude.{◌≡◌, IfOk};
-ghost use Rattle.wcc.specs.Compiled.{cycles_line};
-ghost use Rattle.wcc.specs.Ends.{line_of, status_of};
+// What a command comes to, before its line is printed.
+ghost use Rattle.std.specs.Prelude.{◌≡◌};
+ghost use Rattle.wcc.specs.Statuses.{status_of, run_status};
 
-use itoa::Buffer;
-use std::alloc::Global;
-use wcc_base::{Memory, Status};
+use crate::lines::fault_place;
+use elf_image::ElfFault;
+use rv_sim::Ending;
+use wcc_base::{Bound, Status, limit_of};
 
-/// What the command comes to, before its line is printed.
+/// What a command comes to, before its line is printed.
 #[derive(Clone, Copy, Debug, PartialEq, Eq)]
 pub enum Outcome {
     /// Both files are written. The image takes so many cycles.
-    Done(u32),
+    Compiled {
+        cycles: u32,
+    },
+    /// The image ran to this ending, at this pc and after so many cycles, and its output is written.
+    Ran {
+        ending: Ending,
+        pc: u32,
+        cycles: u64,
+    },
     /// The source isn't plain.
     Form,
+    /// The file of the image is none.
+    NoImage(ElfFault),
+    /// A file is longer than its limit.
+    TooLong(Bound),
     ReadFault,
     WriteFault,
     Memory,
+}
+
+// The status of a run.
+fn run_status(ending: Ending, pc: u32, cycles: u64) -> Status
+    ensures { result ≡ run_status ending pc cycles }
+{
+    match ending {
+        Ending::Exit { .. } => Status::Done,
+        Ending::Trap { pc: at, kind } => Status::Stopped {
+            kind: 1,
+            code: kind,
+            at,
+            cycles,
+        },
+        Ending::CycleLimit => Status::Stopped {
+            kind: 2,
+            code: 0,
+            at: pc,
+            cycles,
+        },
+        Ending::OutputFull => Status::Stopped {
+            kind: 3,
+            code: 0,
+            at: pc,
+            cycles,
+        },
+    }
 }
 
 impl Outcome {
@@ -25,36 +64,27 @@ impl Outcome {
         ensures { result ≡ status_of self }
     {
         match self {
-            Outcome::Done(_) => Status::Done,
+            Outcome::Compiled { .. } => Status::Done,
+            Outcome::Ran { ending, pc, cycles } => run_status(ending, pc, cycles),
             Outcome::Form => Status::Form,
+            Outcome::NoImage(fault) => {
+                let (detail, at) = fault_place(fault);
+                Status::Refused {
+                    code: NO_IMAGE,
+                    detail,
+                    at,
+                }
+            }
+            Outcome::TooLong(which) => Status::Limit {
+                which,
+                found: limit_of(which) + 1,
+            },
             Outcome::ReadFault => Status::ReadFault,
             Outcome::WriteFault => Status::WriteFault,
             Outcome::Memory => Status::Memory,
         }
     }
-
-    /// The line that is printed.
-    pub fn line(self, alloc: Global) -> Result<Vec<u8>, Memory>
-        ensures { IfOk result (λ line. line.items ≡ line_of self) }
-    {
-        let line: &[u8] = match self {
-            Outcome::Done(cycles) => return cycles_line(alloc, cycles),
-            Outcome::Form => b"form\n",
-            Outcome::ReadFault => b"read fault\n",
-            Outcome::WriteFault => b"write fault\n",
-            Outcome::Memory => b"memory\n",
-        };
-        Ok(Vec::from_slice(alloc, line)?)
-    }
 }
 
-/// The line of a bound.
-pub fn cycles_line(alloc: Global, cycles: u32) -> Result<Vec<u8>, Memory>
-    ensures { IfOk result (λ line. line.items ≡ cycles_line cycles) }
-{
-    let mut buffer = Buffer::new();
-    let mut line = Vec::from_slice(alloc, b"cycles ")?;
-    line.extend_from_slice(buffer.format(cycles).as_bytes())?;
-    line.push(b'\n')?;
-    Ok(line)
-}
+// The code of a refusal of an image.
+const NO_IMAGE: u8 = 10;

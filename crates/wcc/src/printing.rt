@@ -1,7 +1,8 @@
 // The line that a call prints.
 ghost use Rattle.std.specs.Prelude.{◌≡◌, OnOk, OnErr};
 ghost use Rattle.wcc_base.specs.Outside.{HasCause, told_append};
-ghost use Rattle.wcc.specs.Ends.{Reported, IsCut, sink_state};
+ghost use Rattle.wcc.specs.States.{IsCut, sink_state};
+ghost use Rattle.wcc.specs.Ends.{Reported};
 
 use wcc_base::{Fault, Sink, Status};
 

@@ -1,35 +1,72 @@
 // The top call.
-ghost use Rattle.std.specs.Prelude.{◌≡◌, ◌⊎◌, IsSomeAnd, map, IfSome, None, string_bytes};
-ghost use Rattle.wcc_base.specs.Outside.{Rose, bytes_of};
-ghost use Rattle.wcc.specs.Plain.{IsNotPlain};
-ghost use Rattle.wcc.specs.Ends.{names_of, AsksPlain, EndsWith, HasCompiled, NoFault, store_state, sink_state};
+ghost use Rattle.std.specs.Prelude.{◌≡◌, ◌⊎◌, map, None, string_bytes};
+ghost use Rattle.wcc.specs.Words.{asked_by};
+ghost use Rattle.wcc.specs.States.{store_state, sink_state};
+ghost use Rattle.wcc.specs.Asked.{command_of};
+ghost use Rattle.wcc.specs.Ends.{Says, EndsWith};
+ghost use Rattle.wcc.specs.Promises.{IsDone, Answers, CanBeDone, NoFault};
 
-use crate::command::perform;
+use crate::compile::compile_files;
+use crate::lines::line_of;
+use crate::outcome::Outcome;
 use crate::printing::report;
-use crate::words::read_names;
+use crate::run::run_files;
+use crate::words::{Command, read_command};
 use std::alloc::Global;
 use wcc_base::{Sink, Status, Store};
 
-/// The compiler: it does what the words ask, prints one line, and says how the call ended.
+// Does what a command asks of the files.
+fn obey<S: Store>(alloc: Global, store: &mut S, command: Command) -> Outcome
+    ensures { Says (command_of command.entry)
+        (store_state (S.files store.old) (S.read_faults store.old) (S.write_faults store.old))
+        (store_state (S.files store.new) (S.read_faults store.new) (S.write_faults store.new)) result }
+{
+    match command {
+        Command::Compile(names) => compile_files(alloc, store, names),
+        Command::Run(names) => run_files(alloc, store, names),
+    }
+}
+
+// Does what the words ask, and prints one line.
+fn perform<S: Store, O: Sink>(alloc: Global, words: &[String], store: &mut S, out: &mut O) -> Status
+    ensures { EndsWith (asked_by (map string_bytes words.now))
+        (store_state (S.files store.old) (S.read_faults store.old) (S.write_faults store.old))
+        (store_state (S.files store.new) (S.read_faults store.new) (S.write_faults store.new))
+        (sink_state (O.written out.old) (O.faults out.old))
+        (sink_state (O.written out.new) (O.faults out.new)) result }
+{
+    let Some(command) = read_command(words) else {
+        return report(out, Status::Usage, b"usage\n");
+    };
+    let outcome = obey(alloc, store, command);
+    match line_of(alloc, outcome) {
+        Ok(line) => report(out, outcome.status(), &line),
+        Err(_) => Status::Memory,
+    }
+}
+
+/// The program: it does what the words ask, prints one line, and says how the call ended.
 ///
-/// The words are `compile SOURCE IMAGE REPORT`, without the program's name.
+/// The words, without the program's name, are `compile SOURCE IMAGE REPORT` or
+/// `run IMAGE INPUT OUTPUT`, with three different names.
 pub fn wcc<S: Store, O: Sink>(alloc: Global, words: &[String], store: &mut S, out: &mut O) -> Status
-    ensures ends { EndsWith (names_of (map string_bytes words.now))
+    // Whatever the status: which files are whole, partly written or as they were, and what was printed.
+    ensures ends { EndsWith (asked_by (map string_bytes words.now))
         (store_state (S.files store.old) (S.read_faults store.old) (S.write_faults store.old))
         (store_state (S.files store.new) (S.read_faults store.new) (S.write_faults store.new))
         (sink_state (O.written out.old) (O.faults out.old))
         (sink_state (O.written out.new) (O.faults out.new)) result }
 
-    // The promise: the image does what the source does, in the printed cycles.
-    ensures done { result ≡ Status.Done → IsSomeAnd (names_of (map string_bytes words.now))
-        (λ names. HasCompiled names
+    // The promise: a written image does what its source does in the printed cycles, and what is
+    // said of a run is what the machine does.
+    ensures done { result ≡ Status.Done → IsDone (asked_by (map string_bytes words.now))
         (store_state (S.files store.old) (S.read_faults store.old) (S.write_faults store.old))
         (store_state (S.files store.new) (S.read_faults store.new) (S.write_faults store.new))
         (sink_state (O.written out.old) (O.faults out.old))
-        (sink_state (O.written out.new) (O.faults out.new))) }
+        (sink_state (O.written out.new) (O.faults out.new)) }
 
-    // A plain source is compiled, unless a fault is counted or memory runs out.
-    ensures succeeds { AsksPlain (names_of (map string_bytes words.now))
+    // What can be done is done, unless a fault is counted or memory runs out.
+    ensures succeeds { CanBeDone (asked_by (map string_bytes words.now))
         (store_state (S.files store.old) (S.read_faults store.old) (S.write_faults store.old))
         → NoFault
         (store_state (S.files store.old) (S.read_faults store.old) (S.write_faults store.old))
@@ -38,26 +75,14 @@ pub fn wcc<S: Store, O: Sink>(alloc: Global, words: &[String], store: &mut S, ou
         (sink_state (O.written out.new) (O.faults out.new))
         → (result ≡ Status.Done) ⊎ (result ≡ Status.Memory) }
 
-    // The cause of each refusal. Want of memory has none.
-    ensures usage { result ≡ Status.Usage → names_of (map string_bytes words.now) ≡ None }
-    ensures no_command { names_of (map string_bytes words.now) ≡ None
+    // The table of answers: what each status tells. Want of memory tells nothing.
+    ensures answers { Answers (asked_by (map string_bytes words.now))
+        (store_state (S.files store.old) (S.read_faults store.old) (S.write_faults store.old))
+        (store_state (S.files store.new) (S.read_faults store.new) (S.write_faults store.new))
+        (sink_state (O.written out.old) (O.faults out.old))
+        (sink_state (O.written out.new) (O.faults out.new)) result }
+    ensures no_command { asked_by (map string_bytes words.now) ≡ None
         → (result ≡ Status.Usage) ⊎ (result ≡ Status.Memory) }
-    ensures form { result ≡ Status.Form → IsSomeAnd (names_of (map string_bytes words.now))
-        (λ names. IfSome (S.files store.old) (λ fs. IsNotPlain (bytes_of fs names.source))) }
-    ensures read_fault { result ≡ Status.ReadFault → Rose (S.read_faults store.old) (S.read_faults store.new) }
-    ensures write_fault { result ≡ Status.WriteFault → Rose (S.write_faults store.old) (S.write_faults store.new)
-        ⊎ Rose (O.faults out.old) (O.faults out.new) }
-
-    // These refusals leave every file as it was.
-    ensures unchanged { (result ≡ Status.Usage) ⊎ ((result ≡ Status.Form) ⊎ (result ≡ Status.ReadFault))
-        → S.files store.new ≡ S.files store.old }
 {
-    let Some(names) = read_names(words) else {
-        return report(out, Status::Usage, b"usage\n");
-    };
-    let outcome = perform(alloc, store, names);
-    match outcome.line(alloc) {
-        Ok(line) => report(out, outcome.status(), &line),
-        Err(_) => Status::Memory,
-    }
+    perform(alloc, words, store, out)
 }

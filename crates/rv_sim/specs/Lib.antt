@@ -1,0 +1,5 @@
+pub mod Simulation
+pub mod Blocks
+pub mod Lookups
+pub mod Limits
+pub mod Parts
