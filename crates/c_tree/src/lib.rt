@@ -1,7 +1,12 @@
-//! Tokens and syntax trees of C.
+//! Tokens and syntax trees of C (C11 6.4 to 6.9, an integer profile).
 //!
-//! A token is a span of the source, and what it says is read off the source. [`tokens::Tokens`]
-//! keeps that each span has the form of its kind.
+//! A token is a span of the source, and what it says is read off the source: [`Tokens`] keeps that
+//! each span has the form of its kind. The tree is the grammar's, every node with its place:
+//! [`Unit`] keeps that it is well formed and at most 256 nodes deep. `specs/` says of every tree how
+//! it is spelled, one equation a node, when it is well formed, how many nodes it has and how deep it is.
+//!
+//! Proved: [`nodes`] and [`depth`] are the numbers of these definitions, and [`Tokens::push`] adds
+//! exactly its token. They take no memory but for the token.
 //!
 //! This crate knows nothing of how a source is cut into tokens, nor of how a tree is found.
 #![tactic(auto)]
@@ -20,3 +25,6 @@ pub mod tokens;
 pub mod unit;
 
 pub use count::{depth, nodes};
+pub use token::{Token, TokenKind};
+pub use tokens::Tokens;
+pub use unit::Unit;
