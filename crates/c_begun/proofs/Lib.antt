@@ -1,0 +1,6 @@
+pub mod NamedSizes
+pub mod NamedTrees
+pub mod Overs
+pub mod PartDepths
+pub mod PartLists
+pub mod Passing

@@ -1,0 +1,10 @@
+use Rattle.std.proofs.Common.{rules, subst}
+use Rattle.c_begun.specs.View.{Gives, proto_of}
+use Rattle.c_lexeme.specs.Lexemes.{lexeme_of}
+use Rattle.c_tree.specs.Named.{map_row, named_param}
+use Rattle.c_grammar.specs.Machine.{param_begins, specifier_of}
+use Rattle.c_declaration.proofs.Begins.{param_opens}
+use Rattle.c_declaration.proofs.parameter.begin_params.Goals as goal
+
+pub returns-in_default : goal.returns-in_default
+returns-in_default c f = subst (λ moved. Gives f c.begin_param.result moved 0) (param_opens _ _ _ (search rules)) (subst (λ row. Gives f c.begin_param.result (param_begins (specifier_of (lexeme_of f c.args.lexeme)) c.args.here (proto_of f c.args.proto) (map_row (named_param f) row)) 0) c.no_params-in_default.ensures (c.begin_param.ensures f))

@@ -1,0 +1,13 @@
+use c_tree::expression::NameId;
+use c_tree::token::{Constant, TokenKind};
+use wcc_base::Text;
+
+/// What a token says, a name by its number.
+#[derive(Drop)]
+pub enum Lexeme {
+    Plain(TokenKind),
+    Name(NameId),
+    Integer(Constant),
+    Character(u8),
+    Pragma(TokenKind, Text),
+}

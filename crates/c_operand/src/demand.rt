@@ -1,0 +1,35 @@
+ghost use Rattle.std.specs.Prelude.{◌≡◌};
+ghost use Rattle.c_grammar.specs.Begun.{demand, limit};
+ghost use Rattle.c_begun.specs.View.{Names, purpose_of, stack_of};
+
+use super::role::operator_level;
+use c_begun::begun::{Purpose, Stack};
+
+/// The level that a whole expression may have.
+fn limit_of(purpose: &Purpose) -> u8
+    ensures { (f : Names) → result ≡ limit (purpose_of f purpose.now) }
+{
+    match purpose {
+        Purpose::Sizes(_) => 13,
+        Purpose::Labels(_, _, _) => 13,
+        Purpose::Initialises(_, _, _, _) => 14,
+        Purpose::Lists(_, _, _, _, _) => 14,
+        _ => 15,
+    }
+}
+
+/// The level that an operand may have.
+pub fn demand_of(under: &Stack) -> u8
+    ensures { (f : Names) → result ≡ demand (stack_of f under.now) }
+{
+    match under {
+        Stack::Base(purpose) => limit_of(purpose),
+        Stack::AfterPrefix(_, _, _) => 2,
+        Stack::AfterCast(_, _, _) => 2,
+        Stack::AfterJoin(operator, _, _) => operator_level(*operator) - 1,
+        Stack::AfterColon(_, _, _) => 13,
+        Stack::AfterAssign(_, _, _) => 14,
+        Stack::InCall(_, _, _, _) => 14,
+        _ => 15,
+    }
+}

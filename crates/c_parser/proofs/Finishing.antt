@@ -1,0 +1,92 @@
+-- From where all tokens lead to what the parser answers.
+use Rattle.std.specs.Prelude.{Vec, IfErr, IfOk}
+use Rattle.std.specs.Global.{Global}
+use Rattle.std.proofs.Common.{Result, Ok, Err, ◌≡◌, ℕ, ◌+◌, ◌<◌, ◌≤◌, ◌^◌, List, [], length, refl, sym, ◌∙◌, ap, subst, arith}
+use Rattle.c_tree.specs.declared.external.External as externals
+use Rattle.c_tree.specs.Formed.{EachOf, IsFirstPlace, IsFormedExternal, external_place}
+use Rattle.c_tree.specs.Named.{map_row, named_external}
+use Rattle.c_tree.specs.Size.{size_external, size_row}
+use Rattle.std.proofs.lemmas.List.{length-map}
+use Rattle.c_tree.specs.declared.token.Token.{Token}
+use Rattle.c_tree.specs.Said.{TokenList, said}
+use Rattle.c_tree.specs.Spelling.{Spoken, Agree, spell_externals, spoken}
+use Rattle.c_tree.specs.declared.unit.Unit as units
+use Rattle.wcc_base.specs.declared.text.Text as texts
+use Rattle.c_tree.specs.Named.{name_of}
+use Rattle.c_tree.specs.Tree.{Row, Nothing, Then, External, Whole}
+use Rattle.c_tree.specs.View.{external_of, row_of}
+use Rattle.c_begun.proofs.NamedSizes.{size_externals_named}
+use Rattle.c_begun.specs.View.{Names}
+use Rattle.c_grammar.specs.Begun.{Bytes, State, File}
+use Rattle.c_grammar.specs.Depth.{deep}
+use Rattle.c_grammar.proofs.Nodes.{nodes_unit}
+use Rattle.c_grammar.proofs.SoundSteps.{read_sound}
+use Rattle.c_grammar.specs.Law.{run}
+use Rattle.c_grammar.specs.Machine.{Goes}
+use Rattle.c_parser.proofs.NamedForms.{externals_formed}
+use Rattle.c_parser.proofs.Refusals.{take_all}
+use Rattle.c_parser.specs.declared.fault.ParseFault.{ParseFault}
+use Rattle.c_parser.specs.declared.fault.ParseFault.TheVariants.{Syntax}
+use Rattle.c_parser.specs.Refused.{IsParsed, Stops}
+
+-- the items with their names
+abbrev named_row : Names → Row (External ℕ) → Row (External Bytes)
+named_row f row = map_row (named_external f) row
+
+pub formed_of : (f : Names) (row : Row (External ℕ)) (tokens : List Spoken) → run tokens ≡ Goes (File (named_row f row)) → EachOf IsFormedExternal row
+formed_of f row tokens h = externals_formed f row (read_sound (named_row f row) tokens h).0
+
+spelled_of : (f : Names) (row : Row (External ℕ)) (tokens : List Spoken) → run tokens ≡ Goes (File (named_row f row)) → Agree (spell_externals (named_row f row)) tokens
+spelled_of f row tokens h = (read_sound (named_row f row) tokens h).1
+
+some_place : (front : Row (External Bytes)) (last : External Bytes) → (at : ℕ) × IsFirstPlace at (Then front last)
+some_place Nothing last = (external_place last, refl)
+some_place (Then front middle) last = some_place front middle
+
+few : (row : Row (External Bytes)) (tokens : List Spoken) → run tokens ≡ Goes (File row) → (size_row size_external row).nodes ≤ length tokens
+few Nothing tokens h = omega arith
+few (Then front last) tokens h =
+    let at = some_place front last in
+    let read = read_sound (Then front last) tokens h in
+    let n = nodes_unit (Whole (Then front last) at.0) tokens (at.1, read.0) read.1 in
+    omega (arith, n)
+
+pub small_of : (f : Names) (row : Row (External ℕ)) (tokens : List Spoken) → run tokens ≡ Goes (File (named_row f row)) → length tokens ≤ 1048576 → (size_row size_external row).nodes + 1 < 2 ^ 32
+small_of f row tokens h k =
+    let n = few (named_row f row) tokens h in
+    let same = ap (λ s. s.nodes) (size_externals_named f row) in
+    omega (arith, n, same, k)
+
+pub shallow_of : (f : Names) (row : Row (External ℕ)) → deep (File (named_row f row)) ≤ 256 → (size_row size_external row).depth + 1 ≤ 256
+shallow_of f row h = let same = ap (λ s. s.depth) (size_externals_named f row) in omega (arith, h, same)
+
+-- all tokens lead to a state that no unit ends with
+pub at_end : (tokens : List Spoken) (count : ℕ) (state : State) → count ≡ length tokens → run tokens ≡ Goes state → ((items : Row (External Bytes)) → state ≡ File items → items ≡ Nothing) → Stops (Syntax count) tokens
+at_end tokens count state e h k = (
+  omega (arith, e),
+  state,
+  ap run (take_all tokens count (omega (arith, e)) (omega (arith, e))) ∙ h,
+  λ within. absurd (omega (arith, e, within)),
+  λ all items same. k items same,
+)
+
+same_items : (a b : Row (External Bytes)) → ◌≡◌ {A = State} (File a) (File b) → a ≡ b
+same_items a b e = cc
+
+pub empty_of : (f : Names) (xs : List externals.External) (tokens : List Spoken) (count : ℕ) → count ≡ length tokens → run tokens ≡ Goes (File (named_row f (row_of external_of Nothing xs))) → xs ≡ [] → Stops (Syntax count) tokens
+empty_of f xs tokens count e h k = at_end tokens count (File (named_row f (row_of external_of Nothing xs))) e h (λ items same. sym (same_items (named_row f (row_of external_of Nothing xs)) items same) ∙ ap (λ xs. named_row f (row_of external_of Nothing xs)) k)
+
+-- what is known of each fault holds of the one that was told
+pub each_fault : {A : Type 0} (r : Result A ParseFault) (P Q : ParseFault → Type 0) → ((x : ParseFault) → P x → Q x) → IfErr r P → IfErr r Q
+each_fault (Ok a) P Q k h = tt
+each_fault (Err x) P Q k h = k x h
+
+pub parsed_of : (r : Result units.Unit ParseFault) (items : Vec externals.External Global) (names : Vec texts.Text Global) (tokens : TokenList) → run (spoken tokens) ≡ Goes (File (named_row (name_of names.items) (row_of external_of Nothing items.items))) → IfOk r (λ unit. unit.items ≡ items) → IfOk r (λ unit. unit.names ≡ names) → IfOk r (λ unit. IsParsed unit.items.items unit.names.items unit.at tokens)
+parsed_of (Err x) items names tokens h i n = tt
+parsed_of (Ok unit) items names tokens h i n =
+    let spelled = spelled_of (name_of names.items) (row_of external_of Nothing items.items) (spoken tokens) h in
+    subst (λ v. IsParsed v.items unit.names.items unit.at tokens) (sym i) (subst (λ v. IsParsed items.items v.items unit.at tokens) (sym n) spelled)
+
+-- as many words as tokens
+pub count_of : (tokens : TokenList) (xs : List Token) → xs ≡ tokens.list → length xs ≡ length (spoken tokens)
+count_of tokens xs e = ap length e ∙ sym (length-map tokens.list (λ token. record { said = said tokens.source token; at = token.at }))
