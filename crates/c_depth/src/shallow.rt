@@ -52,7 +52,7 @@ fn state_fits(state: &State) -> bool
     }
 }
 
-/// Whether each unit that has begun so may be at most 256 nodes deep.
+/// Whether what has begun is at most 256 nodes deep, whatever follows.
 #[tactic(auto, using(crate::proofs::SameDepths::state_same))]
 pub fn is_shallow(state: &State) -> bool
     ensures { (f : Names) → IsTrue result ↔ (deep (state_of f state.now) ≤ 256) }
