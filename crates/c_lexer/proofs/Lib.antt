@@ -4,7 +4,6 @@ pub mod Quotes
 pub mod FirstBytes
 pub mod Operators
 pub mod Longest
-pub mod Numbers
 pub mod Cuts
 pub mod PragmaLemmas
 pub mod Tokens

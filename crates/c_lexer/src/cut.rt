@@ -8,13 +8,13 @@ ghost use Rattle.c_lexer.specs.Kinds.{IsKind, IsLineKind, IsMarker, IsPragmaWord
 ghost use Rattle.c_lexer.specs.Cut.{IsFresh, StandsAt};
 
 use crate::bytes::{is_blank, is_digit, is_letter, is_name_byte};
-use crate::constants::{is_character, is_integer};
 use crate::pieces::{Form, Kind, Piece};
 use crate::pragmas::{pragma_kind, without_return};
 use crate::scan::{blanks_end, line_end, number_end, quoted_end, word_end};
 use crate::spacing::{comment_end, gap_end};
 use crate::texts::{first_size, has, is_on_line, is_one, is_span, stands};
 use crate::words::{PREFIXES, PUNCTUATORS, sign_kind, word_kind};
+use c_constant::{is_character, is_integer};
 use c_tree::token::TokenKind;
 
 /// Whether a line begins behind blanks.

@@ -20,7 +20,6 @@ ghost use Rattle.c_lexer.specs.Cut.{with_token, HasTokens, StopsAt};
 ghost use Rattle.c_tree.specs.Said.{IsToken};
 
 mod bytes;
-mod constants;
 mod cut;
 pub mod pieces;
 mod pragmas;

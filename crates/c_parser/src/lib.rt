@@ -3,7 +3,8 @@
 //! It is the machine of `c_grammar`, one step a token, with the depth of each part beside it. Proved: the
 //! answer is a well-formed tree whose spelling is the tokens, and there is no other. A list of tokens is
 //! refused only where it is no spelling, at the least token that makes it so, or where what it has begun
-//! is more than 256 nodes deep. Each token is looked at once.
+//! is more than 256 nodes deep. The tokens are gone over twice: one pass numbers their names, the other
+//! takes the steps.
 //!
 //! This crate knows nothing of how a source is cut into tokens, nor of types.
 #![tactic(auto)]

@@ -12,7 +12,6 @@
 //! This crate knows nothing of how a source is cut into tokens, nor of grammar.
 #![tactic(auto)]
 
-mod constant;
 mod numbering;
 mod pragma;
 #[cfg(test)]

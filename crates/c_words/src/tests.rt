@@ -1,11 +1,10 @@
 // Sources and what C says of their tokens.
 ghost use Rattle.std.specs.Prelude.{◌≡◌};
 
-use super::constant::{character, integer};
 use super::pragma::text;
 use super::read_words;
 use c_lexeme::Lexeme;
-use c_tree::token::{Constant, ConstantType, Token, TokenKind};
+use c_tree::token::{Token, TokenKind};
 use c_tree::tokens::Tokens;
 use std::test::Fail;
 
@@ -35,30 +34,6 @@ fn texts_of_pragmas(rt: HostRuntime) {
             );
         }
     }
-}
-
-fn constant(value: u32, scalar: ConstantType) -> Constant {
-    Constant { value, scalar }
-}
-
-#[test]
-fn integers(rt: HostRuntime) {
-    let most = constant(2_147_483_647, ConstantType::Unsigned);
-    assert_eq!(rt; integer(b"0x7fffffffu", 0, 11), most);
-    let past = constant(2_147_483_648, ConstantType::Unsigned);
-    assert_eq!(rt; integer(b"0X80000000", 0, 10), past);
-    assert_eq!(rt; integer(b"017", 0, 3), constant(15, ConstantType::Int));
-    assert_eq!(rt; integer(b"42L", 0, 3), constant(42, ConstantType::Long));
-    assert_eq!(rt; integer(b"7lU", 0, 3), constant(7, ConstantType::Unsigned));
-}
-
-#[test]
-fn characters(rt: HostRuntime) {
-    assert_eq!(rt; character(b"'A'", 0, 2), 65);
-    assert_eq!(rt; character(b"'\\n'", 0, 3), 10);
-    assert_eq!(rt; character(b"'\\''", 0, 3), 39);
-    assert_eq!(rt; character(b"'\\377'", 0, 5), 255);
-    assert_eq!(rt; character(b"'\\x041'", 0, 6), 65);
 }
 
 /// A token of the source.

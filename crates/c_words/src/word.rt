@@ -9,9 +9,9 @@ ghost use Rattle.c_lexeme.specs.Lexemes.{lexeme_of};
 ghost use Rattle.c_words.specs.Numbering.{Adds};
 ghost use Rattle.c_words.specs.Words.{word_said, AreSaid, IsNumber, Tell};
 
-use crate::constant::{character, integer};
 use crate::numbering::Numbering;
 use crate::pragma::text;
+use c_constant::{character, integer};
 use c_lexeme::Lexeme;
 use c_tree::token::{Token, TokenKind};
 use c_tree::tokens::Tokens;
