@@ -1,10 +1,11 @@
 #!/usr/bin/env python3
 """The machine of docs/MACHINE.md and the images of docs/FORMATS.md, written from these pages alone.
 
-    machine.py IMAGE INPUT OUTPUT [LIMIT]
+    machine.py IMAGE INPUT OUTPUT [LIMIT [STALL]]
 
 It does what `wcc run IMAGE INPUT OUTPUT` must do: it reads both files, runs the image at the default costs, writes what
-the image put to OUTPUT, prints the line and ends with the status. It takes seconds for a million steps.
+the image put to OUTPUT, prints the line and ends with the status. It takes seconds for a million steps. STALL is the
+cost of that name, 0 where it isn't given.
 """
 import os
 import struct
@@ -159,16 +160,30 @@ def decode(word):
     return ("alu", operation, rd, rs1, rs2) if opcode == 0x33 and operation else None
 
 
+def reads(parts):
+    """The registers that an instruction reads."""
+    match parts:
+        case ("immediate", _, _, rs1, _) | ("jump", _, rs1, _) | ("load", _, rs1, _, _, _):
+            return {rs1}
+        case ("branch", _, rs1, rs2, _) | ("store", rs2, rs1, _, _) | ("alu" | "mul" | "div", _, _, rs1, rs2):
+            return {rs1, rs2}
+        case ("ecall",):
+            return {10, 17}
+    return set()
+
+
 # The machine
 
 
 class Machine:
     """Each step tests for its trap first, pays then, and changes the state last."""
 
-    def __init__(self, entry, segments, data, limit):
+    def __init__(self, entry, segments, data, limit, stall=0):
         self.pc, self.x, self.segments = entry, [0] * 32, segments
         self.data, self.taken, self.output = data, 0, bytearray()
-        self.cycles, self.limit = 0, limit
+        self.cycles, self.limit, self.stall = 0, limit, stall
+        self.loaded = 0  # the register that the step before loaded, or 0
+        self.waits = False  # whether the instruction of this step reads it
 
     def stop(self, word):
         raise Answer(f"{word} at {self.pc:08x} cycles {self.cycles}", STOPPED)
@@ -181,7 +196,7 @@ class Machine:
         return next((it for it in self.segments if it.rights & right and it.holds(address, size)), None)
 
     def pay(self, kind, region=None):
-        cost = FETCH[region_of(self.pc)] + CLASS[kind] + (ACCESS[region] if region else 0)
+        cost = FETCH[region_of(self.pc)] + CLASS[kind] + (ACCESS[region] if region else 0) + self.stall * self.waits
         if self.cycles + cost > self.limit:
             self.stop("limit")
         self.cycles += cost
@@ -224,6 +239,7 @@ class Machine:
         at = self.pc - code.start
         parts = decode(int.from_bytes(code.memory[at:at + 4], "little"))
         following = self.pc + 4
+        self.waits = self.loaded != 0 and self.loaded in reads(parts)
         match parts:
             case None:
                 self.trap(2)
@@ -255,6 +271,7 @@ class Machine:
             case ("ecall",):
                 self.ecall()
         self.pc = following & MASK
+        self.loaded = parts[1] if parts[0] == "load" else 0
 
 
 # The command
@@ -288,11 +305,11 @@ def ending_of(machine):
         return ending
 
 
-def run(image, given, output, limit=LIMIT):
+def run(image, given, output, limit=LIMIT, stall=0):
     if len({image, given, output}) < 3:
         raise Answer("usage", USAGE)
     image_data, input_data = read_file(image, "image"), read_file(given, "input")
-    machine = Machine(*read_image(image_data), input_data, int(limit))
+    machine = Machine(*read_image(image_data), input_data, int(limit), int(stall))
     ending = ending_of(machine)
     write_file(output, machine.output)
     raise ending
@@ -309,7 +326,7 @@ def tell(answer):
 
 def main(words):
     try:
-        if len(words) not in (3, 4):
+        if len(words) not in (3, 4, 5):
             raise Answer("usage", USAGE)
         run(*words)
     except Answer as answer:

@@ -1,21 +1,21 @@
 -- Code never changes: no block is both written and executed.
-use Rattle.std.proofs.Common.{◌≡◌, ℕ, zero, suc, ◌-◌, ◌%◌, Option, Some, None, refl, sym, ap, ◌∙◌, subst, List, [], ◌∷◌, Bool, true, false}
+use Rattle.std.proofs.Common.{◌≡◌, ℕ, suc, ◌-◌, ◌%◌, Option, Some, None, refl, sym, ap, ◌∙◌, subst, List, [], ◌∷◌, Bool, true, false}
 use Rattle.std.specs.Prelude.{◌==◌, ◌&&◌, if◌then◌else◌}
 use Rattle.std.specs.Option.{option_map}
 use Rattle.std.proofs.lemmas.Bool.{and_parts}
 use Rattle.rv_core.specs.declared.image.Segment.{Segment}
 use Rattle.rv_core.specs.declared.row.Width.{Width}
 use Rattle.rv_core.specs.declared.row.Width.TheVariants.{Word}
-use Rattle.rv_core.specs.declared.row.Effect.{Effect}
-use Rattle.rv_core.specs.declared.row.Effect.TheVariants.{SetUpper, AddUpper, Link, LinkRegister, BranchIf, Read, Write, WithImmediate, WithRegister, CallEnvironment}
-use Rattle.rv_core.specs.Rows.{row_of}
 use Rattle.rv_core.specs.Instructions.{Instruction}
-use Rattle.rv_core.specs.Words.{decode_of}
-use Rattle.rv_core.specs.Arithmetic.{holds, byte_count}
+use Rattle.rv_core.specs.Arithmetic.{byte_count}
 use Rattle.rv_core.specs.Images.{AreSegments, AreLoadable}
-use Rattle.rv_core.specs.Table.{Table}
 use Rattle.rv_core.specs.Memory.{Block, loaded, holds_span, number_at, with_number, read_from, written_to}
-use Rattle.rv_core.specs.Machine.{Ending, Running, Exited, Trapped, State, register_of, fetched, performed_by, branches, reads, writes, calls, address_of, step_ending, step_word, step_instr, step, steps}
+use Rattle.rv_core.specs.Machine.{Running, fetched, performed, done, step}
+use Rattle.rv_core.specs.Code.{decoded, word_in, instruction_in}
+use Rattle.rv_core.specs.Runs.{Setup, mrun}
+use Rattle.rv_core.proofs.Running.{mrun-next}
+use Rattle.rv_core.proofs.Stepping.{step-performed}
+use Rattle.rv_core.proofs.Keeping.{StoresKeep, mrun-keep}
 
 -- no block may be both written and executed
 abbrev pub NoneBoth : List Block → Type 0
@@ -64,76 +64,13 @@ pub written-code : (w : Width) (bs : List Block) (at v : ℕ) (after : List Bloc
 written-code w [] at v after n h = cc
 written-code w (b ∷ bs) at v after n h = written-by (b.write && holds_span b at (byte_count w)) w b bs at v after n refl (λ rest found. written-code w bs at v rest n.1 found) h
 
--- the memory behind an instruction has the same code
-abbrev Kept : State → State → Type 0
-Kept s after = SameCode s.memory after.memory
-
-calls-code : (t : Table) (i : Instruction) (n : ℕ) (s : State) → NoneBoth s.memory → Kept s (calls t i n s)
-calls-code t i zero s n = SameCode-same s.memory n
-calls-code t i (suc zero) s n = SameCode-same s.memory n
-calls-code t i (suc (suc zero)) s n = SameCode-same s.memory n
-calls-code t i (suc (suc (suc k))) s n = SameCode-same s.memory n
-
-branches-code : (t : Table) (i : Instruction) (taken : Bool) (s : State) → NoneBoth s.memory → Kept s (branches t i taken s)
-branches-code t i true s n = SameCode-same s.memory n
-branches-code t i false s n = SameCode-same s.memory n
-
-reads-code : (t : Table) (i : Instruction) (kind : Width × Bool) (at : ℕ) (o : Option ℕ) (s : State) → NoneBoth s.memory → Kept s (reads t i kind at o s)
-reads-code t i kind at None s n = SameCode-same s.memory n
-reads-code t i kind at (Some v) s n = SameCode-same s.memory n
-
-writes-code : (t : Table) (i : Instruction) (at : ℕ) (o : Option (List Block)) (s : State) → NoneBoth s.memory → ((after : List Block) → o ≡ Some after → SameCode s.memory after) → Kept s (writes t i at o s)
-writes-code t i at None s n found = SameCode-same s.memory n
-writes-code t i at (Some after) s n found = found after refl
-
-choice-code : (b : Bool) (s x y : State) → Kept s x → Kept s y → Kept s (if b then x else y)
-choice-code true s x y p q = p
-choice-code false s x y p q = q
-
-performed-code : (t : Table) (e : Effect) (i : Instruction) (s : State) → NoneBoth s.memory → Kept s (performed_by t e i s)
-performed-code t SetUpper i s n = SameCode-same s.memory n
-performed-code t AddUpper i s n = SameCode-same s.memory n
-performed-code t Link i s n = SameCode-same s.memory n
-performed-code t LinkRegister i s n = SameCode-same s.memory n
-performed-code t (BranchIf c) i s n = branches-code t i (holds c (register_of s.registers i.rs1) (register_of s.registers i.rs2)) s n
-performed-code t (Read w signed) i s n =
-    let at = address_of i s in
-    choice-code (at % byte_count w == 0) s (reads t i (w, signed) at (read_from (λ b. b.read) w s.memory at) s) _ (reads-code t i (w, signed) at (read_from (λ b. b.read) w s.memory at) s n) (SameCode-same s.memory n)
-performed-code t (Write w) i s n =
-    let at = address_of i s in
-    let v = register_of s.registers i.rs2 in
-    choice-code (at % byte_count w == 0) s (writes t i at (written_to w s.memory at v) s) _ (writes-code t i at (written_to w s.memory at v) s n (λ after found. written-code w s.memory at v after n found)) (SameCode-same s.memory n)
-performed-code t (WithImmediate f) i s n = SameCode-same s.memory n
-performed-code t (WithRegister f) i s n = SameCode-same s.memory n
-performed-code t CallEnvironment i s n = calls-code t i (register_of s.registers 17) s n
-
-step_instr-code : (t : Table) (o : Option Instruction) (s : State) → NoneBoth s.memory → Kept s (step_instr t o s)
-step_instr-code t None s n = SameCode-same s.memory n
-step_instr-code t (Some i) s n = performed-code t (row_of i.op).effect i s n
-
-step_word-code : (t : Table) (o : Option ℕ) (s : State) → NoneBoth s.memory → Kept s (step_word t o s)
-step_word-code t None s n = SameCode-same s.memory n
-step_word-code t (Some w) s n = step_instr-code t (decode_of w) s n
-
-step_ending-code : (t : Table) (e : Ending) (s : State) → NoneBoth s.memory → Kept s (step_ending t e s)
-step_ending-code t Running s n = step_word-code t (fetched s.memory s.pc) s n
-step_ending-code t (Exited v) s n = SameCode-same s.memory n
-step_ending-code t (Trapped k) s n = SameCode-same s.memory n
-
--- a step changes no code
-pub step-code : (t : Table) (s : State) → NoneBoth s.memory → SameCode s.memory (step t s).memory
-unfolding step
-step-code t s n = step_ending-code t s.ending s n
-
-SameCode-then : (a b c : List Block) → SameCode a b → SameCode b c → SameCode a c
+-- two stores one after another
+pub SameCode-then : (a b c : List Block) → SameCode a b → SameCode b c → SameCode a c
 SameCode-then a b c p q = record { reads = λ at. q.reads at ∙ p.reads at; none_both = q.none_both }
 
--- n steps change no code
-pub steps-code : (t : Table) (n : ℕ) (s : State) → NoneBoth s.memory → SameCode s.memory (steps t n s).memory
-steps-code t zero s none = SameCode-same s.memory none
-steps-code t (suc n) s none =
-    let first = step-code t s none in
-    SameCode-then s.memory (step t s).memory (steps t n (step t s)).memory first (steps-code t n (step t s) first.none_both)
+-- what a store keeps
+pub code-kept : (start : List Block) → StoresKeep (SameCode start)
+code-kept start w before at v after is s = SameCode-then start before after s (written-code w before at v after s.none_both is)
 
 -- memories with the same code give the same words
 pub fetched-same : (before after : List Block) (pc : ℕ) → SameCode before after → fetched after pc ≡ fetched before pc
@@ -147,3 +84,19 @@ segments-apart (s ∷ ss) h = (λ w x. h.0.not_both w x, segments-apart ss h.1)
 -- what is loaded of an image
 pub loaded-apart : (ss : List Segment) → AreLoadable ss → NoneBoth (loaded ss)
 loaded-apart ss h = segments-apart ss h.each
+
+-- in each state of a run what is fetched is what stands in the image
+pub mrun-fetched : (s : Setup) (n at : ℕ) → AreLoadable s.image.segments → fetched (mrun s n).state.world.memory at ≡ word_in s.image at
+mrun-fetched s n at h =
+    let start = loaded s.image.segments in
+    fetched-same start (mrun s n).state.world.memory at
+    (mrun-keep (SameCode start) (code-kept start) s n (SameCode-same start (loaded-apart s.image.segments h)))
+
+-- a running machine performs the image's instruction at its pc
+performed-at : (s : Setup) (n : ℕ) (w : Option ℕ) (i : Instruction) → fetched (mrun s n).state.world.memory (mrun s n).state.pc ≡ w → decoded w ≡ Some i → (mrun s n).state.ending ≡ Running
+    → step s.costs (mrun s n).state ≡ done s.costs i (mrun s n).state (performed i (mrun s n).state)
+performed-at s n None i here is running = absurd cc
+performed-at s n (Some w) i here is running = step-performed s.costs (mrun s n).state w i running here is
+
+pub mrun-performs : (s : Setup) (n : ℕ) (i : Instruction) → AreLoadable s.image.segments → (mrun s n).state.ending ≡ Running → instruction_in s.image (mrun s n).state.pc ≡ Some i → (mrun s (suc n)).state ≡ done s.costs i (mrun s n).state (performed i (mrun s n).state)
+mrun-performs s n i h running is = mrun-next s n ∙ performed-at s n (word_in s.image (mrun s n).state.pc) i (mrun-fetched s n (mrun s n).state.pc h) is running

@@ -4,4 +4,9 @@ pub mod Running
 mod Products
 pub mod Encoding
 pub mod Reencoding
+pub mod Keeping
 pub mod Constancy
+pub mod Finishing
+pub mod Numbers
+pub mod Storing
+pub mod Framing

@@ -8,8 +8,8 @@ use Rattle.rv_core.specs.Instructions.{Instruction}
 use Rattle.rv_core.specs.Table.{Table}
 use Rattle.rv_core.specs.Regions.{region_of}
 use Rattle.rv_core.specs.Memory.{loaded}
-use Rattle.rv_core.specs.Machine.{Ending, Running, Exited, Trapped, State, step, step_ending, steps}
-use Rattle.rv_core.specs.Runs.{Run, noted, advance, advance_ending, advance_instr, advances, instruction_at}
+use Rattle.rv_core.specs.Machine.{Ending, Running, Exited, Trapped, State, start_of, step, step_ending, steps}
+use Rattle.rv_core.specs.Runs.{Run, Setup, recorded, noted, advance, advance_from, advances, run_start, mrun}
 use Rattle.rv_core.proofs.Stepping.{code_memory}
 
 -- a machine that has ended stays as it is
@@ -17,24 +17,24 @@ pub step-ended : (t : Table) (s : State) (e : Ending) → s.ending ≡ e → ste
 unfolding step
 step-ended t s e is stays = ap (λ x. step_ending t x s) is ∙ stays
 
-noted-state : (e : Ending) (after : State) (i : Instruction) (r : Run) → (noted e after i r).state ≡ after
-noted-state Running after i r = refl
-noted-state (Exited v) after i r = refl
-noted-state (Trapped k) after i r = refl
+recorded-state : (o : Option Instruction) (after : State) (r : Run) → (recorded o after r).state ≡ after
+recorded-state None after r = refl
+recorded-state (Some i) after r = refl
 
-advance_instr-state : (o : Option Instruction) (after : State) (r : Run) → (advance_instr o after r).state ≡ after
-advance_instr-state None after r = refl
-advance_instr-state (Some i) after r = noted-state after.ending after i r
+noted-state : (e : Ending) (after : State) (r : Run) → (noted e after r).state ≡ after
+noted-state Running after r = recorded-state after.last after r
+noted-state (Exited v) after r = recorded-state after.last after r
+noted-state (Trapped k) after r = refl
 
-advance_ending-state : (t : Table) (e : Ending) (r : Run) → r.state.ending ≡ e → (advance_ending t e r).state ≡ step t r.state
-advance_ending-state t Running r is = advance_instr-state (instruction_at r.state.memory r.state.pc) (step t r.state) r
-advance_ending-state t (Exited v) r is = sym (step-ended t r.state (Exited v) is refl)
-advance_ending-state t (Trapped k) r is = sym (step-ended t r.state (Trapped k) is refl)
+advance_from-state : (t : Table) (e : Ending) (r : Run) → r.state.ending ≡ e → (advance_from t e r).state ≡ step t r.state
+advance_from-state t Running r is = noted-state (step t r.state).ending (step t r.state) r
+advance_from-state t (Exited v) r is = sym (step-ended t r.state (Exited v) is refl)
+advance_from-state t (Trapped k) r is = sym (step-ended t r.state (Trapped k) is refl)
 
 -- one step further, the run's state is the machine's next one
 pub advance-state : (t : Table) (r : Run) → (advance t r).state ≡ step t r.state
 unfolding advance
-advance-state t r = advance_ending-state t r.state.ending r refl
+advance-state t r = advance_from-state t r.state.ending r refl
 
 -- the same for n steps
 pub advances-state : (t : Table) (n : ℕ) (r : Run) → (advances t n r).state ≡ steps t n r.state
@@ -49,6 +49,19 @@ steps-add t (suc m) n s = let e : suc m + n ≡ suc (m + n) = omega arith in ap 
 pub advances-add : (t : Table) (m n : ℕ) (r : Run) → advances t (m + n) r ≡ advances t n (advances t m r)
 advances-add t zero n r = let e : zero + n ≡ n = omega arith in ap (λ k. advances t k r) e
 advances-add t (suc m) n r = let e : suc m + n ≡ suc (m + n) = omega arith in ap (λ k. advances t k r) e ∙ advances-add t m n (advance t r)
+
+-- the states of an image's run
+pub mrun-state : (s : Setup) (n : ℕ) → (mrun s n).state ≡ steps s.costs n (start_of s.image s.input)
+mrun-state s n = advances-state s.costs n (run_start s.image s.input)
+
+pub mrun-next : (s : Setup) (n : ℕ) → (mrun s (suc n)).state ≡ step s.costs (mrun s n).state
+mrun-next s n =
+    let e : suc n ≡ n + 1 = omega arith in
+    let start = start_of s.image s.input in
+    mrun-state s (suc n)
+    ∙ ap (λ k. steps s.costs k start) e
+    ∙ steps-add s.costs n 1 start
+    ∙ ap (step s.costs) (sym (mrun-state s n))
 
 -- the low addresses are those of flash
 pub region_of-flash : (at : ℕ) → at < 0x80_0000 → region_of at ≡ Some Flash

@@ -8,5 +8,8 @@ pub mod Bytes
 pub mod Arithmetic
 pub mod Images
 pub mod Memory
+pub mod Stores
 pub mod Machine
+pub mod Code
 pub mod Runs
+pub mod Exits

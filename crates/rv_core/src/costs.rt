@@ -3,8 +3,9 @@ ghost use Rattle.std.specs.Prelude.{◌≡◌, ◌≤◌};
 ghost use Rattle.rv_core.specs.CostRange.{IsFetchCost};
 
 /// The costs of a machine in cycles: of a fetch by the region of the code, of an instruction by
-/// its class, and of a load or store by the region of the data. A fetch costs from 1 to 1000,
-/// and all else at most 1000.
+/// its class, and of a load or store by the region of the data; and how long an instruction waits
+/// for a register that the one before it loads. A fetch costs from 1 to 1000, and all else at most
+/// 1000.
 #[derive(Clone, Copy, Debug, PartialEq, Eq)]
 pub struct Costs {
     pub fetch_flash: u32,
@@ -21,6 +22,7 @@ pub struct Costs {
     pub data_flash: u32,
     pub data_ram: u32,
     pub data_spm: u32,
+    pub stall: u32,
     pub ghost flash: { IsFetchCost fetch_flash },
     pub ghost spm: { IsFetchCost fetch_spm },
     pub ghost alu_most: { alu ≤ 1000 },
@@ -35,4 +37,5 @@ pub struct Costs {
     pub ghost data_flash_most: { data_flash ≤ 1000 },
     pub ghost data_ram_most: { data_ram ≤ 1000 },
     pub ghost data_spm_most: { data_spm ≤ 1000 },
+    pub ghost stall_most: { stall ≤ 1000 },
 }

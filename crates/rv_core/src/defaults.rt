@@ -23,5 +23,6 @@ pub fn default_costs() -> Costs
         data_flash: 3,
         data_ram: 2,
         data_spm: 1,
+        stall: 0,
     }
 }

@@ -7,17 +7,20 @@
 //!
 //! Proved: `encode` gives the word of the format tables and `decode` finds the row that matches,
 //! `None` where there is none; each undoes the other for every instruction and every word.
-//! `region`, `cost` and `default_costs` are their tables, and the functions of words are those of
-//! the manual. An `Instr` keeps the field ranges of its row, a `Costs` those of its fields, and
-//! an `Image` that it can be loaded.
+//! `region`, `cost`, `wait` and `default_costs` are their tables, and the functions of words are
+//! those of the manual. An `Instr` keeps the field ranges of its row, a `Costs` those of its fields,
+//! and an `Image` that it can be loaded; `Image::instruction` is the instruction at an address.
 //!
 //! The machine itself is a definition here and no code: `specs/Memory.antt`, `Machine.antt` (one
-//! step) and `Runs.antt` (a run of n steps, with the moves taken). The crate knows nothing of
+//! step), `Runs.antt` (a run of n steps, with the moves taken) and `Exits.antt` (what a run comes
+//! to). Its laws are functions without a body, in `src/laws.rt`: a run has one ending, code and the
+//! places of blocks never change, and what is read behind a store. The crate knows nothing of
 //! files, of ELF, of a flow system or of a compiler.
 #![tactic(auto)]
 
 mod addresses;
 mod arithmetic;
+mod code;
 mod costs;
 mod defaults;
 mod fields;
@@ -41,9 +44,11 @@ pub use defaults::default_costs;
 pub use fields::Fields;
 pub use image::{Image, Segment};
 pub use instr::Instr;
-pub use laws::decode_of_encode;
+pub use laws::{
+    code_stays, decode_of_encode, frames_stay, number_behind_write, one_finish, read_behind_store,
+};
 pub use op::Op;
-pub use pricing::cost;
+pub use pricing::{cost, wait};
 pub use reading::decode;
 pub use regions::Region;
 pub use row::{Alu, Class, Condition, Effect, Format, Row, Width};

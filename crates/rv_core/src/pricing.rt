@@ -1,11 +1,11 @@
-// What an instruction costs.
+// What an instruction costs, and how long it waits.
 ghost use Rattle.std.specs.Prelude.{◌≡◌, ◌≢◌, ◌<◌, true, is_some};
 ghost use Rattle.rv_core.specs.declared.row.Class.{Class};
 ghost use Rattle.rv_core.specs.declared.regions.Region.{Region};
 ghost use Rattle.rv_core.specs.Rows.{row_of};
-ghost use Rattle.rv_core.specs.Table.{table_of, fetch_cost, class_cost, access_cost, accesses, cost_of};
+ghost use Rattle.rv_core.specs.Table.{table_of, fetch_cost, class_cost, access_cost, accesses, cost_of, uses, wait_of};
 
-use crate::row::Class;
+use crate::row::{Class, Format};
 use crate::{Costs, Instr, Region};
 
 /// What a fetch from the region costs.
@@ -61,4 +61,28 @@ pub fn cost(costs: &Costs, instr: &Instr, fetch: Region, access: Option<Region>,
 {
     let class = class_cost(costs, instr.op().row().class, taken);
     fetch_cost(costs, fetch) + class + access_cost(costs, access)
+}
+
+/// Whether an instruction reads a register.
+fn uses(instr: &Instr, register: u8) -> bool
+    ensures { result ≡ uses instr.now register }
+{
+    match instr.op().row().format {
+        Format::R | Format::S | Format::B => instr.rs1() == register || instr.rs2() == register,
+        Format::I | Format::Shift => instr.rs1() == register,
+        Format::U | Format::J => false,
+        Format::Fixed => register == 10 || register == 17,
+    }
+}
+
+/// The cycles that an instruction waits for the one before it: the stall where that one loads a
+/// register, other than x0, that this one reads.
+pub fn wait(costs: &Costs, before: &Instr, instr: &Instr) -> u32
+    ensures value { result ≡ wait_of (table_of costs.now) before.now instr.now }
+    ensures small { result < 1001 }
+{
+    match before.op().row().class {
+        Class::Load if before.rd() != 0 && uses(instr, before.rd()) => costs.stall,
+        _ => 0,
+    }
 }

@@ -1,6 +1,6 @@
 pub mod Placing
 pub mod Finding
-pub mod Stopping
+mod Stopping
 pub mod Reaching
 mod Growing
 mod Finishing

@@ -1,12 +1,10 @@
 -- A step within a limit of cycles, if there is one.
-use Rattle.std.specs.Prelude.{◌≡◌, ◌≢◌, ℕ, ◌+◌, ◌≤◌, ◌<◌, ◌^◌, nat_lt, Bool, true, false, Option, Some, None}
+use Rattle.std.specs.Prelude.{◌≡◌, ◌≢◌, ℕ, ◌+◌, ◌≤◌, ◌^◌, nat_lt, Bool, true, false, Option, Some, None}
 use Rattle.rv_core.specs.declared.regions.Region.{Region}
 use Rattle.rv_core.specs.declared.regions.Region.TheVariants.{Ram}
-use Rattle.rv_core.specs.declared.row.Effect.{Effect}
-use Rattle.rv_core.specs.declared.row.Effect.TheVariants.{Read, Write, BranchIf}
 use Rattle.rv_core.specs.Instructions.{Instruction}
 use Rattle.rv_sim.specs.declared.issue.Issue.{Issue}
-use Rattle.rv_core.specs.Machine.{State, Running, step_cost}
+use Rattle.rv_core.specs.Machine.{State, Running, access_of, is_taken, step_cycles, paid}
 use Rattle.rv_core.specs.Regions.{region_of}
 use Rattle.rv_sim.specs.declared.ending.Ending.{Ending}
 use Rattle.rv_sim.specs.declared.ending.Ending.TheVariants.{Exit, CycleLimit}
@@ -33,21 +31,6 @@ abbrev pub HasRoom : Option ℕ → ℕ → Type 0
 HasRoom None cycles = cycles ≤ 2 ^ 62
 HasRoom (Some limit) cycles = limit ≤ 2 ^ 62
 
--- whether an effect touches memory
-abbrev pub touches : Effect → Bool
-touches (Read w signed) = true
-touches (Write w) = true
-touches e = false
-
--- whether an effect is a conditional jump
-abbrev pub branches_by : Effect → Bool
-branches_by (BranchIf c) = true
-branches_by e = false
-
--- the cycles behind an instruction at the machine's pc
-abbrev pub cycles_after : Simulation → Instruction → Option Region → Bool → ℕ
-cycles_after m i access taken = m.state.cycles + step_cost m.costs i (region_of m.state.pc) access taken
-
 -- the machine is about to execute an instruction that it fetched at its pc
 pub record Issues (m : Simulation) (issue : Issue) : Type 0 where
   pub running : m.state.ending ≡ Running
@@ -55,7 +38,22 @@ pub record Issues (m : Simulation) (issue : Issue) : Type 0 where
   pub never_ram : issue.fetch ≢ Ram
   pub has_room : HasRoom issue.limit m.state.cycles
 
--- what the limit says of a number of cycles
-abbrev pub Charges : Option ℕ → ℕ → Option ℕ → Type 0
-Charges limit cycles None = passes limit cycles ≡ true
-Charges limit cycles (Some n) = (n ≡ cycles) × (passes limit cycles ≡ false) × (n < 2 ^ 63)
+-- the region of what is accessed, if anything is
+abbrev pub Located : Option ℕ → Option Region → Type 0
+Located None r = r ≡ None
+Located (Some at) None = ⊥
+Located (Some at) (Some r) = region_of at ≡ Some r
+
+-- what an instruction is paid by: the region that it accesses, and whether it is a branch that is taken
+pub record IsPrice (i : Instruction) (s : State) (access : Option Region) (taken : Bool) : Type 0 where
+  pub located : Located (access_of i s) access
+  pub taken_is : taken ≡ is_taken i s
+
+-- the cycles behind an instruction
+abbrev pub cycles_after : Simulation → Instruction → ℕ
+cycles_after m i = m.state.cycles + step_cycles m.costs i m.state
+
+-- an instruction is paid unless that would pass the limit
+abbrev pub Pays : Option ℕ → Instruction → Simulation → Simulation → Bool → Type 0
+Pays limit i old new true = (passes limit (cycles_after old i) ≡ false) × (new ≡ with_state old (paid old.costs i old.state))
+Pays limit i old new false = (passes limit (cycles_after old i) ≡ true) × (new ≡ old)

@@ -2,9 +2,10 @@
 use Rattle.std.specs.Prelude.{◌≡◌, ℕ, zero, suc, ◌≤◌, ◌<◌, ℤ, List, length, nat_le, Bool, true, false, Option, Some, None}
 use Rattle.rv_core.specs.Table.{Table}
 use Rattle.rv_core.specs.Images.{Image}
-use Rattle.rv_core.specs.Machine.{State, Running, Exited, Trapped, step, steps, start_of}
-use Rattle.rv_core.specs.Machine.{Ending as Finish}
-use Rattle.rv_core.specs.Runs.{mrun}
+use Rattle.rv_core.specs.Machine.{State, Running, Exited, Trapped, step, start_of}
+use Rattle.rv_core.specs.Machine.{Ending as HowEnded}
+use Rattle.rv_core.specs.Runs.{Setup, mrun}
+use Rattle.rv_core.specs.Exits.{Finish}
 use Rattle.rv_sim.specs.declared.ending.Ending.{Ending}
 use Rattle.rv_sim.specs.declared.ending.Ending.TheVariants.{Exit, Trap, CycleLimit, OutputFull}
 
@@ -25,8 +26,8 @@ fits true next = Goes next
 fits false next = Stays OutputFull
 
 -- what is answered where the machine would come to this state, by how that state has ended
-abbrev pub answer_by : Finish → State → ℕ → State → Answer
-answer_by Running next room s = fits (nat_le (length next.output) room) next
+abbrev pub answer_by : HowEnded → State → ℕ → State → Answer
+answer_by Running next room s = fits (nat_le (length next.world.output) room) next
 answer_by (Exited v) next room s = Exits next v
 answer_by (Trapped kind) next room s = Stays (Trap s.pc kind)
 
@@ -34,7 +35,7 @@ abbrev pub answer_to : State → Simulation → Answer
 answer_to next m = answer_by next.ending next m.room m.state
 
 -- a machine that has exited answers its exit again
-abbrev pub answer_from : Finish → Simulation → Answer
+abbrev pub answer_from : HowEnded → Simulation → Answer
 answer_from Running m = answer_to (step m.costs m.state) m
 answer_from (Exited v) m = Stays (Exit v)
 answer_from (Trapped kind) m = Stays (Trap m.state.pc kind)
@@ -71,28 +72,23 @@ pub record RunsWithin (limit : ℕ) (old new : Simulation) (result : Ending) : T
   pub reaches : Reaches limit steps old last
   pub ends : Ends limit (answer_of last) last new result
 
--- the machine is in the state of an image's run after n steps
-pub record IsAt (m : Simulation) (image : Image) (input : List ℕ) (n : ℕ) : Type 0 where
-  pub state_is : m.state ≡ (mrun image m.costs input n).state
+-- the machine is in the state of a run after n steps
+pub record IsAt (m : Simulation) (s : Setup) (n : ℕ) : Type 0 where
+  pub state_is : m.state ≡ (mrun s n).state
+  pub costs_are : m.costs ≡ s.costs
 
 -- an image before its first step
 abbrev pub started : Image → List ℕ → Table → ℕ → Simulation
 started image input t room = record { state = start_of image input; costs = t; room = room }
 
 -- behind a step with this answer the machine is in the run's next state, or where it was
-abbrev pub Follows : Answer → Simulation → Image → List ℕ → ℕ → Type 0
-Follows (Goes next) new image input n = IsAt new image input (suc n)
-Follows (Exits next v) new image input n = IsAt new image input (suc n)
-Follows (Stays ending) new image input n = IsAt new image input n
+abbrev pub Follows : Answer → Simulation → Setup → ℕ → Type 0
+Follows (Goes next) new s n = IsAt new s (suc n)
+Follows (Exits next v) new s n = IsAt new s (suc n)
+Follows (Stays ending) new s n = IsAt new s n
 
--- the machine has exited with this value, within a limit of cycles and with room for its output
-pub record FinishesWithin (s : State) (value : ℤ) (limit room : ℕ) : Type 0 where
-  pub exits : s.ending ≡ Exited value
-  pub cycles : s.cycles ≤ limit
-  pub output : length s.output ≤ room
-
--- so many steps lead from one machine to the other, which has exited with this value
-pub record ExitsAt (old new : Simulation) (value : ℤ) : Type 0 where
-  pub count : ℕ
-  pub state : new.state ≡ steps old.costs count old.state
-  pub exits : new.state.ending ≡ Exited value
+-- the machine has answered this exit
+pub record HasExited (m : Simulation) (result : Ending) (f : Finish) : Type 0 where
+  pub exits : result ≡ Exit f.value
+  pub output : m.state.world.output ≡ f.output
+  pub cycles : m.state.cycles ≡ f.cycles

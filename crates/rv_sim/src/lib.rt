@@ -2,12 +2,13 @@
 //!
 //! `Machine::new` loads an image, `step` takes one step, and `run` steps until an ending or a limit
 //! of cycles. Contracts see a machine as its state of `rv_core`'s definition (registers, memory with
-//! the segments' places and rights, what is left of the input, output, cycles, pc and whether it
-//! has exited), its costs and its room for output.
+//! the segments' places and rights, what is left of the input, output, the last instruction, cycles,
+//! pc and whether it has exited), its costs and its room for output.
 //!
 //! Proved: each step is that of the definition, or changes nothing and says why; a run stops exactly
-//! where the definition says; behind any number of steps the state is that of the image's run after
-//! the steps that were taken. A step takes no memory. Speed is measured, not proved: the
+//! where the definition says, and answers an exit exactly where the image's run exits within the
+//! limits; behind any number of steps the state is that of the image's run after the steps that were
+//! taken. A step takes no memory. Speed is measured, not proved: the
 //! instructions of what can be executed are decoded once, and a step looks at no more than the
 //! segments' bounds.
 //!

@@ -3,7 +3,7 @@ ghost use Rattle.std.specs.Prelude.{◌≡◌, ◌<◌, ◌≤◌, ◌^◌, leng
 
 use crate::blocks::Blocks;
 use crate::registers::Registers;
-use rv_core::{Costs, Image};
+use rv_core::{Costs, Image, Instr};
 use std::alloc::Global;
 use std::marker::Model;
 use wcc_base::Memory;
@@ -22,6 +22,8 @@ pub struct Machine {
     pub(crate) room: u32,
     pub(crate) costs: Costs,
     pub(crate) cycles: u64,
+    /// The instruction of the last step.
+    pub(crate) last: Option<Instr>,
     /// The value of an exit.
     pub(crate) exit: Option<i32>,
 }
@@ -31,17 +33,29 @@ impl Model for Machine {
     ghost use Rattle.std.specs.Vec.{vec_capacity};
     ghost use Rattle.rv_core.specs.Table.{table_of};
     ghost use Rattle.rv_sim.specs.Simulation.{Simulation};
-    ghost use Rattle.rv_sim.specs.Parts.{state_of, ending_by};
+    ghost use Rattle.rv_sim.specs.Parts.{ending_by};
 
     ghost Value = { Simulation };
 
-    ghost view = { λ m. record { state = state_of m.pc m.registers m.memory (drop m.taken m.input.items) m.output.items m.cycles (ending_by m.exit); costs = table_of m.costs; room = m.room } };
+    ghost view = { λ m. record {
+      state = record {
+        pc = m.pc;
+        registers = m.registers;
+        world = record { memory = m.memory; input = drop m.taken m.input.items; output = m.output.items };
+        last = m.last;
+        cycles = m.cycles;
+        ending = ending_by m.exit;
+      };
+      costs = table_of m.costs;
+      room = m.room;
+    } };
 
     ghost invariant = { λ m. (length m.output.items ≤ m.room) × (m.room ≤ vec_capacity m.output) × (m.cycles < 2 ^ 63) };
 }
 
 impl Machine {
     ghost use Rattle.rv_core.specs.Table.{table_of};
+    ghost use Rattle.rv_core.specs.Runs.{setup};
     ghost use Rattle.rv_sim.specs.Simulation.{started, IsAt};
 
     /// The loaded machine, before its first step. All memory that a run needs is taken here.
@@ -53,7 +67,7 @@ impl Machine {
         out_limit: u32,
     ) -> Result<Machine, Memory>
         ensures started { IfOk result (λ m. m ≡ started image.now input.items (table_of costs) out_limit) }
-        ensures first { IfOk result (λ m. IsAt m image.now input.items 0) }
+        ensures first { IfOk result (λ m. IsAt m (setup image.now (table_of costs) input.items) 0) }
     {
         let memory = Blocks::load(alloc, image.segments())?;
         let output = Vec::with_capacity(alloc, out_limit as usize)?;
@@ -67,6 +81,7 @@ impl Machine {
             room: out_limit,
             costs,
             cycles: 0,
+            last: None,
             exit: None,
         })
     }
@@ -88,9 +103,16 @@ impl Machine {
 
     /// The bytes that were written.
     pub fn output(&self) -> &[u8]
-        ensures value { result.now ≡ self.now.state.output }
+        ensures value { result.now ≡ self.now.state.world.output }
         ensures few { length result.now ≤ self.now.room }
     {
         self.output.as_slice()
+    }
+
+    /// Gives away the bytes that were written. It takes no memory.
+    pub fn into_output(self) -> Vec<u8>
+        ensures { result.items ≡ self.state.world.output }
+    {
+        self.output
     }
 }

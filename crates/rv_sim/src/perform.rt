@@ -1,10 +1,8 @@
 // What instructions do to the machine.
-ghost use Rattle.std.specs.Prelude.{◌≡◌, ℕ, ◌/◌, ◌*◌, ◌^◌, ◌<◌, Some, None, true, false};
-ghost use Rattle.rv_core.specs.Rows.{row_of};
+ghost use Rattle.std.specs.Prelude.{◌≡◌, ◌*◌, ◌^◌, ◌<◌, Some, None, false};
 ghost use Rattle.rv_core.specs.Arithmetic.{byte_count};
-ghost use Rattle.rv_core.specs.Regions.{region_of};
 ghost use Rattle.rv_core.specs.Memory.{written_to};
-ghost use Rattle.rv_core.specs.Machine.{goes_on, jumps, branches, reads, reads_at, writes, writes_at, calls, address_of, register_of};
+ghost use Rattle.rv_core.specs.Machine.{sets, jumps, branches, reads, reads_at, writes, writes_at, done, address_of, access_of, is_taken, register_of};
 
 use crate::blocks::{Found, Place};
 use crate::ending::Ending;
@@ -15,58 +13,55 @@ use rv_core::Width;
 impl Machine {
     ghost use Rattle.rv_sim.specs.Simulation.{answer_to};
     ghost use Rattle.rv_sim.specs.Lookups.{IsPlace};
-    ghost use Rattle.rv_sim.specs.Limits.{Issues, Limited, touches, branches_by};
+    ghost use Rattle.rv_sim.specs.Limits.{Issues, Limited, IsPrice};
 
     /// Goes on to the next instruction with this value in rd.
     pub fn go_on(&mut self, issue: &Issue, value: u32) -> Option<Ending>
         requires issues { Issues self.old issue.now }
-        requires plain { touches (row_of issue.now.instr.op).effect ≡ false }
-        ensures answer { Limited issue.now.limit (answer_to (goes_on self.old.costs issue.now.instr value self.old.state) self.old) self.old self.new result }
+        requires price { IsPrice issue.now.instr self.old.state None false }
+        ensures answer { Limited issue.now.limit (answer_to (done self.old.costs issue.now.instr self.old.state (sets issue.now.instr.rd value self.old.state)) self.old) self.old self.new result }
         ensures pays { result ≡ None → self.old.state.cycles < self.new.state.cycles }
     {
-        let Some(cycles) = self.charged(issue, None, false) else {
+        if !self.pay(issue, None, false) {
             return Some(Ending::CycleLimit);
-        };
+        }
         self.registers.set(issue.instr.rd(), value);
         self.pc = self.pc.wrapping_add(4);
-        self.cycles = cycles;
         None
     }
 
     /// Jumps to an address, with that of the next instruction in rd.
     pub fn jump(&mut self, issue: &Issue, to: u32) -> Option<Ending>
         requires issues { Issues self.old issue.now }
-        requires plain { touches (row_of issue.now.instr.op).effect ≡ false }
-        ensures answer { Limited issue.now.limit (answer_to (jumps self.old.costs issue.now.instr to self.old.state) self.old) self.old self.new result }
+        requires price { IsPrice issue.now.instr self.old.state None false }
+        ensures answer { Limited issue.now.limit (answer_to (done self.old.costs issue.now.instr self.old.state (jumps issue.now.instr.rd to self.old.state)) self.old) self.old self.new result }
         ensures pays { result ≡ None → self.old.state.cycles < self.new.state.cycles }
     {
-        let Some(cycles) = self.charged(issue, None, false) else {
+        if !self.pay(issue, None, false) {
             return Some(Ending::CycleLimit);
-        };
+        }
         self.registers
             .set(issue.instr.rd(), self.pc.wrapping_add(4));
         self.pc = to;
-        self.cycles = cycles;
         None
     }
 
     /// Jumps by the immediate where the branch is taken.
     pub fn branch(&mut self, issue: &Issue, taken: bool) -> Option<Ending>
         requires issues { Issues self.old issue.now }
-        requires branch { branches_by (row_of issue.now.instr.op).effect ≡ true }
-        ensures answer { Limited issue.now.limit (answer_to (branches self.old.costs issue.now.instr taken self.old.state) self.old) self.old self.new result }
+        requires price { IsPrice issue.now.instr self.old.state None taken }
+        ensures answer { Limited issue.now.limit (answer_to (done self.old.costs issue.now.instr self.old.state (branches issue.now.instr.imm taken self.old.state)) self.old) self.old self.new result }
         ensures pays { result ≡ None → self.old.state.cycles < self.new.state.cycles }
     {
-        let Some(cycles) = self.charged(issue, None, taken) else {
+        if !self.pay(issue, None, taken) {
             return Some(Ending::CycleLimit);
-        };
+        }
         let distance = if taken {
             issue.instr.imm().cast_unsigned()
         } else {
             4
         };
         self.pc = self.pc.wrapping_add(distance);
-        self.cycles = cycles;
         None
     }
 
@@ -88,26 +83,26 @@ impl Machine {
     /// Goes on to the next instruction with what was found in a region, extended, in rd.
     fn finish_load(&mut self, issue: &Issue, kind: (Width, bool), found: &Found) -> Option<Ending>
         requires issues { Issues self.old issue.now }
-        requires reads { touches (row_of issue.now.instr.op).effect ≡ true }
+        requires price { IsPrice issue.now.instr self.old.state (Some found.now.region) false }
         requires small { found.now.number < 2 ^ (8 * byte_count kind.0) }
-        ensures answer { (at : ℕ) → region_of at ≡ Some found.now.region → Limited issue.now.limit (answer_to (reads self.old.costs issue.now.instr kind at (Some found.now.number) self.old.state) self.old) self.old self.new result }
+        ensures answer { Limited issue.now.limit (answer_to (done self.old.costs issue.now.instr self.old.state (reads issue.now.instr.rd kind (Some found.now.number) self.old.state)) self.old) self.old self.new result }
         ensures pays { result ≡ None → self.old.state.cycles < self.new.state.cycles }
     {
-        let Some(cycles) = self.charged(issue, Some(found.region), false) else {
+        if !self.pay(issue, Some(found.region), false) {
             return Some(Ending::CycleLimit);
-        };
+        }
         let value = kind.0.extended(kind.1, found.number);
         self.registers.set(issue.instr.rd(), value);
         self.pc = self.pc.wrapping_add(4);
-        self.cycles = cycles;
         None
     }
 
     /// Loads what stands at rs1 plus the immediate.
     pub fn load(&mut self, issue: &Issue, kind: (Width, bool)) -> Option<Ending>
         requires issues { Issues self.old issue.now }
-        requires reads { touches (row_of issue.now.instr.op).effect ≡ true }
-        ensures answer { Limited issue.now.limit (answer_to (reads_at self.old.costs issue.now.instr kind (address_of issue.now.instr self.old.state) self.old.state) self.old) self.old self.new result }
+        requires access { access_of issue.now.instr self.old.state ≡ Some (address_of issue.now.instr self.old.state) }
+        requires not_taken { is_taken issue.now.instr self.old.state ≡ false }
+        ensures answer { Limited issue.now.limit (answer_to (done self.old.costs issue.now.instr self.old.state (reads_at issue.now.instr.rd kind (address_of issue.now.instr self.old.state) self.old.state)) self.old) self.old self.new result }
         ensures pays { result ≡ None → self.old.state.cycles < self.new.state.cycles }
     {
         let at = self.address(issue);
@@ -129,26 +124,26 @@ impl Machine {
         place: &Place,
     ) -> Option<Ending>
         requires issues { Issues self.old issue.now }
-        requires writes { touches (row_of issue.now.instr.op).effect ≡ true }
-        requires place { IsPlace width at self.old.state.memory place.now }
-        ensures answer { Limited issue.now.limit (answer_to (writes self.old.costs issue.now.instr at (written_to width self.old.state.memory at (register_of self.old.state.registers issue.now.instr.rs2)) self.old.state) self.old) self.old self.new result }
+        requires price { IsPrice issue.now.instr self.old.state (Some place.now.region) false }
+        requires place { IsPlace width at self.old.state.world.memory place.now }
+        ensures answer { Limited issue.now.limit (answer_to (done self.old.costs issue.now.instr self.old.state (writes (written_to width self.old.state.world.memory at (register_of self.old.state.registers issue.now.instr.rs2)) self.old.state)) self.old) self.old self.new result }
         ensures pays { result ≡ None → self.old.state.cycles < self.new.state.cycles }
     {
-        let Some(cycles) = self.charged(issue, Some(place.region), false) else {
+        if !self.pay(issue, Some(place.region), false) {
             return Some(Ending::CycleLimit);
-        };
+        }
         let word = self.registers.get(issue.instr.rs2());
         self.memory.put(place, width, at, word);
         self.pc = self.pc.wrapping_add(4);
-        self.cycles = cycles;
         None
     }
 
     /// Stores rs2 to rs1 plus the immediate.
     pub fn store(&mut self, issue: &Issue, width: Width) -> Option<Ending>
         requires issues { Issues self.old issue.now }
-        requires writes { touches (row_of issue.now.instr.op).effect ≡ true }
-        ensures answer { Limited issue.now.limit (answer_to (writes_at self.old.costs issue.now.instr width (address_of issue.now.instr self.old.state) self.old.state) self.old) self.old self.new result }
+        requires access { access_of issue.now.instr self.old.state ≡ Some (address_of issue.now.instr self.old.state) }
+        requires not_taken { is_taken issue.now.instr self.old.state ≡ false }
+        ensures answer { Limited issue.now.limit (answer_to (done self.old.costs issue.now.instr self.old.state (writes_at width (register_of self.old.state.registers issue.now.instr.rs2) (address_of issue.now.instr self.old.state) self.old.state)) self.old) self.old self.new result }
         ensures pays { result ≡ None → self.old.state.cycles < self.new.state.cycles }
     {
         let at = self.address(issue);

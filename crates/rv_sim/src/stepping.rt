@@ -1,7 +1,8 @@
 // One step, and a run.
-ghost use Rattle.std.specs.Prelude.{◌≡◌, ℕ, ℤ, ◌+◌, ◌≤◌, ◌<◌, ◌^◌, List, None};
-ghost use Rattle.rv_core.specs.Machine.{performed, steps};
-ghost use Rattle.rv_core.specs.Images.{Image};
+ghost use Rattle.std.specs.Prelude.{◌≡◌, ℕ, ◌+◌, ◌≤◌, ◌<◌, ◌^◌, length, None};
+ghost use Rattle.rv_core.specs.Machine.{performed, done};
+ghost use Rattle.rv_core.specs.Runs.{Setup};
+ghost use Rattle.rv_core.specs.Exits.{Finish, limits, ExitsWithin};
 
 use crate::ending::Ending;
 use crate::issue::Issue;
@@ -9,13 +10,13 @@ use crate::machine::Machine;
 use rv_core::Effect;
 
 impl Machine {
-    ghost use Rattle.rv_sim.specs.Simulation.{answer_to, answer_of, Stepped, RunsWithin, FinishesWithin, ExitsAt, IsAt, Follows};
+    ghost use Rattle.rv_sim.specs.Simulation.{answer_to, answer_of, Stepped, RunsWithin, HasExited, IsAt, Follows};
     ghost use Rattle.rv_sim.specs.Limits.{Issues, Limited, HasRoom};
 
     /// Executes an instruction.
     fn perform(&mut self, issue: &Issue) -> Option<Ending>
         requires { Issues self.old issue.now }
-        ensures answer { Limited issue.now.limit (answer_to (performed self.old.costs issue.now.instr self.old.state) self.old) self.old self.new result }
+        ensures answer { Limited issue.now.limit (answer_to (done self.old.costs issue.now.instr self.old.state (performed issue.now.instr self.old.state)) self.old) self.old self.new result }
         ensures pays { result ≡ None → self.old.state.cycles < self.new.state.cycles }
     {
         let instr = &issue.instr;
@@ -34,6 +35,13 @@ impl Machine {
             Effect::WithRegister(function) => self.go_on(issue, function.value(x, y)),
             Effect::CallEnvironment => self.call(issue),
         }
+    }
+
+    // No more is written than there is room for.
+    fn keeps_room(&self)
+        ensures { length self.now.state.world.output ≤ self.now.room }
+    {
+        let _ = &self.room;
     }
 
     /// One step, which isn't taken where it would pass the limit.
@@ -65,7 +73,7 @@ impl Machine {
     pub fn step(&mut self) -> Option<Ending>
         requires { self.old.state.cycles ≤ 2 ^ 62 }
         ensures answer { Stepped (answer_of self.old) self.old self.new result }
-        ensures follows { (image : Image) (input : List ℕ) (n : ℕ) → IsAt self.old image input n → Follows (answer_of self.old) self.new image input n }
+        ensures follows { (s : Setup) (n : ℕ) → IsAt self.old s n → Follows (answer_of self.old) self.new s n }
     {
         self.step_within(None)
     }
@@ -75,12 +83,13 @@ impl Machine {
     pub fn run(&mut self, limit: u64) -> Ending
         requires { limit ≤ 2 ^ 62 }
         ensures runs { RunsWithin limit self.old self.new result }
-        ensures follows { (image : Image) (input : List ℕ) (n : ℕ) → IsAt self.old image input n → (k : ℕ) × IsAt self.new image input (n + k) }
-        ensures exits { (value : ℤ) → result ≡ Ending.Exit value → ExitsAt self.old self.new value }
-        ensures finishes { (k : ℕ) (value : ℤ) → FinishesWithin (steps self.old.costs k self.old.state) value limit self.old.room → result ≡ Ending.Exit value }
+        ensures follows { (s : Setup) (n : ℕ) → IsAt self.old s n → (k : ℕ) × IsAt self.new s (n + k) }
+        ensures exits { (s : Setup) (n : ℕ) → IsAt self.old s n → self.old.state.cycles ≤ limit → (f : Finish) → HasExited self.new result f → ExitsWithin s (limits limit self.old.room) f }
+        ensures finishes { (s : Setup) (n : ℕ) → IsAt self.old s n → (f : Finish) → ExitsWithin s (limits limit self.old.room) f → HasExited self.new result f }
     {
         loop {
             if let Some(ending) = self.step_within(Some(limit)) {
+                self.keeps_room();
                 return ending;
             }
         }

@@ -1,5 +1,7 @@
 pub mod StraightRuns
 pub mod FileRuns
+pub mod TextRuns
+pub mod Steps
 pub mod CompileRuns
 pub mod RunRuns
 pub mod Numbers
@@ -8,3 +10,4 @@ pub mod Calls
 pub mod Sources
 pub mod Endings
 pub mod Succeeding
+pub mod Leaving

@@ -1,22 +1,22 @@
 -- What the steps of running an image say together.
-use Rattle.std.proofs.Common.{◌≡◌, ◌⊎◌, ◌↔◌, ℕ, ◌≤◌, List, length, Option, Some, None, Result, Err, sym, ap, subst, ◌∙◌, inr, ⊎_elim}
-use Rattle.std.specs.Prelude.{IfSome, IsErrOf}
-use Rattle.wcc_base.specs.Outside.{Files, bytes_of, told_put, Rose}
-use Rattle.wcc_base.specs.Limits.{greatest_of}
-use Rattle.wcc_base.specs.declared.limits.Bound.TheVariants.{Image, Input}
-use Rattle.rv_sim.specs.Simulation.{Simulation}
-use Rattle.rv_sim.specs.declared.ending.Ending.{Ending}
+use Rattle.std.proofs.Common.{◌≡◌, ◌∙◌, ◌⊎◌, ◌↔◌, ℕ, ℤ, ◌≤◌, List, Result, Ok, Err, IsOk, refl, sym, ap, subst, inl, inr, ⊎_elim, arith}
+use Rattle.std.specs.Prelude.{IsErrOf}
 use Rattle.elf_image.specs.Headers.{header_of}
-use Rattle.elf_image.specs.Loading.{IsElf, IsExecutable, IsFirstBad}
+use Rattle.elf_image.specs.Loading.{IsElf, IsExecutable, IsFirstBad, IsLoadable, image_of}
 use Rattle.elf_image.specs.declared.fault.ElfFault.{ElfFault}
 use Rattle.elf_image.specs.declared.fault.ElfFault.TheVariants.{NotElf, WrongMachine, BadSegment}
 use Rattle.elf_image.specs.declared.fault.ElfFault.TheVariants.{Memory as NoMemory}
-use Rattle.wcc.specs.declared.outcome.Outcome.{Outcome}
-use Rattle.wcc.specs.declared.outcome.Outcome.TheVariants.{Compiled as Written, Ran, Form, NoImage, TooLong, ReadFault, WriteFault, Memory}
+use Rattle.rv_core.specs.Images.{Image}
+use Rattle.rv_core.specs.Table.{Table, default_table}
+use Rattle.rv_core.specs.Runs.{Setup, setup}
+use Rattle.rv_core.specs.Exits.{Finish, finish, limits, ExitsWithin}
+use Rattle.rv_sim.specs.Simulation.{Simulation, RunsWithin, IsAt, HasExited, started}
+use Rattle.rv_sim.specs.declared.ending.Ending.{Ending}
+use Rattle.rv_sim.specs.declared.ending.Ending.TheVariants.{Exit, Trap, CycleLimit, OutputFull}
 use Rattle.wcc.specs.Words.{RunNames}
-use Rattle.wcc.specs.States.{StoreState, IsPart}
-use Rattle.wcc.specs.Simulated.{Simulates, AreShort, FilesSimulate, SaysRan}
-use Rattle.wcc.specs.Runnings.{StopsAs, SaysOutput}
+use Rattle.wcc.specs.Outputs.{Outputs}
+use Rattle.wcc.specs.Ends.{IsEnd}
+use Rattle.wcc.specs.Running.{run_of, run_limits, StopsAs, Simulates, IsStop, run_status, ran_outputs, MakesExit, MakesStop, MakesOutput}
 
 -- a refusal of an image has its cause
 pub stops_as : {T : Type 0} (bytes : List ℕ) (r : Result T ElfFault) (fault : ElfFault) → r ≡ Err fault
@@ -29,37 +29,65 @@ stops_as bytes r WrongMachine is n w b = ⊎_elim (λ e. absurd cc) (λ i. i.0 i
 stops_as bytes r (BadSegment index) is n w b = ⊎_elim (λ e. absurd cc) (λ i. i.0 is) (b index)
 stops_as bytes r NoMemory is n w b = tt
 
--- both files were read, and the image was run
-files_simulate : (names : RunNames) (image input : List ℕ) (old mid : Option Files) (last : Simulation) (ending : Ending)
-    → IfSome old (λ fs. (image ≡ bytes_of fs names.image) × (length (bytes_of fs names.image) ≤ greatest_of Image)) → mid ≡ old
-    → IfSome mid (λ fs. (input ≡ bytes_of fs names.input) × (length (bytes_of fs names.input) ≤ greatest_of Input)) → Simulates image input last ending
-    → IfSome old (λ fs. AreShort (bytes_of fs names.image) (bytes_of fs names.input) × Simulates (bytes_of fs names.image) (bytes_of fs names.input) last ending)
-files_simulate names image input None mid last ending r e q s = tt
-files_simulate names image input (Some fs) mid last ending r e q s =
-    let t = subst (λ (o : Option Files). IfSome o (λ gs. (input ≡ bytes_of gs names.input) × (length (bytes_of gs names.input) ≤ greatest_of Input))) e q in
-    (record { image_short = r.1; input_short = t.1 }, subst (λ b. Simulates b (bytes_of fs names.input) last ending) r.0 (subst (λ b. Simulates image b last ending) t.0 s))
+is_no_exit : (ending : Ending) (v : ℤ) → IsStop ending → ending ≡ Exit v → ⊥
+is_no_exit (Exit w) v s e = s
+is_no_exit (Trap at kind) v s e = absurd cc
+is_no_exit CycleLimit v s e = absurd cc
+is_no_exit OutputFull v s e = absurd cc
 
-part_from : (name bytes : List ℕ) (old mid new : Option Files) → mid ≡ old → IsPart name bytes mid new → IsPart name bytes old new
-part_from name bytes old mid new e p = subst (λ o. IsPart name bytes o new) e p
+makes_stop : (names : RunNames) (image input : List ℕ) (last : Simulation) (ending : Ending) (made : Outputs) → IsStop ending → Simulates image input last ending → made ≡ ran_outputs names last ending → MakesOutput names image input made
+makes_stop names image input last ending made i s e =
+    let stop : MakesStop names image input made = record {
+      no_exit = λ f w. is_no_exit ending f.value i (s.finishes f w).exits;
+      last = last;
+      ending = ending;
+      stops = i;
+      runs = s.runs;
+      made_is = e;
+    } in
+    record { loadable = s.loadable; made_by = inr stop }
 
--- reading left the files as they were, and then the output was written
-pub says_ran : (names : RunNames) (image input : List ℕ) (old mid before new : StoreState) (last : Simulation) (ending : Ending) (o : Outcome)
-    → IfSome old.files (λ fs. (image ≡ bytes_of fs names.image) × (length (bytes_of fs names.image) ≤ greatest_of Image)) → mid.files ≡ old.files
-    → IfSome mid.files (λ fs. (input ≡ bytes_of fs names.input) × (length (bytes_of fs names.input) ≤ greatest_of Input)) → before.files ≡ mid.files
-    → before.write_faults ≡ old.write_faults → Simulates image input last ending → SaysOutput names.output last ending before new o → SaysRan names old new o
-says_ran names image input old mid before new last ending (Ran e pc cycles) r same q same' w s x = record {
-  last = last;
-  simulates = subst (λ k. FilesSimulate names old last k) (sym x.0) (files_simulate names image input old.files mid.files last ending r same q s);
-  pc_is = x.1;
-  cycles_are = x.2;
-  output = x.3 ∙ ap (told_put names.output last.state.output) (same' ∙ same);
-}
-says_ran names image input old mid before new last ending WriteFault r same q same' w s x =
-    ((last, ending, files_simulate names image input old.files mid.files last ending r same q s, part_from names.output last.state.output old.files before.files new.files (same' ∙ same) x.0), subst (λ n. Rose n new.write_faults) w x.1)
-says_ran names image input old mid before new last ending Memory r same q same' w s x =
-    inr (last, ending, files_simulate names image input old.files mid.files last ending r same q s, part_from names.output last.state.output old.files before.files new.files (same' ∙ same) x)
-says_ran names image input old mid before new last ending (Written n) r same q same' w s x = absurd x
-says_ran names image input old mid before new last ending Form r same q same' w s x = absurd x
-says_ran names image input old mid before new last ending (NoImage fault) r same q same' w s x = absurd x
-says_ran names image input old mid before new last ending (TooLong which) r same q same' w s x = absurd x
-says_ran names image input old mid before new last ending ReadFault r same q same' w s x = absurd x
+-- an ending is made what it says
+pub makes_output : (names : RunNames) (image input : List ℕ) (last : Simulation) (ending : Ending) (made : Outputs) → Simulates image input last ending → made ≡ ran_outputs names last ending → MakesOutput names image input made
+makes_output names image input last (Exit v) made s e =
+    let exit : MakesExit names image input made = record {
+      finish = finish last.state.world.output v last.state.cycles;
+      exits = s.exits (finish last.state.world.output v last.state.cycles) record { exits = refl; output = refl; cycles = refl };
+      made_is = e;
+    } in
+    record { loadable = s.loadable; made_by = inl exit }
+makes_output names image input last (Trap at kind) made s e = makes_stop names image input last (Trap at kind) made tt s e
+makes_output names image input last CycleLimit made s e = makes_stop names image input last CycleLimit made tt s e
+makes_output names image input last OutputFull made s e = makes_stop names image input last OutputFull made tt s e
+
+run_ends : (ending : Ending) (pc cycles : ℕ) → IsEnd (run_status ending pc cycles)
+run_ends (Exit v) pc cycles = tt
+run_ends (Trap at kind) pc cycles = tt
+run_ends CycleLimit pc cycles = tt
+run_ends OutputFull pc cycles = tt
+
+pub ran_ends : (names : RunNames) (last : Simulation) (ending : Ending) (made : Outputs) → made ≡ ran_outputs names last ending → IsEnd made.status
+ran_ends names last ending made e = subst IsEnd (sym (ap (λ (o : Outputs). o.status) e)) (run_ends ending last.state.pc last.state.cycles)
+
+pub loads : (bytes : List ℕ) (r : Result Image ElfFault) (image : Image) → r ≡ Ok image → (IsErrOf r NoMemory ⊎ (IsOk r ↔ IsLoadable bytes)) → IsLoadable bytes
+loads bytes r image is x = ⊎_elim (λ e. absurd cc) (λ i. i.0 (subst (λ (k : Result Image ElfFault). IsOk k) (sym is) refl)) x
+
+-- a machine that was run from its start
+pub simulates : (bytes input : List ℕ) (image : Image) (costs : Table) (old new : Simulation) (ending : Ending)
+    → IsLoadable bytes → image ≡ image_of bytes → costs ≡ default_table
+    → old ≡ started image input costs run_limits.output → IsAt old (setup image costs input) 0
+    → RunsWithin run_limits.cycles old new ending
+    → ((s : Setup) (n : ℕ) → IsAt old s n → old.state.cycles ≤ run_limits.cycles → (f : Finish) → HasExited new ending f → ExitsWithin s (limits run_limits.cycles old.room) f)
+    → ((s : Setup) (n : ℕ) → IsAt old s n → (f : Finish) → ExitsWithin s (limits run_limits.cycles old.room) f → HasExited new ending f)
+    → Simulates bytes input new ending
+simulates bytes input image costs old new ending l i d s a r x y =
+    let e : old ≡ started (image_of bytes) input default_table run_limits.output = s ∙ ap (λ (k : Image). started k input costs run_limits.output) i ∙ ap (λ (t : Table). started (image_of bytes) input t run_limits.output) d in
+    let at : IsAt old (run_of bytes input) 0 = subst (λ (t : Table). IsAt old (setup (image_of bytes) t input) 0) d (subst (λ (k : Image). IsAt old (setup k costs input) 0) i a) in
+    let room : old.room ≡ run_limits.output = ap (λ (m : Simulation). m.room) e in
+    let low : old.state.cycles ≤ run_limits.cycles = subst (λ (m : Simulation). m.state.cycles ≤ run_limits.cycles) (sym e) (omega arith) in
+    record {
+      loadable = l;
+      runs = subst (λ (m : Simulation). RunsWithin run_limits.cycles m new ending) e r;
+      exits = λ f h. subst (λ n. ExitsWithin (run_of bytes input) (limits run_limits.cycles n) f) room (x (run_of bytes input) 0 at low f h);
+      finishes = λ f w. y (run_of bytes input) 0 at f (subst (λ n. ExitsWithin (run_of bytes input) (limits run_limits.cycles n) f) (sym room) w);
+    }

@@ -1,35 +1,46 @@
--- What the command `compile` does to the files, by its outcome.
-use Rattle.std.specs.Prelude.{◌≡◌, ◌⊎◌, ℕ, List, [], ◌∷◌, Option, IfSome}
-use Rattle.wcc_base.specs.Outside.{Files, bytes_of, told_put, Rose}
-use Rattle.wcc.specs.declared.outcome.Outcome.{Outcome}
-use Rattle.wcc.specs.declared.outcome.Outcome.TheVariants.{Compiled as HasCompiled, Form, ReadFault, WriteFault, Memory}
+-- What `compile` makes of a source: an image that does what the source does, and a report of the cycles that it takes.
+use Rattle.std.specs.Prelude.{◌≡◌, ℕ, ◌%◌, ℤ, pos, List, [], ◌∷◌, map}
+use Rattle.wcc_base.specs.declared.status.Status.{Status}
+use Rattle.wcc_base.specs.declared.status.Status.TheVariants as status
+use Rattle.rv_core.specs.Images.{Image}
+use Rattle.rv_core.specs.Runs.{setup}
+use Rattle.rv_core.specs.Exits.{Exits, finish}
+use Rattle.rv_core.specs.Table.{default_table}
+use Rattle.elf_image.specs.Text.{text_of}
 use Rattle.wcc.specs.Words.{CompileNames}
-use Rattle.wcc.specs.States.{StoreState, Partly}
-use Rattle.wcc.specs.Plain.{IsNotPlain}
-use Rattle.wcc.specs.Compiled.{Compiled}
+use Rattle.wcc.specs.Plain.{IsPlain, IsNotPlain}
 use Rattle.wcc.specs.Lines.{cycles_line}
+use Rattle.wcc.specs.Outputs.{Outputs}
 
--- the text and the number are what the source compiles to, where the store tells it
-abbrev pub SourceCompiles : CompileNames → StoreState → List ℕ → ℕ → Type 0
-SourceCompiles names old text n = IfSome old.files (λ fs. Compiled (bytes_of fs names.source) text n)
+-- for any input, the machine exits with this output and value after exactly so many cycles, with the default costs
+abbrev pub Runs : Image → List ℕ → ℤ → ℕ → Type 0
+Runs image output value cycles = (input : List ℕ) → Exits (setup image default_table input) (finish output value cycles)
 
--- the files that are written, in their order
-abbrev pub written_files : CompileNames → List ℕ → ℕ → List (List ℕ × List ℕ)
-written_files names text n = (names.image, text) ∷ (names.report, cycles_line n) ∷ []
+-- the text is that of an image that puts the numbers of the source's calls modulo 256, and returns its number, in so many cycles
+pub record Compiled (source text : List ℕ) (cycles : ℕ) : Type 0 where
+  pub calls : List ℕ
+  pub value : ℕ
+  pub image : Image
+  pub plain : IsPlain source calls value
+  pub text_is : text ≡ text_of image
+  pub runs : Runs image (map (λ n. n % 256) calls) (pos value) cycles
 
--- both files are whole
-abbrev pub BothWritten : CompileNames → List ℕ → ℕ → Option Files → Option Files → Type 0
-BothWritten names text n old new = new ≡ told_put names.report (cycles_line n) (told_put names.image text old)
+-- the source isn't plain
+pub record RefusesSource (source : List ℕ) (s : Status) : Type 0 where
+  pub cause : IsNotPlain source
+  pub status_is : s ≡ status.Form
 
--- the source compiles, and its files were perhaps written in part
-abbrev pub PartlyCompiled : CompileNames → StoreState → StoreState → Type 0
-PartlyCompiled names old new = (text : List ℕ) × (n : ℕ) × SourceCompiles names old text n × Partly (written_files names text n) old.files new.files
+-- the image, then the report, which holds the printed line
+abbrev pub compiled_outputs : CompileNames → List ℕ → ℕ → Outputs
+compiled_outputs names text cycles = record {
+  status = status.Done;
+  files = (names.image, text) ∷ (names.report, cycles_line cycles) ∷ [];
+  lines = cycles_line cycles;
+}
 
--- what an outcome says of the files and of the counts of faults
-abbrev pub SaysCompiled : CompileNames → StoreState → StoreState → Outcome → Type 0
-SaysCompiled names old new (HasCompiled n) = (text : List ℕ) × SourceCompiles names old text n × BothWritten names text n old.files new.files
-SaysCompiled names old new Form = (new.files ≡ old.files) × IfSome old.files (λ fs. IsNotPlain (bytes_of fs names.source))
-SaysCompiled names old new ReadFault = (new.files ≡ old.files) × Rose old.read_faults new.read_faults
-SaysCompiled names old new WriteFault = PartlyCompiled names old new × Rose old.write_faults new.write_faults
-SaysCompiled names old new Memory = (new.files ≡ old.files) ⊎ PartlyCompiled names old new
-SaysCompiled names old new outcome = ⊥
+-- the image does what the source does, in the cycles of the line
+pub record MakesImage (names : CompileNames) (source : List ℕ) (made : Outputs) : Type 0 where
+  pub text : List ℕ
+  pub cycles : ℕ
+  pub compiled : Compiled source text cycles
+  pub made_is : made ≡ compiled_outputs names text cycles

@@ -1,29 +1,58 @@
 -- How the top call ends: what the words ask, what became of the files, and what was printed.
-use Rattle.std.specs.Prelude.{◌≡◌, ◌⊎◌, ℕ, List, Option, Some, None, codes}
-use Rattle.wcc_base.specs.Outside.{told_append, Rose}
+use Rattle.std.specs.Prelude.{◌≡◌, ◌⊎◌, ℕ, ◌+◌, List, Option, Some, None, IfSome}
+use Rattle.wcc_base.specs.Outside.{Files, StoreState, SinkState, Rose}
+use Rattle.wcc_base.specs.Limits.{greatest_of}
+use Rattle.wcc_base.specs.declared.limits.Bound.{Bound}
 use Rattle.wcc_base.specs.declared.status.Status.{Status}
 use Rattle.wcc_base.specs.declared.status.Status.TheVariants as status
-use Rattle.wcc.specs.declared.outcome.Outcome.{Outcome}
-use Rattle.wcc.specs.Words.{Command, Compile, Run}
-use Rattle.wcc.specs.States.{StoreState, SinkState, IsCut}
-use Rattle.wcc.specs.Lines.{line_of}
-use Rattle.wcc.specs.Statuses.{status_of, status_after_fault}
-use Rattle.wcc.specs.Compiling.{SaysCompiled}
-use Rattle.wcc.specs.Simulated.{SaysRan}
+use Rattle.wcc.specs.Words.{Command}
+use Rattle.wcc.specs.Outputs.{Outputs}
+use Rattle.wcc.specs.StatusLines.{line_of}
+use Rattle.wcc.specs.Commands.{wanted_of, Refuses, Makes}
+use Rattle.wcc.specs.Gathering.{Overlong, Gathered, NotGathered}
+use Rattle.wcc.specs.Finishing.{all_put, Partly, Reported}
 
--- the line was put whole; or memory ran out there; or the sink failed there
-abbrev pub Reported : Status → List ℕ → SinkState → SinkState → Status → Type 0
-Reported s line old new result =
-    ((result ≡ s) × (new.written ≡ told_append line old.written))
-    ⊎ (((result ≡ status.Memory) × IsCut line old new) ⊎ ((result ≡ status_after_fault s) × IsCut line old new × Rose old.faults new.faults))
+-- a file that the command reads passes this limit, and those before it are within theirs, where the store tells them
+abbrev pub OverlongIn : Command → Option Files → Bound → Type 0
+OverlongIn c files which = IfSome files (λ fs. Overlong (wanted_of c) fs which)
 
--- what the outcome of a command says
-abbrev pub Says : Command → StoreState → StoreState → Outcome → Type 0
-Says (Compile names) old new o = SaysCompiled names old new o
-Says (Run names) old new o = SaysRan names old new o
+-- the files were read, and are refused with this status
+abbrev pub RefusesIn : Command → Option Files → Status → Type 0
+RefusesIn c files s = (contents : List (List ℕ)) × Gathered (wanted_of c) files contents × Refuses c contents s
 
--- how the call ends: the words ask nothing; or the command came to an outcome, whose line was then printed unless memory ran out first
+-- the files were read, and this is made of them
+abbrev pub MakesIn : Command → Option Files → Outputs → Type 0
+MakesIn c files made = (contents : List (List ℕ)) × Gathered (wanted_of c) files contents × Makes c contents made
+
+-- the statuses of a refusal
+abbrev pub IsRefusal : Status → Type 0
+IsRefusal (status.Refused code detail at) = Unit {0}
+IsRefusal (status.No code detail at) = Unit {0}
+IsRefusal (status.Limit which found) = Unit {0}
+IsRefusal status.Form = Unit {0}
+IsRefusal s = ⊥
+
+-- the statuses of what is made
+abbrev pub IsEnd : Status → Type 0
+IsEnd status.Done = Unit {0}
+IsEnd (status.Stopped kind code at cycles) = Unit {0}
+IsEnd s = ⊥
+
+-- how a command ends, with the status and the lines that are printed, one row for each kind of ending
+pub data Ending (c : Command) (old new : StoreState) : Status → List ℕ → Type 0 where
+  read_fault : new.files ≡ old.files → Rose old.read_faults new.read_faults → Ending c old new status.ReadFault (line_of status.ReadFault)
+  too_long : (which : Bound) → new.files ≡ old.files → OverlongIn c old.files which → Ending c old new (status.Limit which (greatest_of which + 1)) (line_of (status.Limit which (greatest_of which + 1)))
+  refused : (s : Status) → new.files ≡ old.files → IsRefusal s → RefusesIn c old.files s → Ending c old new s (line_of s)
+  whole : (made : Outputs) → IsEnd made.status → MakesIn c old.files made → new.files ≡ all_put made.files old.files → Ending c old new made.status made.lines
+  in_part : (made : Outputs) → MakesIn c old.files made → Partly made.files old.files new.files → Rose old.write_faults new.write_faults → Ending c old new status.WriteFault (line_of status.WriteFault)
+  memory_in_part : (made : Outputs) → MakesIn c old.files made → Partly made.files old.files new.files → Ending c old new status.Memory (line_of status.Memory)
+  memory : new.files ≡ old.files → Ending c old new status.Memory (line_of status.Memory)
+
+-- how the call ends: the words ask nothing, and the store is as it was; or the command ended so; and its lines were printed
 abbrev pub EndsWith : Option Command → StoreState → StoreState → SinkState → SinkState → Status → Type 0
-EndsWith None old new out out' result = (new.files ≡ old.files) × Reported status.Usage (codes "usage\n") out out' result
-EndsWith (Some command) old new out out' result =
-    (o : Outcome) × Says command old new o × (Reported (status_of o) (line_of o) out out' result ⊎ ((result ≡ status.Memory) × (out'.written ≡ out.written)))
+EndsWith None old new out out' result = (new ≡ old) × Reported status.Usage (line_of status.Usage) out out' result
+EndsWith (Some c) old new out out' result = (s : Status) × (lines : List ℕ) × Ending c old new s lines × Reported s lines out out' result
+
+-- why nothing is made: the files weren't read, or memory ran out, or they are refused
+abbrev pub Fails : Command → StoreState → StoreState → Status → Type 0
+Fails c old new s = NotGathered (wanted_of c) old new s ⊎ ((s ≡ status.Memory) ⊎ (IsRefusal s × RefusesIn c old.files s))

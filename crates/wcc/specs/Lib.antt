@@ -1,11 +1,13 @@
 pub mod Words
-pub mod States
-pub mod Plain
-pub mod Compiled
 pub mod Lines
-pub mod Statuses
+pub mod StatusLines
+pub mod Outputs
+pub mod Plain
 pub mod Compiling
-pub mod Simulated
+pub mod Running
+pub mod Gathering
+pub mod Commands
+pub mod Finishing
 pub mod Ends
 pub mod Promises
 pub mod Asked
@@ -13,4 +15,3 @@ pub mod Straight
 pub mod Reader
 pub mod Files
 pub mod Artifacts
-pub mod Runnings

@@ -1,59 +1,61 @@
 // The command `compile SOURCE IMAGE REPORT`.
-ghost use Rattle.std.specs.Prelude.{◌≡◌, ◌≤◌};
+ghost use Rattle.std.specs.Prelude.{◌≡◌, ◌⊎◌, IfOk, MatchResult};
+ghost use Rattle.wcc_base.specs.declared.status.Status.TheVariants as status;
 ghost use Rattle.wcc.specs.Asked.{compile_names};
-ghost use Rattle.wcc.specs.States.{store_state};
-ghost use Rattle.wcc.specs.Compiling.{SaysCompiled};
-ghost use Rattle.wcc.specs.Artifacts.{SaysWritten};
+ghost use Rattle.wcc.specs.Ends.{IsEnd, IsRefusal};
+ghost use Rattle.wcc.specs.Compiling.{RefusesSource, MakesImage, compiled_outputs};
+ghost use Rattle.wcc.specs.Outputs.{outputs_of};
 
 use crate::artifact::{Artifact, compile};
-use crate::files::{Reading, read_all, write_all};
-use crate::outcome::Outcome;
+use crate::lines::cycles_line;
+use crate::make::{Made, Output};
+use crate::printing::text_of;
 use crate::words::CompileNames;
 use std::alloc::Global;
-use wcc_base::{Fault, Store};
+use wcc_base::{Items, Memory, Status};
 
-const SOURCE_MOST: usize = 65_536;
-
-// Writes both files, the report once the image is whole.
-fn write_files<S: Store>(store: &mut S, image: &str, report: &str, artifact: &Artifact) -> Outcome
-    ensures files { SaysWritten image.now report.now artifact.now
-        (store_state (S.files store.old) (S.read_faults store.old) (S.write_faults store.old))
-        (store_state (S.files store.new) (S.read_faults store.new) (S.write_faults store.new)) result }
-    ensures reads { S.read_faults store.new ≡ S.read_faults store.old }
-    ensures writes { S.write_faults store.old ≤ S.write_faults store.new }
+// The image and the report, in this order.
+fn outputs<'a>(
+    alloc: Global,
+    names: CompileNames<'a>,
+    artifact: Artifact,
+) -> Result<Made<'a>, Memory>
+    ensures { IfOk result (λ m. outputs_of m ≡ compiled_outputs (compile_names names.entry) artifact.image.items artifact.cycles) }
 {
-    match write_all(store, image, &artifact.image) {
-        Ok(()) => {}
-        Err(Fault::Failed) => return Outcome::WriteFault,
-        Err(Fault::Memory) => return Outcome::Memory,
-    }
-    match write_all(store, report, &artifact.report) {
-        Ok(()) => Outcome::Compiled {
-            cycles: artifact.cycles,
-        },
-        Err(Fault::Failed) => Outcome::WriteFault,
-        Err(Fault::Memory) => Outcome::Memory,
-    }
+    let line = cycles_line(artifact.cycles);
+    let report = text_of(alloc, &line)?;
+    let lines = Vec::from_slice(alloc, &line)?;
+    let mut files = Vec::new(alloc);
+    files.push(Output {
+        name: names.image,
+        bytes: Items::new(artifact.image),
+    })?;
+    files.push(Output {
+        name: names.report,
+        bytes: Items::new(report),
+    })?;
+    Ok(Made {
+        status: Status::Done,
+        files,
+        lines,
+    })
 }
 
-/// Compiles the source into the image and the report. Nothing is begun in the store before both
-/// stand in memory.
-pub fn compile_files<S: Store>(alloc: Global, store: &mut S, names: CompileNames) -> Outcome
-    ensures says { SaysCompiled (compile_names names.entry)
-        (store_state (S.files store.old) (S.read_faults store.old) (S.write_faults store.old))
-        (store_state (S.files store.new) (S.read_faults store.new) (S.write_faults store.new)) result }
-    ensures reads { S.read_faults store.old ≤ S.read_faults store.new }
-    ensures writes { S.write_faults store.old ≤ S.write_faults store.new }
+/// Compiles the source into the image and the report.
+pub fn make_compiled<'a>(
+    alloc: Global,
+    names: CompileNames<'a>,
+    source: Items<u8>,
+) -> Result<Made<'a>, Status>
+    ensures { MatchResult result (λ m. IsEnd m.status × MakesImage (compile_names names.entry) source (outputs_of m))
+        (λ s. (s ≡ status.Memory) ⊎ (IsRefusal s × RefusesSource source s)) }
 {
-    let bytes = match read_all(alloc, store, names.source, SOURCE_MOST) {
-        Ok(Reading::Whole(bytes)) => bytes,
-        Ok(Reading::TooLong) => return Outcome::Form,
-        Err(Fault::Failed) => return Outcome::ReadFault,
-        Err(Fault::Memory) => return Outcome::Memory,
-    };
-    match compile(alloc, &bytes) {
-        Ok(Some(artifact)) => write_files(store, names.image, names.report, &artifact),
-        Ok(None) => Outcome::Form,
-        Err(_) => Outcome::Memory,
+    match compile(alloc, source.as_slice()) {
+        Ok(Some(artifact)) => match outputs(alloc, names, artifact) {
+            Ok(made) => Ok(made),
+            Err(_) => Err(Status::Memory),
+        },
+        Ok(None) => Err(Status::Form),
+        Err(_) => Err(Status::Memory),
     }
 }

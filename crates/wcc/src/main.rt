@@ -11,18 +11,25 @@
 
 mod artifact;
 mod compile;
+mod contents;
 mod files;
+mod finish;
+mod gather;
+mod laws;
 mod lines;
-mod outcome;
+mod make;
 mod plain;
 mod printing;
 mod run;
+mod status_lines;
 mod straight;
 #[cfg(test)]
 mod tests;
 mod top;
 mod words;
 
+pub use laws::{exit_is_done, plain_source_is_done};
+use status_lines::report_status;
 use std::alloc::Global;
 use std::process::ExitCode;
 use std::rt::Env;
@@ -45,13 +52,12 @@ fn words_of<R: AllocGlobal + Env>(rt: &R, alloc: Global) -> Result<Vec<String>, 
 
 fn main(rt: HostRuntime) -> ExitCode {
     let alloc = rt.alloc();
-    let Ok(words) = words_of(&rt, alloc) else {
-        return ExitCode::from(Status::Memory.code());
-    };
-    let Ok(files) = rt.clone() else {
-        return ExitCode::from(Status::Memory.code());
-    };
-    let mut store = FsStore::new(files, alloc);
+    let words = words_of(&rt, alloc);
+    let files: Result<_, _> = rt.clone();
     let mut out = OutSink::new(rt);
-    ExitCode::from(wcc(alloc, &words, &mut store, &mut out).code())
+    let status = match (words, files) {
+        (Ok(words), Ok(files)) => wcc(alloc, &words, &mut FsStore::new(files, alloc), &mut out),
+        _ => report_status(&mut out, Status::Memory),
+    };
+    ExitCode::from(status.code())
 }

@@ -1,26 +1,26 @@
 // The command `run IMAGE INPUT OUTPUT`.
-ghost use Rattle.std.specs.Prelude.{◌≡◌, ◌≤◌, MatchResult};
+ghost use Rattle.std.specs.Prelude.{◌≡◌, ◌⊎◌, IfOk, MatchResult};
+ghost use Rattle.wcc_base.specs.declared.status.Status.TheVariants as status;
 ghost use Rattle.wcc.specs.Asked.{run_names};
-ghost use Rattle.wcc.specs.States.{store_state};
-ghost use Rattle.wcc.specs.Simulated.{Simulates, SaysRan};
-ghost use Rattle.wcc.specs.Runnings.{StopsAs, SaysOutput};
+ghost use Rattle.wcc.specs.Ends.{IsEnd, IsRefusal};
+ghost use Rattle.wcc.specs.Running.{Simulates, StopsAs, RefusesImage, MakesOutput, run_status, ran_outputs, fault_number, fault_index};
+ghost use Rattle.wcc.specs.Outputs.{outputs_of};
 
-use crate::files::{Reading, read_all, write_all};
-use crate::outcome::Outcome;
+use crate::lines::run_line;
+use crate::make::{Made, Output};
 use crate::words::RunNames;
 use elf_image::{ElfFault, read};
 use rv_core::default_costs;
 use rv_sim::{Ending, Machine};
 use std::alloc::Global;
-use wcc_base::{Bound, Fault, Store};
-
-const IMAGE_MOST: usize = 16_777_216;
-
-const INPUT_MOST: usize = 16_777_216;
+use wcc_base::{Items, Memory, Status};
 
 const CYCLES_MOST: u64 = 1_000_000_000;
 
 const OUTPUT_MOST: u32 = 16_777_216;
+
+// The code of a refusal of an image.
+const NO_IMAGE: u8 = 10;
 
 /// A machine that has run, and how its run ended.
 #[derive(Drop)]
@@ -46,48 +46,86 @@ fn simulate(alloc: Global, image: &[u8], input: Vec<u8>) -> Result<Ran, ElfFault
     }
 }
 
-// Writes what the machine has put, at each ending.
-fn write_output<S: Store>(store: &mut S, name: &str, ran: &Ran) -> Outcome
-    ensures files { SaysOutput name.now ran.now.machine ran.now.ending
-        (store_state (S.files store.old) (S.read_faults store.old) (S.write_faults store.old))
-        (store_state (S.files store.new) (S.read_faults store.new) (S.write_faults store.new)) result }
-    ensures reads { S.read_faults store.new ≡ S.read_faults store.old }
-    ensures writes { S.write_faults store.old ≤ S.write_faults store.new }
+// The status of a run.
+fn run_status(ending: Ending, pc: u32, cycles: u64) -> Status
+    ensures { result ≡ run_status ending pc cycles }
 {
-    match write_all(store, name, ran.machine.output()) {
-        Ok(()) => Outcome::Ran {
-            ending: ran.ending,
-            pc: ran.machine.pc(),
-            cycles: ran.machine.cycles(),
+    match ending {
+        Ending::Exit { .. } => Status::Done,
+        Ending::Trap { pc: at, kind } => Status::Stopped {
+            kind: 1,
+            code: kind,
+            at,
+            cycles,
         },
-        Err(Fault::Failed) => Outcome::WriteFault,
-        Err(Fault::Memory) => Outcome::Memory,
+        Ending::CycleLimit => Status::Stopped {
+            kind: 2,
+            code: 0,
+            at: pc,
+            cycles,
+        },
+        Ending::OutputFull => Status::Stopped {
+            kind: 3,
+            code: 0,
+            at: pc,
+            cycles,
+        },
     }
 }
 
-/// Runs the image on the input with the default costs, and writes its output.
-pub fn run_files<S: Store>(alloc: Global, store: &mut S, names: RunNames) -> Outcome
-    ensures says { SaysRan (run_names names.entry)
-        (store_state (S.files store.old) (S.read_faults store.old) (S.write_faults store.old))
-        (store_state (S.files store.new) (S.read_faults store.new) (S.write_faults store.new)) result }
-    ensures reads { S.read_faults store.old ≤ S.read_faults store.new }
-    ensures writes { S.write_faults store.old ≤ S.write_faults store.new }
+// The status of a file that is no image.
+fn no_image(fault: ElfFault) -> Status
+    ensures { result ≡ status.Refused 10 (fault_number fault) (fault_index fault) }
 {
-    let image = match read_all(alloc, store, names.image, IMAGE_MOST) {
-        Ok(Reading::Whole(bytes)) => bytes,
-        Ok(Reading::TooLong) => return Outcome::TooLong(Bound::Image),
-        Err(Fault::Failed) => return Outcome::ReadFault,
-        Err(Fault::Memory) => return Outcome::Memory,
+    let (detail, at) = match fault {
+        ElfFault::NotElf => (1, 0),
+        ElfFault::WrongMachine => (2, 0),
+        ElfFault::BadSegment { index } => (3, index),
+        ElfFault::Memory => (4, 0),
     };
-    let input = match read_all(alloc, store, names.input, INPUT_MOST) {
-        Ok(Reading::Whole(bytes)) => bytes,
-        Ok(Reading::TooLong) => return Outcome::TooLong(Bound::Input),
-        Err(Fault::Failed) => return Outcome::ReadFault,
-        Err(Fault::Memory) => return Outcome::Memory,
-    };
-    match simulate(alloc, &image, input) {
-        Ok(ran) => write_output(store, names.output, &ran),
-        Err(ElfFault::Memory) => Outcome::Memory,
-        Err(fault) => Outcome::NoImage(fault),
+    Status::Refused {
+        code: NO_IMAGE,
+        detail,
+        at,
+    }
+}
+
+// The output, whatever the ending.
+fn outputs<'a>(alloc: Global, names: RunNames<'a>, ran: Ran) -> Result<Made<'a>, Memory>
+    ensures { IfOk result (λ m. outputs_of m ≡ ran_outputs (run_names names.entry) ran.machine ran.ending) }
+{
+    let ending = ran.ending;
+    let pc = ran.machine.pc();
+    let cycles = ran.machine.cycles();
+    let lines = run_line(alloc, ending, pc, cycles)?;
+    let mut files = Vec::new(alloc);
+    files.push(Output {
+        name: names.output,
+        bytes: Items::new(ran.machine.into_output()),
+    })?;
+    Ok(Made {
+        status: run_status(ending, pc, cycles),
+        files,
+        lines,
+    })
+}
+
+/// Runs the image on the input with the default costs.
+pub fn make_run<'a>(
+    alloc: Global,
+    names: RunNames<'a>,
+    contents: (Items<u8>, Items<u8>),
+) -> Result<Made<'a>, Status>
+    ensures { MatchResult result (λ m. IsEnd m.status × MakesOutput (run_names names.entry) contents.0 contents.1 (outputs_of m))
+        (λ s. (s ≡ status.Memory) ⊎ (IsRefusal s × RefusesImage contents.0 s)) }
+{
+    let (image, input) = contents;
+    match simulate(alloc, image.as_slice(), input.into_vec()) {
+        Ok(ran) => match outputs(alloc, names, ran) {
+            Ok(made) => Ok(made),
+            Err(_) => Err(Status::Memory),
+        },
+        Err(ElfFault::Memory) => Err(Status::Memory),
+        Err(fault) => Err(no_image(fault)),
     }
 }

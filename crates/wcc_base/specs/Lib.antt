@@ -1,5 +1,6 @@
 pub mod Outside
 pub mod FileList
+pub mod States
 pub mod Failing
 pub mod Limits
 pub mod StatusCode

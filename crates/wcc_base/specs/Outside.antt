@@ -1,11 +1,11 @@
 -- The outside as contracts see it: files by name, what a sink has taken, and the counts of their faults.
-use Rattle.std.specs.Prelude.{◌≡◌, ℕ, ◌+◌, ◌-◌, ◌^◌, ◌≤◌, min, List, [], ◌∷◌, ◌++◌, length, take, drop, Option, Some, None, Result, IsErrOf, unwrap_or, if◌then◌else◌}
+use Rattle.std.specs.Prelude.{◌≡◌, ℕ, ◌+◌, ◌-◌, ◌^◌, ◌≤◌, min, List, [], ◌∷◌, ◌++◌, length, take, drop, Option, Some, None, Result, Ok, Err, IsErrOf, unwrap_or, if◌then◌else◌}
 use Rattle.std.specs.Option.{option_map}
 use Rattle.std.specs.Str.{bytes_eq}
 use Rattle.wcc_base.specs.declared.outside.Fault.{Fault}
-use Rattle.wcc_base.specs.declared.outside.Fault.TheVariants.{Failed}
+use Rattle.wcc_base.specs.declared.outside.Fault.TheVariants.{Failed, Memory}
 
--- files as a list of names with their bytes
+-- files as a list of names with their bytes, in the order in which they were created
 abbrev pub Files : Type 0
 Files = List (List ℕ × List ℕ)
 
@@ -35,15 +35,46 @@ told_add name piece o = option_map (λ fs. put_file name (bytes_of fs name ++ pi
 abbrev pub told_append : List ℕ → Option (List ℕ) → Option (List ℕ)
 told_append piece o = option_map (λ w. w ++ piece) o
 
+-- a store at one time: its files, where it tells them, and how often reading and writing have failed
+pub record StoreState : Type 0 where
+  pub files : Option Files
+  pub read_faults : ℕ
+  pub write_faults : ℕ
+
+-- a sink at one time: the bytes that it has taken, where it tells them, and how often it has failed
+pub record SinkState : Type 0 where
+  pub written : Option (List ℕ)
+  pub faults : ℕ
+
 -- n bytes were read from that place of the file, none only at its end or behind it
 pub record Reads (bytes : List ℕ) (at n : ℕ) (buf : List ℕ) : Type 0 where
   pub same : take n buf ≡ take n (drop at bytes)
   pub within : n ≤ length bytes - at
   pub none : n ≡ 0 → length bytes ≤ at
 
+-- a count of 64 bits, raised by one until its last value
+abbrev pub raised : ℕ → ℕ
+raised n = min (n + 1) (2 ^ 64 - 1)
+
+-- a count behind a call: raised where the call answered `Failed`, else as before
+abbrev pub counted : {T : Type 0} → ℕ → Result T Fault → ℕ
+counted n (Ok value) = n
+counted n (Err Failed) = raised n
+counted n (Err Memory) = n
+
+-- the counts behind a call that reads
+pub record CountsRead {T : Type 0} (old new : StoreState) (result : Result T Fault) : Type 0 where
+  pub reads : new.read_faults ≡ counted old.read_faults result
+  pub writes : new.write_faults ≡ old.write_faults
+
+-- the counts behind a call that writes
+pub record CountsWrite {T : Type 0} (old new : StoreState) (result : Result T Fault) : Type 0 where
+  pub reads : new.read_faults ≡ old.read_faults
+  pub writes : new.write_faults ≡ counted old.write_faults result
+
 -- a count has risen, or stands at its last value
 abbrev pub Rose : ℕ → ℕ → Type 0
-Rose before now = min (before + 1) (2 ^ 64 - 1) ≤ now
+Rose before now = raised before ≤ now
 
 -- the count never falls, and `Failed` is told only where it rose
 pub record HasCause {T : Type 0} (before now : ℕ) (result : Result T Fault) : Type 0 where

@@ -1,7 +1,7 @@
 // Files and a sink in memory that never fail.
-ghost use Rattle.std.specs.Prelude.{◌≡◌, ◌<◌, ◌≤◌, ◌<◌, ◌-◌, ◌++◌, ℕ, [], Option, Some, Ok, length, min, IsSome, IfOk, OnErr, IsErrOf, string_bytes};
-ghost use Rattle.wcc_base.specs.Outside.{bytes_of, file_of, put_file, Reads};
-ghost use Rattle.wcc_base.specs.FileList.{told};
+ghost use Rattle.std.specs.Prelude.{◌≡◌, ◌<◌, ◌-◌, ◌++◌, [], Ok, length, min, IsSome, IfOk, OnErr, IsErrOf};
+ghost use Rattle.wcc_base.specs.Outside.{StoreState, SinkState, bytes_of, file_of, put_file, Reads};
+ghost use Rattle.wcc_base.specs.States.{calm_files, calm_store, calm_sink};
 
 use crate::file_list::{add_to, copy_from, empty_file, place};
 use crate::{Fault, Sink, Store};
@@ -25,18 +25,12 @@ impl CalmStore {
 }
 
 impl Store for CalmStore {
-    ghost files = { λ s. Some (told string_bytes (λ v. v.items) s.files.items) };
-
-    ghost read_faults = { λ _. 0 };
-
-    ghost write_faults = { λ _. 0 };
+    ghost state = { calm_store };
 
     fn read_at(&mut self, name: &str, at: u64, buf: &mut [u8]) -> Result<usize, Fault>
         requires { 0 < length buf.old }
-        ensures count { result ≡ Ok (min (length (bytes_of
-            (told string_bytes (λ v. v.items) self.old.files.items) name.now) - at) (length buf.old)) }
-        ensures read { IfOk result (λ n. Reads (bytes_of
-            (told string_bytes (λ v. v.items) self.old.files.items) name.now) at n buf.new) }
+        ensures count { result ≡ Ok (min (length (bytes_of (calm_files self.old) name.now) - at) (length buf.old)) }
+        ensures read { IfOk result (λ n. Reads (bytes_of (calm_files self.old) name.now) at n buf.new) }
         ensures same { self.new.files ≡ self.old.files }
     {
         match place(&self.files, name) {
@@ -54,11 +48,11 @@ impl Store for CalmStore {
 
     fn append(&mut self, name: &str, piece: &[u8]) -> Result<usize, Fault>
         requires some { 0 < length piece.now }
-        requires there { IsSome (file_of (told string_bytes (λ v. v.items) self.old.files.items) name.now) }
+        requires there { IsSome (file_of (calm_files self.old) name.now) }
         ensures count { IfOk result (λ n. n ≡ length piece.now) }
-        ensures ok { IfOk result (λ n. told string_bytes (λ v. v.items) self.new.files.items
-            ≡ put_file name.now (bytes_of (told string_bytes (λ v. v.items) self.old.files.items) name.now ++ piece.now) (told string_bytes (λ v. v.items) self.old.files.items)) }
-        ensures err { OnErr result ((told string_bytes (λ v. v.items) self.new.files.items) ≡ (told string_bytes (λ v. v.items) self.old.files.items)) }
+        ensures ok { IfOk result (λ n. calm_files self.new
+            ≡ put_file name.now (bytes_of (calm_files self.old) name.now ++ piece.now) (calm_files self.old)) }
+        ensures err { OnErr result (calm_files self.new ≡ calm_files self.old) }
         ensures calm { IsErrOf result Fault.Failed → ⊥ }
     {
         add_to(&mut self.files, name, piece)?;
@@ -84,9 +78,7 @@ impl CalmSink {
 }
 
 impl Sink for CalmSink {
-    ghost written = { λ s. Some s.bytes.items };
-
-    ghost faults = { λ _. 0 };
+    ghost state = { calm_sink };
 
     fn put(&mut self, piece: &[u8]) -> Result<usize, Fault>
         ensures whole { IfOk result (λ n. n ≡ length piece.now) }

@@ -1,8 +1,7 @@
 // Files and a sink in memory whose calls fail by a list.
-ghost use Rattle.std.specs.Prelude.{◌≡◌, ◌⊎◌, ◌↔◌, ◌<◌, ◌≤◌, ◌-◌, ◌++◌, ℕ, [], Option, Some, length, take, min, IsTrue, IsErr, IsErrOf, IsNone, IsSome, IfOk, OnOk, OnErr, string_bytes};
-ghost use Rattle.wcc_base.specs.Outside.{bytes_of, file_of, put_file, Reads, HasCause};
-ghost use Rattle.wcc_base.specs.FileList.{told};
-ghost use Rattle.wcc_base.specs.Failing.{raised, NextFails};
+ghost use Rattle.std.specs.Prelude.{◌≡◌, ◌⊎◌, ◌↔◌, ◌<◌, ◌-◌, ◌++◌, [], length, take, min, IsTrue, IsErr, IsErrOf, IsNone, IsSome, IfOk, OnOk, OnErr};
+ghost use Rattle.wcc_base.specs.Outside.{StoreState, SinkState, bytes_of, file_of, put_file, raised, counted, Reads, CountsRead, CountsWrite, HasCause};
+ghost use Rattle.wcc_base.specs.Failing.{NextFails};
 
 use crate::file_list::{add_to, copy_from, empty_file, place};
 use crate::{Fault, Sink, Store};
@@ -56,28 +55,26 @@ fn next_fails(calls: &mut u64, failing: &[u32]) -> bool
 }
 
 impl Store for MemStore {
-    ghost files = { λ s. Some (told string_bytes (λ v. v.items) s.files.items) };
+    ghost use Rattle.wcc_base.specs.States.{mem_files, mem_store};
 
-    ghost read_faults = { λ s. s.read_failures };
-
-    ghost write_faults = { λ s. s.write_failures };
+    ghost state = { mem_store };
 
     fn read_at(&mut self, name: &str, at: u64, buf: &mut [u8]) -> Result<usize, Fault>
         requires { 0 < length buf.old }
         ensures fails { IsErr result ↔ (NextFails self.old.calls self.old.failing.items
-            ⊎ IsNone (file_of (told string_bytes (λ v. v.items) self.old.files.items) name.now)) }
+            ⊎ IsNone (file_of (mem_files self.old) name.now)) }
         ensures no_want { IsErrOf result Fault.Memory → ⊥ }
         ensures count { IfOk result (λ n. n ≡ min (min (length (bytes_of
-            (told string_bytes (λ v. v.items) self.old.files.items) name.now) - at)
+            (mem_files self.old) name.now) - at)
             (length buf.old)) self.old.step) }
         ensures read { IfOk result (λ n. Reads (bytes_of
-            (told string_bytes (λ v. v.items) self.old.files.items) name.now) at n buf.new) }
+            (mem_files self.old) name.now) at n buf.new) }
         ensures same { self.new.files ≡ self.old.files }
         ensures calls { self.new.calls ≡ raised self.old.calls }
         ensures step { self.new.step ≡ self.old.step }
         ensures failing { self.new.failing ≡ self.old.failing }
+        ensures counts { CountsRead (mem_store self.old) (mem_store self.new) result }
         ensures cause { HasCause self.old.read_failures self.new.read_failures result }
-        ensures other_faults { self.new.write_failures ≡ self.old.write_failures }
     {
         let fails = next_fails(&mut self.calls, &self.failing);
         match place(&self.files, name) {
@@ -91,14 +88,14 @@ impl Store for MemStore {
 
     fn begin(&mut self, name: &str) -> Result<(), Fault>
         ensures fails { IsErrOf result Fault.Failed ↔ NextFails self.old.calls self.old.failing.items }
-        ensures ok { OnOk result (told string_bytes (λ v. v.items) self.new.files.items
-            ≡ put_file name.now [] (told string_bytes (λ v. v.items) self.old.files.items)) }
+        ensures ok { OnOk result (mem_files self.new
+            ≡ put_file name.now [] (mem_files self.old)) }
         ensures err { OnErr result (self.new.files.items ≡ self.old.files.items) }
         ensures calls { self.new.calls ≡ raised self.old.calls }
         ensures step { self.new.step ≡ self.old.step }
         ensures failing { self.new.failing ≡ self.old.failing }
+        ensures counts { CountsWrite (mem_store self.old) (mem_store self.new) result }
         ensures cause { HasCause self.old.write_failures self.new.write_failures result }
-        ensures other_faults { self.new.read_failures ≡ self.old.read_failures }
     {
         if next_fails(&mut self.calls, &self.failing) {
             self.write_failures = self.write_failures.saturating_add(1);
@@ -112,17 +109,17 @@ impl Store for MemStore {
 
     fn append(&mut self, name: &str, piece: &[u8]) -> Result<usize, Fault>
         requires some { 0 < length piece.now }
-        requires there { IsSome (file_of (told string_bytes (λ v. v.items) self.old.files.items) name.now) }
+        requires there { IsSome (file_of (mem_files self.old) name.now) }
         ensures fails { IsErrOf result Fault.Failed ↔ NextFails self.old.calls self.old.failing.items }
         ensures count { IfOk result (λ n. n ≡ min (length piece.now) self.old.step) }
-        ensures ok { IfOk result (λ n. told string_bytes (λ v. v.items) self.new.files.items
-            ≡ put_file name.now (bytes_of (told string_bytes (λ v. v.items) self.old.files.items) name.now ++ take n piece.now) (told string_bytes (λ v. v.items) self.old.files.items)) }
-        ensures err { OnErr result (told string_bytes (λ v. v.items) self.new.files.items ≡ told string_bytes (λ v. v.items) self.old.files.items) }
+        ensures ok { IfOk result (λ n. mem_files self.new
+            ≡ put_file name.now (bytes_of (mem_files self.old) name.now ++ take n piece.now) (mem_files self.old)) }
+        ensures err { OnErr result (mem_files self.new ≡ mem_files self.old) }
         ensures calls { self.new.calls ≡ raised self.old.calls }
         ensures step { self.new.step ≡ self.old.step }
         ensures failing { self.new.failing ≡ self.old.failing }
+        ensures counts { CountsWrite (mem_store self.old) (mem_store self.new) result }
         ensures cause { HasCause self.old.write_failures self.new.write_failures result }
-        ensures other_faults { self.new.read_failures ≡ self.old.read_failures }
     {
         if next_fails(&mut self.calls, &self.failing) {
             self.write_failures = self.write_failures.saturating_add(1);
@@ -162,9 +159,9 @@ impl MemSink {
 }
 
 impl Sink for MemSink {
-    ghost written = { λ s. Some s.bytes.items };
+    ghost use Rattle.wcc_base.specs.States.{mem_sink};
 
-    ghost faults = { λ s. s.failures };
+    ghost state = { mem_sink };
 
     fn put(&mut self, piece: &[u8]) -> Result<usize, Fault>
         ensures fails { IsErrOf result Fault.Failed ↔ NextFails self.old.calls self.old.failing.items }
@@ -173,6 +170,7 @@ impl Sink for MemSink {
         ensures err { OnErr result (self.new.bytes.items ≡ self.old.bytes.items) }
         ensures calls { self.new.calls ≡ raised self.old.calls }
         ensures failing { self.new.failing ≡ self.old.failing }
+        ensures counts { self.new.failures ≡ counted self.old.failures result }
         ensures cause { HasCause self.old.failures self.new.failures result }
     {
         if next_fails(&mut self.calls, &self.failing) {

@@ -1,6 +1,6 @@
 // Files, and a stream of bytes, by what they hold and how often they have failed.
-ghost use Rattle.std.specs.Prelude.{◌≡◌, ◌⊎◌, ◌<◌, ◌≤◌, [], ℕ, List, Option, length, take, IsSome, IfSome, IfOk, OnOk, OnErr};
-ghost use Rattle.wcc_base.specs.Outside.{Files, file_of, bytes_of, told_put, told_add, told_append, Reads, HasCause};
+ghost use Rattle.std.specs.Prelude.{◌≡◌, ◌⊎◌, ◌<◌, ◌≤◌, [], length, take, IsSome, IfSome, IfOk, OnOk, OnErr};
+ghost use Rattle.wcc_base.specs.Outside.{StoreState, SinkState, file_of, bytes_of, told_put, told_add, told_append, Reads, HasCause};
 
 /// Why a call of a store or a sink was refused.
 #[derive(Clone, Copy, Debug, PartialEq, Eq)]
@@ -13,58 +13,49 @@ pub enum Fault {
 
 /// Files by name. No call changes another file than the named one.
 pub trait Store {
-    /// The files, where the store tells them.
-    ghost files: { Self → Option Files };
-
-    /// How often reading has failed.
-    ghost read_faults: { Self → ℕ };
-
-    /// How often writing has failed.
-    ghost write_faults: { Self → ℕ };
+    /// The files, where the store tells them, and how often reading and writing have failed.
+    ghost state: { Self → StoreState };
 
     /// Reads from a place of a file into the front of the buffer, and says how many bytes. None are
     /// read only at the end of the file or behind it. An absent file gives a fault or no bytes.
     fn read_at(&mut self, name: &str, at: u64, buf: &mut [u8]) -> Result<usize, Fault>
         requires { 0 < length buf.old }
         ensures bound { IfOk result (λ n. n ≤ length buf.old) }
-        ensures read { IfOk result (λ n. IfSome (files self.old)
+        ensures read { IfOk result (λ n. IfSome (state self.old).files
             (λ fs. Reads (bytes_of fs name.now) at n buf.new)) }
-        ensures same { files self.new ≡ files self.old }
-        ensures cause { HasCause (read_faults self.old) (read_faults self.new) result }
-        ensures other_faults { write_faults self.new ≡ write_faults self.old };
+        ensures same { (state self.new).files ≡ (state self.old).files }
+        ensures cause { HasCause (state self.old).read_faults (state self.new).read_faults result }
+        ensures other_faults { (state self.new).write_faults ≡ (state self.old).write_faults };
 
     /// Makes the file empty, new or not. After a refusal it is as before or empty.
     fn begin(&mut self, name: &str) -> Result<(), Fault>
-        ensures ok { OnOk result (files self.new ≡ told_put name.now [] (files self.old)) }
-        ensures err { OnErr result ((files self.new ≡ files self.old)
-            ⊎ (files self.new ≡ told_put name.now [] (files self.old))) }
-        ensures cause { HasCause (write_faults self.old) (write_faults self.new) result }
-        ensures other_faults { read_faults self.new ≡ read_faults self.old };
+        ensures ok { OnOk result ((state self.new).files ≡ told_put name.now [] (state self.old).files) }
+        ensures err { OnErr result (((state self.new).files ≡ (state self.old).files)
+            ⊎ ((state self.new).files ≡ told_put name.now [] (state self.old).files)) }
+        ensures cause { HasCause (state self.old).write_faults (state self.new).write_faults result }
+        ensures other_faults { (state self.new).read_faults ≡ (state self.old).read_faults };
 
     /// Adds the first bytes of the piece to the file, at least one, and says how many.
     fn append(&mut self, name: &str, piece: &[u8]) -> Result<usize, Fault>
         requires some { 0 < length piece.now }
-        requires there { IfSome (files self.old) (λ fs. IsSome (file_of fs name.now)) }
+        requires there { IfSome (state self.old).files (λ fs. IsSome (file_of fs name.now)) }
         ensures bound { IfOk result (λ n. (0 < n) × (n ≤ length piece.now)) }
-        ensures ok { IfOk result (λ n. files self.new ≡ told_add name.now (take n piece.now) (files self.old)) }
-        ensures err { OnErr result (files self.new ≡ files self.old) }
-        ensures cause { HasCause (write_faults self.old) (write_faults self.new) result }
-        ensures other_faults { read_faults self.new ≡ read_faults self.old };
+        ensures ok { IfOk result (λ n. (state self.new).files ≡ told_add name.now (take n piece.now) (state self.old).files) }
+        ensures err { OnErr result ((state self.new).files ≡ (state self.old).files) }
+        ensures cause { HasCause (state self.old).write_faults (state self.new).write_faults result }
+        ensures other_faults { (state self.new).read_faults ≡ (state self.old).read_faults };
 }
 
 /// A stream that takes bytes.
 pub trait Sink {
-    /// The bytes taken, where the sink tells them.
-    ghost written: { Self → Option (List ℕ) };
-
-    /// How often it has failed.
-    ghost faults: { Self → ℕ };
+    /// The bytes taken, where the sink tells them, and how often it has failed.
+    ghost state: { Self → SinkState };
 
     /// Takes the first bytes of the piece, at least one, and says how many.
     fn put(&mut self, piece: &[u8]) -> Result<usize, Fault>
         requires { 0 < length piece.now }
         ensures bound { IfOk result (λ n. (0 < n) × (n ≤ length piece.now)) }
-        ensures ok { IfOk result (λ n. written self.new ≡ told_append (take n piece.now) (written self.old)) }
-        ensures err { OnErr result (written self.new ≡ written self.old) }
-        ensures cause { HasCause (faults self.old) (faults self.new) result };
+        ensures ok { IfOk result (λ n. (state self.new).written ≡ told_append (take n piece.now) (state self.old).written) }
+        ensures err { OnErr result ((state self.new).written ≡ (state self.old).written) }
+        ensures cause { HasCause (state self.old).faults (state self.new).faults result };
 }

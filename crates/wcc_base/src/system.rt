@@ -1,6 +1,6 @@
 // The adapters over real files and the standard output: the trusted edge. They tell no content.
 ghost use Rattle.std.specs.Prelude.{◌≡◌, ◌<◌, ◌≤◌, None, length, IfOk, IsErrOf};
-ghost use Rattle.wcc_base.specs.Outside.{HasCause};
+ghost use Rattle.wcc_base.specs.Outside.{StoreState, SinkState, counted, HasCause};
 
 use crate::{Fault, Sink, Store};
 use std::alloc::Global;
@@ -56,13 +56,15 @@ fn append_piece<R: Runtime>(rt: &R, name: &str, piece: &[u8]) -> io::Result<usiz
 }
 
 impl<R: Runtime> Store for FsStore<R> {
-    ghost files = { λ _. None };
+    ghost state = { λ s. record { files = None; read_faults = s.read_failures; write_faults = s.write_failures } };
 
-    ghost read_faults = { λ s. s.read_failures };
-
-    ghost write_faults = { λ s. s.write_failures };
-
-    fn read_at(&mut self, name: &str, at: u64, buf: &mut [u8]) -> Result<usize, Fault> {
+    fn read_at(&mut self, name: &str, at: u64, buf: &mut [u8]) -> Result<usize, Fault>
+        requires { 0 < length buf.old }
+        ensures bound { IfOk result (λ n. n ≤ length buf.old) }
+        ensures reads { self.new.read_failures ≡ counted self.old.read_failures result }
+        ensures writes { self.new.write_failures ≡ self.old.write_failures }
+        ensures cause { HasCause self.old.read_failures self.new.read_failures result }
+    {
         match read_piece(&self.rt, name, at, buf) {
             Ok(count) => Ok(count),
             Err(_) => {
@@ -72,7 +74,11 @@ impl<R: Runtime> Store for FsStore<R> {
         }
     }
 
-    fn begin(&mut self, name: &str) -> Result<(), Fault> {
+    fn begin(&mut self, name: &str) -> Result<(), Fault>
+        ensures reads { self.new.read_failures ≡ self.old.read_failures }
+        ensures writes { self.new.write_failures ≡ counted self.old.write_failures result }
+        ensures cause { HasCause self.old.write_failures self.new.write_failures result }
+    {
         match make_empty(&self.rt, name) {
             Ok(()) => Ok(()),
             Err(_) => {
@@ -82,7 +88,13 @@ impl<R: Runtime> Store for FsStore<R> {
         }
     }
 
-    fn append(&mut self, name: &str, piece: &[u8]) -> Result<usize, Fault> {
+    fn append(&mut self, name: &str, piece: &[u8]) -> Result<usize, Fault>
+        requires { 0 < length piece.now }
+        ensures bound { IfOk result (λ n. (0 < n) × (n ≤ length piece.now)) }
+        ensures reads { self.new.read_failures ≡ self.old.read_failures }
+        ensures writes { self.new.write_failures ≡ counted self.old.write_failures result }
+        ensures cause { HasCause self.old.write_failures self.new.write_failures result }
+    {
         match append_piece(&self.rt, name, piece) {
             Ok(count) if count > 0 => Ok(count),
             _ => {
@@ -110,15 +122,14 @@ impl<R: Runtime> OutSink<R> {
 }
 
 impl<R: Runtime> Sink for OutSink<R> {
-    ghost written = { λ _. None };
-
-    ghost faults = { λ s. s.failures };
+    ghost state = { λ s. record { written = None; faults = s.failures } };
 
     /// Writes to the standard output. It takes no memory.
     fn put(&mut self, piece: &[u8]) -> Result<usize, Fault>
         requires { 0 < length piece.now }
         ensures bound { IfOk result (λ n. (0 < n) × (n ≤ length piece.now)) }
         ensures no_want { IsErrOf result Fault.Memory → ⊥ }
+        ensures counts { self.new.failures ≡ counted self.old.failures result }
         ensures cause { HasCause self.old.failures self.new.failures result }
     {
         match io::writer(&self.rt).write(piece) {

@@ -1,0 +1,23 @@
+// The contents of the files of a command, taken apart.
+ghost use Rattle.std.specs.Prelude.{◌≡◌, [], ◌∷◌, length};
+
+use wcc_base::Items;
+
+/// The one file's contents.
+pub fn one(contents: Vec<Items<u8>>) -> Items<u8>
+    requires { length contents.items ≡ 1 }
+    ensures { contents.items ≡ result ∷ [] }
+{
+    let mut contents = contents;
+    contents.pop().unwrap()
+}
+
+/// Both files' contents.
+pub fn two(contents: Vec<Items<u8>>) -> (Items<u8>, Items<u8>)
+    requires { length contents.items ≡ 2 }
+    ensures { contents.items ≡ result.0 ∷ result.1 ∷ [] }
+{
+    let mut contents = contents;
+    let second = contents.pop().unwrap();
+    (one(contents), second)
+}
