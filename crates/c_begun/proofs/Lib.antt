@@ -1,6 +1,3 @@
-pub mod NamedSizes
-pub mod NamedTrees
-pub mod Overs
 pub mod PartDepths
-pub mod PartLists
-pub mod Passing
+pub mod Deeper
+pub mod SameDepths

@@ -1,20 +1,130 @@
+ghost use Rattle.std.specs.Prelude.{◌≡◌, IfErr, IfOk};
+ghost use Rattle.c_begun.specs.declared.refusal.Refusal.TheVariants.{Memory, Syntax};
+
 use super::part::{
     ExternalParts, ItemParts, MaybePart, ObjectPart, ObjectParts, ParamParts, Part, Parts,
     ShapePart, StartPart, StatementPart,
 };
+use super::refusal::Refusal;
 use c_tree::expression::{AssignOperator, BinaryOperator, NameId, PrefixOperator, Specifier};
-use c_tree::statement::LoopBound;
+use c_tree::pragma::Pragma;
+use std::alloc::Global;
+
+/// A name, at its place.
+#[derive(Clone, Copy, Debug, PartialEq, Eq)]
+pub struct NameAt {
+    pub name: NameId,
+    pub at: u32,
+}
 
 /// The header of a function definition, behind what stands before it at file level.
 #[derive(Drop)]
 pub struct Header {
     pub specifiers: Vec<Specifier>,
-    pub name: NameId,
-    pub name_at: u32,
+    pub name: NameAt,
     pub params: ParamParts,
     pub body_at: u32,
     pub at: u32,
     pub front: ExternalParts,
+}
+
+/// A loop by its keyword's place and the pragma before it.
+#[derive(Drop)]
+pub struct Loop {
+    pub bound: Option<Pragma>,
+    pub at: u32,
+}
+
+/// A `for` behind the first part of its head.
+#[derive(Drop)]
+pub struct StartedFor {
+    pub bound: Option<Pragma>,
+    pub start: StartPart,
+    pub at: u32,
+}
+
+/// A `for` behind the test in its head.
+#[derive(Drop)]
+pub struct TestedFor {
+    pub bound: Option<Pragma>,
+    pub start: StartPart,
+    pub test: MaybePart,
+    pub at: u32,
+}
+
+/// A `for` behind its head.
+#[derive(Drop)]
+pub struct HeadedFor {
+    pub bound: Option<Pragma>,
+    pub start: StartPart,
+    pub test: MaybePart,
+    pub step: MaybePart,
+    pub at: u32,
+}
+
+impl Loop {
+    /// A `for` behind the first part of its head.
+    pub fn started(self, start: StartPart) -> StartedFor
+        ensures bound { result.bound ≡ self.bound }
+        ensures start { result.start ≡ start }
+        ensures at { result.at ≡ self.at }
+    {
+        StartedFor {
+            bound: self.bound,
+            start,
+            at: self.at,
+        }
+    }
+}
+
+impl StartedFor {
+    pub fn let_go(self) {
+        drop(self);
+    }
+
+    /// The same behind its test.
+    pub fn tested(self, test: MaybePart) -> TestedFor
+        ensures bound { result.bound ≡ self.bound }
+        ensures start { result.start ≡ self.start }
+        ensures test { result.test ≡ test }
+        ensures at { result.at ≡ self.at }
+    {
+        TestedFor {
+            bound: self.bound,
+            start: self.start,
+            test,
+            at: self.at,
+        }
+    }
+}
+
+impl TestedFor {
+    pub fn let_go(self) {
+        drop(self);
+    }
+
+    /// The same behind its head.
+    pub fn headed(self, step: MaybePart) -> HeadedFor
+        ensures bound { result.bound ≡ self.bound }
+        ensures start { result.start ≡ self.start }
+        ensures test { result.test ≡ self.test }
+        ensures step { result.step ≡ step }
+        ensures at { result.at ≡ self.at }
+    {
+        HeadedFor {
+            bound: self.bound,
+            start: self.start,
+            test: self.test,
+            step,
+            at: self.at,
+        }
+    }
+}
+
+impl HeadedFor {
+    pub fn let_go(self) {
+        drop(self);
+    }
 }
 
 /// What a statement stands in.
@@ -22,19 +132,35 @@ pub struct Header {
 #[derive(Drop)]
 pub enum Frames {
     InItems(ItemParts, Box<Braces>),
-    InThen(Part, u32, Box<Frames>),
-    InElse(Part, StatementPart, u32, Box<Frames>),
-    InWhile(Option<LoopBound>, Part, u32, Box<Frames>),
-    InDo(Option<LoopBound>, u32, Box<Frames>),
-    InFor(Option<LoopBound>, StartPart, MaybePart, MaybePart, u32, Box<Frames>),
+    InThen {
+        test: Part,
+        at: u32,
+        under: Box<Frames>,
+    },
+    InElse {
+        test: Part,
+        first: StatementPart,
+        at: u32,
+        under: Box<Frames>,
+    },
+    InWhile(Loop, Part, Box<Frames>),
+    InDo(Loop, Box<Frames>),
+    InFor(HeadedFor, Box<Frames>),
 }
 
 /// What the items between braces belong to.
 #[cycle(frames)]
 #[derive(Drop)]
 pub enum Braces {
-    OfBlock(u32, Box<Frames>),
-    OfSwitch(Part, u32, Box<Frames>),
+    OfBlock {
+        at: u32,
+        under: Box<Frames>,
+    },
+    OfSwitch {
+        test: Part,
+        at: u32,
+        under: Box<Frames>,
+    },
     OfFunction(Header),
 }
 
@@ -43,7 +169,7 @@ pub enum Braces {
 pub enum Scope {
     AtFile(ExternalParts),
     AmongItems(ItemParts, Box<Braces>),
-    AtFor(Option<LoopBound>, u32, Box<Frames>),
+    AtFor(Loop, Box<Frames>),
 }
 
 /// A declaration of objects, as far as they are whole.
@@ -55,60 +181,110 @@ pub struct Head {
     pub scope: Scope,
 }
 
-/// A function's specifiers, its name and the places of both.
+/// A function's specifiers and its name, at the place of the first specifier.
 #[derive(Drop)]
 pub struct Proto {
     pub specifiers: Vec<Specifier>,
-    pub name: NameId,
-    pub name_at: u32,
+    pub name: NameAt,
     pub at: u32,
     pub scope: Scope,
+}
+
+/// A parameter behind its name, or behind its specifiers where it has none.
+#[derive(Drop)]
+pub struct NamedParam {
+    pub proto: Proto,
+    pub front: ParamParts,
+    pub specifiers: Vec<Specifier>,
+    pub name: Option<NameId>,
+    pub at: u32,
 }
 
 /// What may have a size.
 #[derive(Drop)]
 pub enum Declarator {
-    OfObject(Head, NameId, u32),
-    OfParam(Proto, ParamParts, Vec<Specifier>, Option<NameId>, u32),
+    OfObject(Head, NameAt),
+    OfParam(NamedParam),
+}
+
+/// An object whose initial value is read, behind those of its declaration that are whole.
+#[derive(Drop)]
+pub struct Receiver {
+    pub head: Head,
+    pub name: NameAt,
+    pub shape: ShapePart,
 }
 
 /// What a test in round brackets belongs to.
 #[derive(Drop)]
 pub enum Test {
-    OfIf(u32, Box<Frames>),
-    OfWhile(Option<LoopBound>, u32, Box<Frames>),
-    OfDo(Option<LoopBound>, StatementPart, u32, Box<Frames>),
-    OfChoice(u32, Box<Frames>),
+    OfIf { at: u32, under: Box<Frames> },
+    OfWhile(Loop, Box<Frames>),
+    OfDo(Loop, StatementPart, Box<Frames>),
+    OfChoice { at: u32, under: Box<Frames> },
 }
 
 /// What a whole expression stands in.
 #[derive(Drop)]
 pub enum Purpose {
     Evaluates(Box<Frames>),
-    Returns(u32, Box<Frames>),
+    Returns {
+        at: u32,
+        under: Box<Frames>,
+    },
     Tests(Test),
-    Starts(Option<LoopBound>, u32, Box<Frames>),
-    Bounds(Option<LoopBound>, StartPart, u32, Box<Frames>),
-    Repeats(Option<LoopBound>, StartPart, MaybePart, u32, Box<Frames>),
+    Starts(Loop, Box<Frames>),
+    Guards(StartedFor, Box<Frames>),
+    Repeats(TestedFor, Box<Frames>),
     Sizes(Declarator),
-    Initialises(Head, NameId, ShapePart, u32),
-    Lists(Head, NameId, ShapePart, Parts, u32),
-    Labels(ItemParts, Box<Braces>, u32),
+    Initialises(Receiver),
+    Lists(Receiver, Parts),
+    Labels {
+        front: ItemParts,
+        braces: Box<Braces>,
+        at: u32,
+    },
 }
 
 /// What an operand stands in, the innermost part first.
 #[derive(Drop)]
 pub enum Stack {
     Base(Purpose),
-    InParen(u32, Box<Stack>),
-    InIndex(NameId, u32, Box<Stack>),
-    InCall(NameId, u32, Parts, Box<Stack>),
-    AfterPrefix(PrefixOperator, u32, Box<Stack>),
-    AfterCast(Vec<Specifier>, u32, Box<Stack>),
-    AfterJoin(BinaryOperator, Part, Box<Stack>),
-    InChoice(Part, Box<Stack>),
-    AfterColon(Part, Part, Box<Stack>),
-    AfterAssign(AssignOperator, Part, Box<Stack>),
+    InParen {
+        at: u32,
+        under: Box<Stack>,
+    },
+    InIndex(NameAt, Box<Stack>),
+    InCall(NameAt, Parts, Box<Stack>),
+    AfterPrefix {
+        operator: PrefixOperator,
+        at: u32,
+        under: Box<Stack>,
+    },
+    AfterCast {
+        specifiers: Vec<Specifier>,
+        at: u32,
+        under: Box<Stack>,
+    },
+    AfterJoin {
+        operator: BinaryOperator,
+        left: Part,
+        under: Box<Stack>,
+    },
+    AfterQuestion {
+        test: Part,
+        under: Box<Stack>,
+    },
+    AfterColon {
+        test: Part,
+        first: Part,
+        under: Box<Stack>,
+    },
+    AfterAssign {
+        operator: AssignOperator,
+        target: Part,
+        under: Box<Stack>,
+    },
 }
 
 /// Where the parser is, behind the tokens that it has taken.
@@ -116,34 +292,185 @@ pub enum Stack {
 pub enum State {
     Wants(Stack),
     Has(Part, Stack),
-    Opened(u32, Stack),
-    Typed(Vec<Specifier>, u32, Stack),
-    Called(NameId, u32, Stack),
+    Opened {
+        at: u32,
+        under: Stack,
+    },
+    Typed {
+        specifiers: Vec<Specifier>,
+        at: u32,
+        under: Stack,
+    },
+    Called(NameAt, Stack),
     File(ExternalParts),
     Among(ItemParts, Box<Braces>),
     Begins(Box<Frames>),
     Stands(StatementPart, Box<Frames>),
     Closes(StatementPart, Box<Frames>),
-    Bounded(LoopBound, Box<Frames>),
+    Bounded(Pragma, Box<Frames>),
     Opens(Test),
-    Chooses(Part, u32, Box<Frames>),
-    Answers(u32, Box<Frames>),
-    Defaults(ItemParts, Box<Braces>, u32),
-    Loops(Option<LoopBound>, u32, Box<Frames>),
-    LoopStarts(Option<LoopBound>, u32, Box<Frames>),
-    LoopTests(Option<LoopBound>, StartPart, u32, Box<Frames>),
-    LoopSteps(Option<LoopBound>, StartPart, MaybePart, u32, Box<Frames>),
-    Specified(Vec<Specifier>, u32, Scope),
+    Chooses {
+        test: Part,
+        at: u32,
+        under: Box<Frames>,
+    },
+    Answers {
+        at: u32,
+        under: Box<Frames>,
+    },
+    Defaults {
+        front: ItemParts,
+        braces: Box<Braces>,
+        at: u32,
+    },
+    Loops(Loop, Box<Frames>),
+    LoopStarts(Loop, Box<Frames>),
+    LoopTests(StartedFor, Box<Frames>),
+    LoopSteps(TestedFor, Box<Frames>),
+    Specified {
+        specifiers: Vec<Specifier>,
+        at: u32,
+        scope: Scope,
+    },
     Named(Proto),
     Further(Head),
     Declares(Declarator),
     Sizing(Declarator),
     Shaped(Declarator, ShapePart),
-    Initial(Head, NameId, ShapePart, u32),
-    Listed(Head, NameId, ShapePart, Parts, u32),
+    Initial(Receiver),
+    Listed(Receiver, Parts),
     Ended(Head, ObjectPart),
     ParamsOpen(Proto),
     ParamNext(Proto, ParamParts),
-    ParamSpecified(Proto, ParamParts, Vec<Specifier>, u32),
+    ParamSpecified {
+        proto: Proto,
+        front: ParamParts,
+        specifiers: Vec<Specifier>,
+        at: u32,
+    },
     ParamsDone(Proto, ParamParts),
+}
+
+// What has begun is boxed and let go by these calls alone: where a value of such a type is let go at the
+// end of a body, or on the way out of it, the proof of that body takes many times as long.
+
+impl Frames {
+    pub fn boxed(self, alloc: Global) -> Result<Box<Frames>, Refusal>
+        ensures ok { IfOk result (λ b. b.value ≡ self) }
+        ensures err { IfErr result (λ e. e ≡ Memory) }
+    {
+        Ok(Box::new(alloc, self)?)
+    }
+}
+
+impl Braces {
+    pub fn boxed(self, alloc: Global) -> Result<Box<Braces>, Refusal>
+        ensures ok { IfOk result (λ b. b.value ≡ self) }
+        ensures err { IfErr result (λ e. e ≡ Memory) }
+    {
+        Ok(Box::new(alloc, self)?)
+    }
+}
+
+impl Stack {
+    pub fn boxed(self, alloc: Global) -> Result<Box<Stack>, Refusal>
+        ensures ok { IfOk result (λ b. b.value ≡ self) }
+        ensures err { IfErr result (λ e. e ≡ Memory) }
+    {
+        Ok(Box::new(alloc, self)?)
+    }
+
+    pub fn let_go(self) {
+        drop(self);
+    }
+
+    /// Nothing of it may stand there.
+    pub fn refuse(self) -> Refusal
+        ensures { result ≡ Syntax }
+    {
+        drop(self);
+        Refusal::Syntax
+    }
+}
+
+impl Scope {
+    pub fn let_go(self) {
+        drop(self);
+    }
+
+    /// Nothing of it may stand there.
+    pub fn refuse(self) -> Refusal
+        ensures { result ≡ Syntax }
+    {
+        drop(self);
+        Refusal::Syntax
+    }
+}
+
+impl Head {
+    pub fn let_go(self) {
+        drop(self);
+    }
+
+    /// Nothing of it may stand there.
+    pub fn refuse(self) -> Refusal
+        ensures { result ≡ Syntax }
+    {
+        drop(self);
+        Refusal::Syntax
+    }
+}
+
+impl Proto {
+    /// Nothing of it may stand there.
+    pub fn refuse(self) -> Refusal
+        ensures { result ≡ Syntax }
+    {
+        drop(self);
+        Refusal::Syntax
+    }
+}
+
+impl Declarator {
+    /// Nothing of it may stand there.
+    pub fn refuse(self) -> Refusal
+        ensures { result ≡ Syntax }
+    {
+        drop(self);
+        Refusal::Syntax
+    }
+}
+
+impl Receiver {
+    pub fn let_go(self) {
+        drop(self);
+    }
+
+    /// Nothing of it may stand there.
+    pub fn refuse(self) -> Refusal
+        ensures { result ≡ Syntax }
+    {
+        drop(self);
+        Refusal::Syntax
+    }
+}
+
+impl Test {
+    /// Nothing of it may stand there.
+    pub fn refuse(self) -> Refusal
+        ensures { result ≡ Syntax }
+    {
+        drop(self);
+        Refusal::Syntax
+    }
+}
+
+impl Purpose {
+    /// Nothing of it may stand there.
+    pub fn refuse(self) -> Refusal
+        ensures { result ≡ Syntax }
+    {
+        drop(self);
+        Refusal::Syntax
+    }
 }

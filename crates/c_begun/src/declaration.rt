@@ -1,14 +1,15 @@
-ghost use Rattle.std.specs.Prelude.{◌≡◌, ◌+◌, ◌≤◌, max, false, IfErr, IfOk};
+ghost use Rattle.std.specs.Prelude.{◌≡◌, ◌+◌, ◌<◌, ◌≤◌, max, false, IfErr, IfOk};
 ghost use Rattle.c_tree.specs.Named.{map_option, named_declaration};
 ghost use Rattle.c_tree.specs.Said.{Plain};
+ghost use Rattle.c_tree.specs.declared.token.TokenKind.TheVariants.{Comma, Semicolon};
 ghost use Rattle.c_tree.specs.Tree.{Absent, AndExpr, Declared, Listed, NoExpr, Nothing, Objects, Parameter, Prototype, Then, Value};
 ghost use Rattle.c_tree.specs.View.{declaration_of, expr_of, exprs_of, id_of, object_of, param_of, row_of, shape_of};
-ghost use Rattle.c_grammar.specs.Depth.{head_deep};
 ghost use Rattle.c_grammar.specs.Machine.{Goes, declared, object_ends};
-ghost use Rattle.c_begun.specs.View.{BuildFails, Gives, Names, head_of, object_depth, object_part_of, objects_depth, params_depth, part_depth, parts_depth, scope_of, shape_depth};
+ghost use Rattle.c_begun.specs.Depths.{head_depth};
+ghost use Rattle.c_begun.specs.View.{Gives, Names, head_of, object_part_of, scope_of};
+ghost use Rattle.c_begun.specs.declared.refusal.Refusal.TheVariants.{Memory};
 
-use super::begun::{Head, Scope, State};
-use super::expression::over;
+use super::begun::{Head, NameAt, Scope, State};
 use super::list::{and_declaration, and_declaring, and_expr, and_object};
 use super::part::{
     DeclarationPart, ObjectPart, ObjectParts, ParamPart, ParamParts, Part, Parts, ShapePart,
@@ -21,110 +22,75 @@ use c_tree::statement::ForStart;
 use c_tree::token::TokenKind;
 
 /// An object without an initial value.
-#[tactic(auto, using(crate::proofs::NamedSizes::size_shape_named))]
-pub fn object(name: NameId, shape: ShapePart, at: u32) -> Result<ObjectPart, Refusal>
-    ensures ok { IfOk result (λ p. object_of p.object ≡ Declared name.0 (shape_of shape.shape) Absent at) }
-    ensures err { (f : Names) → IfErr result (λ e. BuildFails e (shape_depth f shape + 1)) }
+pub fn object(name: NameAt, shape: ShapePart) -> ObjectPart
+    requires { shape.depth < 256 }
+    ensures tree { object_of result.object ≡ Declared name.name.0 (shape_of shape.shape) Absent name.at }
+    ensures depth { result.depth ≡ shape.depth + 1 }
 {
-    let depth = over(shape.depth)?;
-    Ok(ObjectPart {
+    let depth = shape.depth + 1;
+    ObjectPart {
         object: Object {
-            name,
+            name: name.name,
             shape: shape.shape,
             initial: Initial::Absent,
-            at,
+            at: name.at,
         },
         depth,
-    })
-}
-
-/// The depth of an object over its shape and its value.
-#[tactic(auto, using(crate::proofs::PartDepths::valued_depth))]
-fn over_value(shape: &ShapePart, value: &Part) -> Result<u32, Refusal>
-    ensures ok { IfOk result (λ d. (d ≡ max shape.now.depth value.now.depth + 1) × (d ≤ 256)) }
-    ensures err { (f : Names) → IfErr result (λ e. BuildFails e (max (shape_depth f shape.now) (part_depth f value.now) + 1)) }
-{
-    over(shape.depth.max(value.depth))
+    }
 }
 
 /// An object with an initial value.
-pub fn valued_object(
-    name: NameId,
-    shape: ShapePart,
-    value: Part,
-    at: u32,
-) -> Result<ObjectPart, Refusal>
-    ensures ok { IfOk result (λ p. object_of p.object ≡ Declared name.0 (shape_of shape.shape) (Value (expr_of value.tree)) at) }
-    ensures err { (f : Names) → IfErr result (λ e. BuildFails e (max (shape_depth f shape) (part_depth f value) + 1)) }
+pub fn valued_object(name: NameAt, shape: ShapePart, value: Part) -> ObjectPart
+    requires { max shape.depth value.depth < 256 }
+    ensures tree { object_of result.object ≡ Declared name.name.0 (shape_of shape.shape) (Value (expr_of value.tree)) name.at }
+    ensures depth { result.depth ≡ max shape.depth value.depth + 1 }
 {
-    let depth = over_value(&shape, &value)?;
-    Ok(ObjectPart {
+    let depth = shape.depth.max(value.depth) + 1;
+    ObjectPart {
         object: Object {
-            name,
+            name: name.name,
             shape: shape.shape,
             initial: Initial::Value(value.tree),
-            at,
+            at: name.at,
         },
         depth,
-    })
-}
-
-/// The depth of an object over its shape and the list of its values.
-#[tactic(auto, using(crate::proofs::PartDepths::list_depth))]
-fn over_values(shape: &ShapePart, values: &Parts) -> Result<u32, Refusal>
-    ensures ok { IfOk result (λ d. (d ≡ max shape.now.depth values.now.depth + 1) × (d ≤ 256)) }
-    ensures err { (f : Names) → IfErr result (λ e. BuildFails e (max (shape_depth f shape.now) (parts_depth f values.now) + 1)) }
-{
-    over(shape.depth.max(values.depth))
+    }
 }
 
 /// An object with a list of initial values.
-pub fn listed_object(
-    name: NameId,
-    shape: ShapePart,
-    values: Parts,
-    comma: bool,
-    at: u32,
-) -> Result<ObjectPart, Refusal>
-    ensures ok { IfOk result (λ p. object_of p.object ≡ Declared name.0 (shape_of shape.shape) (Listed (exprs_of NoExpr values.list.items) comma) at) }
-    ensures err { (f : Names) → IfErr result (λ e. BuildFails e (max (shape_depth f shape) (parts_depth f values) + 1)) }
+pub fn listed_object(name: NameAt, shape: ShapePart, values: Parts, comma: bool) -> ObjectPart
+    requires { max shape.depth values.depth < 256 }
+    ensures tree { object_of result.object ≡ Declared name.name.0 (shape_of shape.shape) (Listed (exprs_of NoExpr values.list.items) comma) name.at }
+    ensures depth { result.depth ≡ max shape.depth values.depth + 1 }
 {
-    let depth = over_values(&shape, &values)?;
-    Ok(ObjectPart {
+    let depth = shape.depth.max(values.depth) + 1;
+    ObjectPart {
         object: Object {
-            name,
+            name: name.name,
             shape: shape.shape,
             initial: Initial::List {
                 values: values.list,
                 comma,
             },
-            at,
+            at: name.at,
         },
         depth,
-    })
+    }
 }
 
 /// An object with a list of initial values that this value ends.
 pub fn object_with(
-    name: NameId,
+    name: NameAt,
     shape: ShapePart,
     front: Parts,
     last: Part,
-    at: u32,
 ) -> Result<ObjectPart, Refusal>
-    ensures ok { IfOk result (λ p. object_of p.object ≡ Declared name.0 (shape_of shape.shape) (Listed (AndExpr (exprs_of NoExpr front.list.items) (expr_of last.tree)) false) at) }
-    ensures err { (f : Names) → IfErr result (λ e. BuildFails e (max (shape_depth f shape) (max (parts_depth f front) (part_depth f last)) + 1)) }
+    requires { max shape.depth (max front.depth last.depth) < 256 }
+    ensures ok { IfOk result (λ p. (object_of p.object ≡ Declared name.name.0 (shape_of shape.shape) (Listed (AndExpr (exprs_of NoExpr front.list.items) (expr_of last.tree)) false) name.at) × (p.depth ≡ max shape.depth (max front.depth last.depth) + 1)) }
+    ensures err { IfErr result (λ e. e ≡ Memory) }
 {
-    listed_object(name, shape, and_expr(front, last)?, false, at)
-}
-
-/// The depth of a declaration over its objects.
-#[tactic(auto, using(crate::proofs::PartDepths::objects_depth_is))]
-fn over_objects(objects: &ObjectParts) -> Result<u32, Refusal>
-    ensures ok { IfOk result (λ d. (d ≡ objects.now.depth + 1) × (d ≤ 256)) }
-    ensures err { (f : Names) → IfErr result (λ e. BuildFails e (objects_depth f objects.now + 1)) }
-{
-    over(objects.depth)
+    let values = and_expr(front, last)?;
+    Ok(listed_object(name, shape, values, false))
 }
 
 /// A declaration of objects.
@@ -132,19 +98,20 @@ pub fn object_declaration(
     specifiers: Vec<Specifier>,
     objects: ObjectParts,
     at: u32,
-) -> Result<DeclarationPart, Refusal>
-    ensures ok { IfOk result (λ p. declaration_of p.declaration ≡ Objects specifiers.items (row_of object_of Nothing objects.list.items) at) }
-    ensures err { (f : Names) → IfErr result (λ e. BuildFails e (objects_depth f objects + 1)) }
+) -> DeclarationPart
+    requires { objects.depth < 256 }
+    ensures tree { declaration_of result.declaration ≡ Objects specifiers.items (row_of object_of Nothing objects.list.items) at }
+    ensures depth { result.depth ≡ objects.depth + 1 }
 {
-    let depth = over_objects(&objects)?;
-    Ok(DeclarationPart {
+    let depth = objects.depth + 1;
+    DeclarationPart {
         declaration: Declaration::Objects {
             specifiers,
             objects: objects.list,
             at,
         },
         depth,
-    })
+    }
 }
 
 /// A declaration with one object more.
@@ -154,25 +121,27 @@ fn objects_with(
     last: ObjectPart,
     at: u32,
 ) -> Result<DeclarationPart, Refusal>
-    ensures ok { IfOk result (λ p. declaration_of p.declaration ≡ Objects specifiers.items (Then (row_of object_of Nothing front.list.items) (object_of last.object)) at) }
-    ensures err { (f : Names) → IfErr result (λ e. BuildFails e (max (objects_depth f front) (object_depth f last) + 1)) }
+    requires { max front.depth last.depth < 256 }
+    ensures ok { IfOk result (λ p. (declaration_of p.declaration ≡ Objects specifiers.items (Then (row_of object_of Nothing front.list.items) (object_of last.object)) at) × (p.depth ≡ max front.depth last.depth + 1)) }
+    ensures err { IfErr result (λ e. e ≡ Memory) }
 {
-    object_declaration(specifiers, and_object(front, last)?, at)
+    let objects = and_object(front, last)?;
+    Ok(object_declaration(specifiers, objects, at))
 }
 
 /// A parameter.
-#[tactic(auto, using(crate::proofs::NamedSizes::size_shape_named))]
 pub fn parameter(
     specifiers: Vec<Specifier>,
     name: Option<NameId>,
     shape: ShapePart,
     at: u32,
-) -> Result<ParamPart, Refusal>
-    ensures ok { IfOk result (λ p. param_of p.param ≡ Parameter specifiers.items (map_option id_of name) (shape_of shape.shape) at) }
-    ensures err { (f : Names) → IfErr result (λ e. BuildFails e (shape_depth f shape + 1)) }
+) -> ParamPart
+    requires { shape.depth < 256 }
+    ensures tree { param_of result.param ≡ Parameter specifiers.items (map_option id_of name) (shape_of shape.shape) at }
+    ensures depth { result.depth ≡ shape.depth + 1 }
 {
-    let depth = over(shape.depth)?;
-    Ok(ParamPart {
+    let depth = shape.depth + 1;
+    ParamPart {
         param: Param {
             specifiers,
             name,
@@ -180,16 +149,7 @@ pub fn parameter(
             at,
         },
         depth,
-    })
-}
-
-/// The depth of a declaration over its parameters.
-#[tactic(auto, using(crate::proofs::PartDepths::params_depth_is))]
-fn over_params(params: &ParamParts) -> Result<u32, Refusal>
-    ensures ok { IfOk result (λ d. (d ≡ params.now.depth + 1) × (d ≤ 256)) }
-    ensures err { (f : Names) → IfErr result (λ e. BuildFails e (params_depth f params.now + 1)) }
-{
-    over(params.depth)
+    }
 }
 
 /// A declaration of a function.
@@ -198,12 +158,13 @@ pub fn prototype(
     name: NameId,
     params: ParamParts,
     at: u32,
-) -> Result<DeclarationPart, Refusal>
-    ensures ok { IfOk result (λ p. declaration_of p.declaration ≡ Prototype specifiers.items name.0 (row_of param_of Nothing params.list.items) at) }
-    ensures err { (f : Names) → IfErr result (λ e. BuildFails e (params_depth f params + 1)) }
+) -> DeclarationPart
+    requires { params.depth < 256 }
+    ensures tree { declaration_of result.declaration ≡ Prototype specifiers.items name.0 (row_of param_of Nothing params.list.items) at }
+    ensures depth { result.depth ≡ params.depth + 1 }
 {
-    let depth = over_params(&params)?;
-    Ok(DeclarationPart {
+    let depth = params.depth + 1;
+    DeclarationPart {
         declaration: Declaration::Prototype {
             specifiers,
             name,
@@ -211,46 +172,72 @@ pub fn prototype(
             at,
         },
         depth,
-    })
+    }
 }
 
 /// A declaration is whole.
 pub fn end_declaration(scope: Scope, declaration: DeclarationPart) -> Result<State, Refusal>
-    ensures { (f : Names) → Gives f result (Goes (declared (scope_of f scope) (named_declaration f (declaration_of declaration.declaration)))) 0 }
+    ensures { (f : Names) → Gives f result (Goes (declared (scope_of f scope) (named_declaration f (declaration_of declaration.declaration)))) }
 {
     match scope {
         Scope::AtFile(front) => Ok(State::File(and_declaring(front, declaration)?)),
         Scope::AmongItems(front, braces) => {
             Ok(State::Among(and_declaration(front, declaration)?, braces))
         }
-        Scope::AtFor(bound, at, under) => Ok(State::LoopTests(
-            bound,
-            StartPart {
+        Scope::AtFor(head, under) => {
+            let start = StartPart {
                 start: ForStart::Declaration(declaration.declaration),
                 depth: declaration.depth,
-            },
-            at,
-            under,
-        )),
+            };
+            Ok(State::LoopTests(head.started(start), under))
+        }
+    }
+}
+
+/// Behind the object a further one comes.
+fn and_further(head: Head, object: ObjectPart) -> Result<State, Refusal>
+    ensures { (f : Names) → Gives f result (object_ends (Plain Comma) (head_of f head) (object_part_of f object)) }
+{
+    match and_object(head.objects, object) {
+        Ok(objects) => Ok(State::Further(Head {
+            specifiers: head.specifiers,
+            objects,
+            at: head.at,
+            scope: head.scope,
+        })),
+        Err(refusal) => {
+            head.scope.let_go();
+            Err(refusal)
+        }
+    }
+}
+
+/// The object is the last of its declaration.
+#[tactic(auto, using(crate::proofs::Deeper::scope_deeper))]
+fn end_objects(head: Head, object: ObjectPart) -> Result<State, Refusal>
+    requires { head_depth head object.depth ≤ 256 }
+    ensures { (f : Names) → Gives f result (object_ends (Plain Semicolon) (head_of f head) (object_part_of f object)) }
+{
+    match objects_with(head.specifiers, head.objects, object, head.at) {
+        Ok(whole) => end_declaration(head.scope, whole),
+        Err(refusal) => {
+            head.scope.let_go();
+            Err(refusal)
+        }
     }
 }
 
 /// An object is whole, and a token ends it.
-#[tactic(auto, using(crate::proofs::Overs::scope_keep))]
 pub fn end_object(kind: TokenKind, head: Head, object: ObjectPart) -> Result<State, Refusal>
-    ensures { (f : Names) → Gives f result (object_ends (Plain kind) (head_of f head) (object_part_of f object)) (head_deep (head_of f head) (object_depth f object)) }
+    requires { head_depth head object.depth ≤ 256 }
+    ensures { (f : Names) → Gives f result (object_ends (Plain kind) (head_of f head) (object_part_of f object)) }
 {
     match kind {
-        TokenKind::Comma => Ok(State::Further(Head {
-            specifiers: head.specifiers,
-            objects: and_object(head.objects, object)?,
-            at: head.at,
-            scope: head.scope,
-        })),
-        TokenKind::Semicolon => {
-            let whole = objects_with(head.specifiers, head.objects, object, head.at)?;
-            end_declaration(head.scope, whole)
+        TokenKind::Comma => and_further(head, object),
+        TokenKind::Semicolon => end_objects(head, object),
+        _ => {
+            object.let_go();
+            Err(head.refuse())
         }
-        _ => Err(Refusal::Syntax),
     }
 }

@@ -1,8 +1,7 @@
 //! What a parser has begun, and the trees that it makes of it.
 //!
 //! A [`begun::State`] is a state of the machine of `c_grammar`, with the depth of each finished part
-//! beside it. The builders make a node over finished parts, or say that it would be more than 256 nodes
-//! deep.
+//! beside it. The builders make a node over finished parts that are less than 256 nodes deep.
 //!
 //! This crate knows nothing of tokens, nor of which state follows another.
 #![tactic(auto)]

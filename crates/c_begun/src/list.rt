@@ -1,19 +1,39 @@
-ghost use Rattle.std.specs.Prelude.{◌≡◌, ◌+◌, IfErr, IfOk};
+ghost use Rattle.std.specs.Prelude.{◌≡◌, ◌+◌, ◌<◌, ◌∷◌, ◌++◌, [], max, IfErr, IfOk};
 ghost use Rattle.c_tree.specs.Tree as trees;
 ghost use Rattle.c_tree.specs.Tree.{AndDeclaration, AndExpr, AndLabel, AndRestriction, AndStatement, Case, Declaring, Default, NoExpr, NoItem, Nothing, Then};
-ghost use Rattle.c_tree.specs.View.{declaration_of, expr_of, exprs_of, external_of, items_of, object_of, param_of, restriction_of, row_of, statement_of};
-ghost use Rattle.c_begun.specs.View.{BuildFails, Names, part_depth};
+ghost use Rattle.c_tree.specs.View.{declaration_of, expr_of, exprs_of, external_of, items_of, object_of, param_of, row_of, statement_of};
 ghost use Rattle.c_begun.specs.declared.refusal.Refusal.TheVariants.{Memory};
 
-use super::expression::over;
 use super::part::{
     DeclarationPart, ExternalParts, ItemParts, ObjectPart, ObjectParts, ParamPart, ParamParts,
     Part, Parts, StatementPart,
 };
 use super::refusal::Refusal;
+use c_tree::expression::Specifier;
 use c_tree::external::External;
-use c_tree::statement::{Item, Label, Restriction};
+use c_tree::pragma::Pragma;
+use c_tree::statement::{Item, Label};
 use std::alloc::Global;
+
+/// One specifier.
+pub fn one_specifier(alloc: Global, first: Specifier) -> Result<Vec<Specifier>, Refusal>
+    ensures ok { IfOk result (λ v. v.items ≡ first ∷ []) }
+    ensures err { IfErr result (λ e. e ≡ Memory) }
+{
+    let mut list = Vec::new(alloc);
+    list.push(first)?;
+    Ok(list)
+}
+
+/// One specifier more.
+pub fn and_specifier(front: Vec<Specifier>, last: Specifier) -> Result<Vec<Specifier>, Refusal>
+    ensures ok { IfOk result (λ v. v.items ≡ front.items ++ last ∷ []) }
+    ensures err { IfErr result (λ e. e ≡ Memory) }
+{
+    let mut list = front;
+    list.push(last)?;
+    Ok(list)
+}
 
 /// No expression yet.
 pub fn no_parts(alloc: Global) -> Parts
@@ -26,9 +46,9 @@ pub fn no_parts(alloc: Global) -> Parts
 }
 
 /// One expression more.
-#[tactic(auto, using(crate::proofs::PartLists::exprs_push))]
+#[tactic(auto, using(c_tree::proofs::Rows::exprs_push))]
 pub fn and_expr(front: Parts, last: Part) -> Result<Parts, Refusal>
-    ensures ok { IfOk result (λ p. exprs_of NoExpr p.list.items ≡ AndExpr (exprs_of NoExpr front.list.items) (expr_of last.tree)) }
+    ensures ok { IfOk result (λ p. (exprs_of NoExpr p.list.items ≡ AndExpr (exprs_of NoExpr front.list.items) (expr_of last.tree)) × (p.depth ≡ max front.depth last.depth)) }
     ensures err { IfErr result (λ e. e ≡ Memory) }
 {
     let depth = front.depth.max(last.depth);
@@ -48,9 +68,9 @@ pub fn no_objects(alloc: Global) -> ObjectParts
 }
 
 /// One object more.
-#[tactic(auto, using(crate::proofs::PartLists::row_push))]
+#[tactic(auto, using(c_tree::proofs::Rows::row_push))]
 pub fn and_object(front: ObjectParts, last: ObjectPart) -> Result<ObjectParts, Refusal>
-    ensures ok { IfOk result (λ p. row_of object_of Nothing p.list.items ≡ Then (row_of object_of Nothing front.list.items) (object_of last.object)) }
+    ensures ok { IfOk result (λ p. (row_of object_of Nothing p.list.items ≡ Then (row_of object_of Nothing front.list.items) (object_of last.object)) × (p.depth ≡ max front.depth last.depth)) }
     ensures err { IfErr result (λ e. e ≡ Memory) }
 {
     let depth = front.depth.max(last.depth);
@@ -70,9 +90,9 @@ pub fn no_items(alloc: Global) -> ItemParts
 }
 
 /// One statement more.
-#[tactic(auto, using(crate::proofs::PartLists::items_push))]
+#[tactic(auto, using(c_tree::proofs::Rows::items_push))]
 pub fn and_statement(front: ItemParts, last: StatementPart) -> Result<ItemParts, Refusal>
-    ensures ok { IfOk result (λ p. items_of NoItem p.list.items ≡ AndStatement (items_of NoItem front.list.items) (statement_of last.statement)) }
+    ensures ok { IfOk result (λ p. (items_of NoItem p.list.items ≡ AndStatement (items_of NoItem front.list.items) (statement_of last.statement)) × (p.depth ≡ max front.depth last.depth)) }
     ensures err { IfErr result (λ e. e ≡ Memory) }
 {
     let depth = front.depth.max(last.depth);
@@ -82,9 +102,9 @@ pub fn and_statement(front: ItemParts, last: StatementPart) -> Result<ItemParts,
 }
 
 /// One restriction more.
-#[tactic(auto, using(crate::proofs::PartLists::items_push))]
-pub fn and_restriction(front: ItemParts, last: Restriction) -> Result<ItemParts, Refusal>
-    ensures ok { IfOk result (λ p. items_of NoItem p.list.items ≡ AndRestriction (items_of NoItem front.list.items) (restriction_of last)) }
+#[tactic(auto, using(c_tree::proofs::Rows::items_push))]
+pub fn and_restriction(front: ItemParts, last: Pragma) -> Result<ItemParts, Refusal>
+    ensures ok { IfOk result (λ p. items_of NoItem p.list.items ≡ AndRestriction (items_of NoItem front.list.items) last) }
     ensures err { IfErr result (λ e. e ≡ Memory) }
 {
     let depth = front.depth.max(1);
@@ -94,7 +114,7 @@ pub fn and_restriction(front: ItemParts, last: Restriction) -> Result<ItemParts,
 }
 
 /// One declaration more, among items.
-#[tactic(auto, using(crate::proofs::PartLists::items_push))]
+#[tactic(auto, using(c_tree::proofs::Rows::items_push))]
 pub fn and_declaration(front: ItemParts, last: DeclarationPart) -> Result<ItemParts, Refusal>
     ensures ok { IfOk result (λ p. items_of NoItem p.list.items ≡ AndDeclaration (items_of NoItem front.list.items) (declaration_of last.declaration)) }
     ensures err { IfErr result (λ e. e ≡ Memory) }
@@ -106,7 +126,7 @@ pub fn and_declaration(front: ItemParts, last: DeclarationPart) -> Result<ItemPa
 }
 
 /// One declaration more, at file level.
-#[tactic(auto, using(crate::proofs::PartLists::row_push))]
+#[tactic(auto, using(c_tree::proofs::Rows::row_push))]
 pub fn and_declaring(front: ExternalParts, last: DeclarationPart) -> Result<ExternalParts, Refusal>
     ensures ok { IfOk result (λ p. row_of external_of Nothing p.list.items ≡ Then (row_of external_of Nothing front.list.items) (Declaring (declaration_of last.declaration))) }
     ensures err { IfErr result (λ e. e ≡ Memory) }
@@ -118,12 +138,13 @@ pub fn and_declaring(front: ExternalParts, last: DeclarationPart) -> Result<Exte
 }
 
 /// One label with a value more.
-#[tactic(auto, using(crate::proofs::PartLists::items_push, crate::proofs::NamedSizes::size_named))]
+#[tactic(auto, using(c_tree::proofs::Rows::items_push))]
 pub fn and_case(front: ItemParts, value: Part, at: u32) -> Result<ItemParts, Refusal>
+    requires { value.depth < 256 }
     ensures ok { IfOk result (λ p. items_of NoItem p.list.items ≡ AndLabel (items_of NoItem front.list.items) (Case (expr_of value.tree) at)) }
-    ensures err { (f : Names) → IfErr result (λ e. BuildFails e (part_depth f value + 1)) }
+    ensures err { IfErr result (λ e. e ≡ Memory) }
 {
-    let depth = front.depth.max(over(value.depth)?);
+    let depth = front.depth.max(value.depth + 1);
     let mut list = front.list;
     list.push(Item::Label(Label::Case {
         value: value.tree,
@@ -133,7 +154,7 @@ pub fn and_case(front: ItemParts, value: Part, at: u32) -> Result<ItemParts, Ref
 }
 
 /// A `default` more.
-#[tactic(auto, using(crate::proofs::PartLists::items_push))]
+#[tactic(auto, using(c_tree::proofs::Rows::items_push))]
 pub fn and_default(front: ItemParts, at: u32) -> Result<ItemParts, Refusal>
     ensures ok { IfOk result (λ p. items_of NoItem p.list.items ≡ AndLabel (items_of NoItem front.list.items) (Default at)) }
     ensures err { IfErr result (λ e. e ≡ Memory) }
@@ -155,7 +176,7 @@ pub fn no_params(alloc: Global) -> ParamParts
 }
 
 /// One parameter more.
-#[tactic(auto, using(crate::proofs::PartLists::row_push))]
+#[tactic(auto, using(c_tree::proofs::Rows::row_push))]
 pub fn and_param(front: ParamParts, last: ParamPart) -> Result<ParamParts, Refusal>
     ensures ok { IfOk result (λ p. row_of param_of Nothing p.list.items ≡ Then (row_of param_of Nothing front.list.items) (param_of last.param)) }
     ensures err { IfErr result (λ e. e ≡ Memory) }
@@ -177,9 +198,9 @@ pub fn no_externals(alloc: Global) -> ExternalParts
 }
 
 /// One restriction more, at file level.
-#[tactic(auto, using(crate::proofs::PartLists::row_push))]
-pub fn and_restricting(front: ExternalParts, last: Restriction) -> Result<ExternalParts, Refusal>
-    ensures ok { IfOk result (λ p. row_of external_of Nothing p.list.items ≡ Then (row_of external_of Nothing front.list.items) (trees.Restriction (restriction_of last))) }
+#[tactic(auto, using(c_tree::proofs::Rows::row_push))]
+pub fn and_restricting(front: ExternalParts, last: Pragma) -> Result<ExternalParts, Refusal>
+    ensures ok { IfOk result (λ p. row_of external_of Nothing p.list.items ≡ Then (row_of external_of Nothing front.list.items) (trees.Restriction last)) }
     ensures err { IfErr result (λ e. e ≡ Memory) }
 {
     let depth = front.depth.max(1);

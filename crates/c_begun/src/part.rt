@@ -125,3 +125,21 @@ pub struct DeclarationPart {
     ghost is_depth: { depth ≡ (size_declaration (declaration_of declaration)).depth },
     ghost is_shallow: { depth ≤ 256 },
 }
+
+impl Part {
+    pub fn let_go(self) {
+        drop(self);
+    }
+}
+
+impl StatementPart {
+    pub fn let_go(self) {
+        drop(self);
+    }
+}
+
+impl ObjectPart {
+    pub fn let_go(self) {
+        drop(self);
+    }
+}

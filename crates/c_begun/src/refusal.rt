@@ -8,8 +8,6 @@ use std::alloc::{AllocError, AllocFailed};
 pub enum Refusal {
     Memory,
     Syntax,
-    /// A part would be more than 256 nodes deep.
-    Deep,
 }
 
 impl From<AllocError> for Refusal {

@@ -1,86 +1,74 @@
-ghost use Rattle.std.specs.Prelude.{◌≡◌, ◌+◌, ◌≤◌, max, Some, IfErr, IfOk};
+ghost use Rattle.std.specs.Prelude.{◌≡◌, ◌+◌, ◌<◌, max, Some, IfErr, IfOk};
 ghost use Rattle.c_tree.specs.Formed.{place};
 ghost use Rattle.c_tree.specs.Named.{map_option};
 ghost use Rattle.c_tree.specs.Size.{size_statement};
 ghost use Rattle.c_tree.specs.Tree.{Block, Do, Evaluate, For, If, IfElse, NoItem, Return, Switch, While};
-ghost use Rattle.c_tree.specs.View.{bound_of, expr_of, items_of, start_of, statement_of};
-ghost use Rattle.c_begun.specs.View.{BuildFails, Names, items_depth, maybe_depth, part_depth, start_depth, statement_depth};
+ghost use Rattle.c_tree.specs.View.{expr_of, items_of, start_of, statement_of};
+ghost use Rattle.c_begun.specs.declared.refusal.Refusal.TheVariants.{Memory};
 
-use super::expression::{over, place_of};
-use super::part::{ItemParts, MaybePart, Part, StartPart, StatementPart};
+use super::begun::{HeadedFor, Loop};
+use super::part::{ItemParts, Part, StatementPart};
 use super::refusal::Refusal;
-use c_tree::expression::Expr;
-use c_tree::statement::{Item, LoopBound, Statement};
+use c_tree::statement::Statement;
 use std::alloc::Global;
 
-/// An expression that is a statement.
-#[tactic(auto, using(crate::proofs::NamedSizes::size_named))]
-pub fn evaluate(tree: Part) -> Result<StatementPart, Refusal>
-    ensures ok { IfOk result (λ p. statement_of p.statement ≡ Evaluate (expr_of tree.tree) (place (expr_of tree.tree))) }
-    ensures err { (f : Names) → IfErr result (λ e. BuildFails e (part_depth f tree + 1)) }
+fn boxed(alloc: Global, statement: Statement) -> Result<Box<Statement>, Refusal>
+    ensures ok { IfOk result (λ b. b.value ≡ statement) }
+    ensures err { IfErr result (λ e. e ≡ Memory) }
 {
-    let depth = over(tree.depth)?;
-    let at = place_of(&tree.tree);
-    Ok(StatementPart {
+    Ok(Box::new(alloc, statement)?)
+}
+
+/// An expression that is a statement.
+pub fn evaluate(tree: Part) -> StatementPart
+    requires { tree.depth < 256 }
+    ensures tree { statement_of result.statement ≡ Evaluate (expr_of tree.tree) (place (expr_of tree.tree)) }
+    ensures depth { result.depth ≡ tree.depth + 1 }
+{
+    let depth = tree.depth + 1;
+    let at = tree.tree.place();
+    StatementPart {
         statement: Statement::Expression {
             value: tree.tree,
             at,
         },
         depth,
-    })
+    }
 }
 
-#[tactic(auto, using(crate::proofs::NamedSizes::size_named))]
-pub fn return_value(tree: Part, at: u32) -> Result<StatementPart, Refusal>
-    ensures ok { IfOk result (λ p. statement_of p.statement ≡ Return (Some (expr_of tree.tree)) at) }
-    ensures err { (f : Names) → IfErr result (λ e. BuildFails e (part_depth f tree + 1)) }
+pub fn return_value(tree: Part, at: u32) -> StatementPart
+    requires { tree.depth < 256 }
+    ensures tree { statement_of result.statement ≡ Return (Some (expr_of tree.tree)) at }
+    ensures depth { result.depth ≡ tree.depth + 1 }
 {
-    let depth = over(tree.depth)?;
-    Ok(StatementPart {
+    let depth = tree.depth + 1;
+    StatementPart {
         statement: Statement::Return {
             value: Some(tree.tree),
             at,
         },
         depth,
-    })
-}
-
-/// The depth of a statement over its body and its test.
-#[tactic(auto, using(crate::proofs::PartDepths::body_depth))]
-fn over_body(body: &StatementPart, test: &Part) -> Result<u32, Refusal>
-    ensures ok { IfOk result (λ d. (d ≡ max body.now.depth test.now.depth + 1) × (d ≤ 256)) }
-    ensures err { (f : Names) → IfErr result (λ e. BuildFails e (max (statement_depth f body.now) (part_depth f test.now) + 1)) }
-{
-    over(body.depth.max(test.depth))
-}
-
-/// The depth of a statement over its test and its body.
-#[tactic(auto, using(crate::proofs::PartDepths::tested_depth))]
-fn over_tested(test: &Part, body: &StatementPart) -> Result<u32, Refusal>
-    ensures ok { IfOk result (λ d. (d ≡ max test.now.depth body.now.depth + 1) × (d ≤ 256)) }
-    ensures err { (f : Names) → IfErr result (λ e. BuildFails e (max (part_depth f test.now) (statement_depth f body.now) + 1)) }
-{
-    over(test.depth.max(body.depth))
+    }
 }
 
 pub fn do_loop(
     alloc: Global,
-    bound: Option<LoopBound>,
+    head: Loop,
     body: StatementPart,
     test: Part,
-    at: u32,
 ) -> Result<StatementPart, Refusal>
-    ensures ok { IfOk result (λ p. statement_of p.statement ≡ Do (map_option bound_of bound) (statement_of body.statement) (expr_of test.tree) at) }
-    ensures err { (f : Names) → IfErr result (λ e. BuildFails e (max (statement_depth f body) (part_depth f test) + 1)) }
+    requires { max body.depth test.depth < 256 }
+    ensures ok { IfOk result (λ p. (statement_of p.statement ≡ Do head.bound (statement_of body.statement) (expr_of test.tree) head.at) × (p.depth ≡ max body.depth test.depth + 1)) }
+    ensures err { IfErr result (λ e. e ≡ Memory) }
 {
-    let depth = over_body(&body, &test)?;
-    let body = Box::new(alloc, body.statement)?;
+    let depth = body.depth.max(test.depth) + 1;
+    let body = boxed(alloc, body.statement)?;
     Ok(StatementPart {
         statement: Statement::Do {
-            bound,
+            bound: head.bound,
             body,
             test: test.tree,
-            at,
+            at: head.at,
         },
         depth,
     })
@@ -92,11 +80,12 @@ pub fn if_then(
     then: StatementPart,
     at: u32,
 ) -> Result<StatementPart, Refusal>
-    ensures ok { IfOk result (λ p. statement_of p.statement ≡ If (expr_of test.tree) (statement_of then.statement) at) }
-    ensures err { (f : Names) → IfErr result (λ e. BuildFails e (max (part_depth f test) (statement_depth f then) + 1)) }
+    requires { max test.depth then.depth < 256 }
+    ensures ok { IfOk result (λ p. (statement_of p.statement ≡ If (expr_of test.tree) (statement_of then.statement) at) × (p.depth ≡ max test.depth then.depth + 1)) }
+    ensures err { IfErr result (λ e. e ≡ Memory) }
 {
-    let depth = over_tested(&test, &then)?;
-    let then = Box::new(alloc, then.statement)?;
+    let depth = test.depth.max(then.depth) + 1;
+    let then = boxed(alloc, then.statement)?;
     Ok(StatementPart {
         statement: Statement::If {
             test: test.tree,
@@ -109,34 +98,25 @@ pub fn if_then(
 
 pub fn while_loop(
     alloc: Global,
-    bound: Option<LoopBound>,
+    head: Loop,
     test: Part,
     body: StatementPart,
-    at: u32,
 ) -> Result<StatementPart, Refusal>
-    ensures ok { IfOk result (λ p. statement_of p.statement ≡ While (map_option bound_of bound) (expr_of test.tree) (statement_of body.statement) at) }
-    ensures err { (f : Names) → IfErr result (λ e. BuildFails e (max (part_depth f test) (statement_depth f body) + 1)) }
+    requires { max test.depth body.depth < 256 }
+    ensures ok { IfOk result (λ p. (statement_of p.statement ≡ While head.bound (expr_of test.tree) (statement_of body.statement) head.at) × (p.depth ≡ max test.depth body.depth + 1)) }
+    ensures err { IfErr result (λ e. e ≡ Memory) }
 {
-    let depth = over_tested(&test, &body)?;
-    let body = Box::new(alloc, body.statement)?;
+    let depth = test.depth.max(body.depth) + 1;
+    let body = boxed(alloc, body.statement)?;
     Ok(StatementPart {
         statement: Statement::While {
-            bound,
+            bound: head.bound,
             test: test.tree,
             body,
-            at,
+            at: head.at,
         },
         depth,
     })
-}
-
-/// The depth of a statement over its test and its two branches.
-#[tactic(auto, using(crate::proofs::PartDepths::branches_depth))]
-fn over_branches(test: &Part, first: &StatementPart, second: &StatementPart) -> Result<u32, Refusal>
-    ensures ok { IfOk result (λ d. (d ≡ max (max test.now.depth first.now.depth) second.now.depth + 1) × (d ≤ 256)) }
-    ensures err { (f : Names) → IfErr result (λ e. BuildFails e (max (max (part_depth f test.now) (statement_depth f first.now)) (statement_depth f second.now) + 1)) }
-{
-    over(test.depth.max(first.depth).max(second.depth))
 }
 
 pub fn if_else(
@@ -146,12 +126,19 @@ pub fn if_else(
     second: StatementPart,
     at: u32,
 ) -> Result<StatementPart, Refusal>
-    ensures ok { IfOk result (λ p. statement_of p.statement ≡ IfElse (expr_of test.tree) (statement_of first.statement) (statement_of second.statement) at) }
-    ensures err { (f : Names) → IfErr result (λ e. BuildFails e (max (max (part_depth f test) (statement_depth f first)) (statement_depth f second) + 1)) }
+    requires { max (max test.depth first.depth) second.depth < 256 }
+    ensures ok { IfOk result (λ p. (statement_of p.statement ≡ IfElse (expr_of test.tree) (statement_of first.statement) (statement_of second.statement) at) × (p.depth ≡ max (max test.depth first.depth) second.depth + 1)) }
+    ensures err { IfErr result (λ e. e ≡ Memory) }
 {
-    let depth = over_branches(&test, &first, &second)?;
-    let then = Box::new(alloc, first.statement)?;
-    let otherwise = Box::new(alloc, second.statement)?;
+    let depth = test.depth.max(first.depth).max(second.depth) + 1;
+    let then = match boxed(alloc, first.statement) {
+        Ok(then) => then,
+        Err(refusal) => {
+            second.let_go();
+            return Err(refusal);
+        }
+    };
+    let otherwise = boxed(alloc, second.statement)?;
     Ok(StatementPart {
         statement: Statement::IfElse {
             test: test.tree,
@@ -174,87 +161,57 @@ pub fn leaf(statement: Statement) -> StatementPart
     }
 }
 
-/// The depth of a `for` over its head and its body.
-#[tactic(auto, using(crate::proofs::PartDepths::loop_depth))]
-fn over_loop(
-    start: &StartPart,
-    test: &MaybePart,
-    step: &MaybePart,
-    body: &StatementPart,
-) -> Result<u32, Refusal>
-    ensures ok { IfOk result (λ d. (d ≡ max (max (max start.now.depth test.now.depth) step.now.depth) body.now.depth + 1) × (d ≤ 256)) }
-    ensures err { (f : Names) → IfErr result (λ e. BuildFails e (max (max (max (start_depth f start.now) (maybe_depth f test.now)) (maybe_depth f step.now)) (statement_depth f body.now) + 1)) }
-{
-    over(start.depth.max(test.depth).max(step.depth).max(body.depth))
-}
-
 pub fn for_loop(
     alloc: Global,
-    bound: Option<LoopBound>,
-    start: StartPart,
-    test: MaybePart,
-    step: MaybePart,
+    head: HeadedFor,
     body: StatementPart,
-    at: u32,
 ) -> Result<StatementPart, Refusal>
-    ensures ok { IfOk result (λ p. statement_of p.statement ≡ For (map_option bound_of bound) (start_of start.start) (map_option expr_of test.tree) (map_option expr_of step.tree) (statement_of body.statement) at) }
-    ensures err { (f : Names) → IfErr result (λ e. BuildFails e (max (max (max (start_depth f start) (maybe_depth f test)) (maybe_depth f step)) (statement_depth f body) + 1)) }
+    requires { max (max (max head.start.depth head.test.depth) head.step.depth) body.depth < 256 }
+    ensures ok { IfOk result (λ p. (statement_of p.statement ≡ For head.bound (start_of head.start.start) (map_option expr_of head.test.tree) (map_option expr_of head.step.tree) (statement_of body.statement) head.at) × (p.depth ≡ max (max (max head.start.depth head.test.depth) head.step.depth) body.depth + 1)) }
+    ensures err { IfErr result (λ e. e ≡ Memory) }
 {
-    let depth = over_loop(&start, &test, &step, &body)?;
-    let body = Box::new(alloc, body.statement)?;
+    let start = head.start.depth.max(head.test.depth);
+    let depth = start.max(head.step.depth).max(body.depth) + 1;
+    let body = match boxed(alloc, body.statement) {
+        Ok(body) => body,
+        Err(refusal) => {
+            head.let_go();
+            return Err(refusal);
+        }
+    };
     Ok(StatementPart {
         statement: Statement::For {
-            bound,
-            start: start.start,
-            test: test.tree,
-            step: step.tree,
+            bound: head.bound,
+            start: head.start.start,
+            test: head.test.tree,
+            step: head.step.tree,
             body,
-            at,
+            at: head.at,
         },
         depth,
     })
 }
 
-fn block_tree(items: Vec<Item>, at: u32) -> Statement
-    ensures { statement_of result ≡ Block (items_of NoItem items.items) at }
+pub fn block(items: ItemParts, at: u32) -> StatementPart
+    requires { items.depth < 256 }
+    ensures tree { statement_of result.statement ≡ Block (items_of NoItem items.list.items) at }
+    ensures depth { result.depth ≡ items.depth + 1 }
 {
-    Statement::Block { items, at }
-}
-
-#[tactic(auto, using(crate::proofs::NamedSizes::size_items_named))]
-pub fn block(items: ItemParts, at: u32) -> Result<StatementPart, Refusal>
-    ensures ok { IfOk result (λ p. statement_of p.statement ≡ Block (items_of NoItem items.list.items) at) }
-    ensures err { (f : Names) → IfErr result (λ e. BuildFails e (items_depth f items + 1)) }
-{
-    let depth = over(items.depth)?;
-    Ok(StatementPart {
-        statement: block_tree(items.list, at),
+    let depth = items.depth + 1;
+    StatementPart {
+        statement: Statement::block(items.list, at),
         depth,
-    })
+    }
 }
 
-/// The depth of a statement over its test and its items.
-#[tactic(auto, using(crate::proofs::PartDepths::chosen_depth))]
-fn over_chosen(test: &Part, items: &ItemParts) -> Result<u32, Refusal>
-    ensures ok { IfOk result (λ d. (d ≡ max test.now.depth items.now.depth + 1) × (d ≤ 256)) }
-    ensures err { (f : Names) → IfErr result (λ e. BuildFails e (max (part_depth f test.now) (items_depth f items.now) + 1)) }
+pub fn switch(test: Part, items: ItemParts, at: u32) -> StatementPart
+    requires { max test.depth items.depth < 256 }
+    ensures tree { statement_of result.statement ≡ Switch (expr_of test.tree) (items_of NoItem items.list.items) at }
+    ensures depth { result.depth ≡ max test.depth items.depth + 1 }
 {
-    over(test.depth.max(items.depth))
-}
-
-fn switch_tree(test: Expr, items: Vec<Item>, at: u32) -> Statement
-    ensures { statement_of result ≡ Switch (expr_of test) (items_of NoItem items.items) at }
-{
-    Statement::Switch { test, items, at }
-}
-
-pub fn switch(test: Part, items: ItemParts, at: u32) -> Result<StatementPart, Refusal>
-    ensures ok { IfOk result (λ p. statement_of p.statement ≡ Switch (expr_of test.tree) (items_of NoItem items.list.items) at) }
-    ensures err { (f : Names) → IfErr result (λ e. BuildFails e (max (part_depth f test) (items_depth f items) + 1)) }
-{
-    let depth = over_chosen(&test, &items)?;
-    Ok(StatementPart {
-        statement: switch_tree(test.tree, items.list, at),
+    let depth = test.depth.max(items.depth) + 1;
+    StatementPart {
+        statement: Statement::switch(test.tree, items.list, at),
         depth,
-    })
+    }
 }

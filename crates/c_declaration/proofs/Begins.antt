@@ -1,19 +1,11 @@
 -- A token that neither opens nor ends the part at hand begins an operand or a parameter.
 use Rattle.std.proofs.Common.{◌≡◌, ℕ, refl}
-use Rattle.c_tree.specs.declared.token.TokenKind.{TokenKind}
 use Rattle.c_tree.specs.declared.token.TokenKind.TheVariants as kinds
 use Rattle.c_tree.specs.Said.{Lexeme, Plain}
 use Rattle.c_tree.specs.Tree.{Exprs, Nothing, Shape}
 use Rattle.c_grammar.specs.Begun.{Base, Bytes, Declarator, Head, Initialises, Lists, Proto, Sizes}
+use Rattle.c_declaration.specs.Others.{IsOther}
 use Rattle.c_grammar.specs.Machine.{begin, initial, listed, param_begins, params_open, sizing, specifier_of}
-
--- it is not this bracket
-abbrev pub IsOther : TokenKind → Lexeme → Type 0
-IsOther kinds.LeftBrace (Plain kinds.LeftBrace) = ⊥
-IsOther kinds.RightBrace (Plain kinds.RightBrace) = ⊥
-IsOther kinds.RightBracket (Plain kinds.RightBracket) = ⊥
-IsOther kinds.RightParen (Plain kinds.RightParen) = ⊥
-IsOther kind said = Unit {0}
 
 pub size_begins : (said : Lexeme) (here : ℕ) (declarator : Declarator) → IsOther kinds.RightBracket said → begin said here (Base (Sizes declarator)) ≡ sizing said here declarator
 size_begins (Plain kinds.RightBracket) here declarator h = absurd h

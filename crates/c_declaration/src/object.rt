@@ -1,29 +1,35 @@
-ghost use Rattle.std.specs.Prelude.{◌≡◌, ◌+◌, max, IfErr, IfOk};
+ghost use Rattle.std.specs.Prelude.{◌≡◌, ◌+◌, ◌≤◌, false, max, IfErr, IfOk, IsTrue};
+ghost use Rattle.c_begun.specs.Depths.{declarator_depth, head_depth};
+ghost use Rattle.c_begun.specs.View.{Gives, Names, declarator_of, head_of, object_part_of, parts_of, proto_of, scope_of, shape_part_of};
 ghost use Rattle.c_begun.specs.declared.refusal.Refusal.TheVariants.{Memory};
-ghost use Rattle.c_begun.specs.View.{Gives, Names, declarator_of, head_of, object_depth, object_part_of, parts_depth, parts_of, proto_of, scope_of, shape_depth, shape_part_of};
 ghost use Rattle.c_grammar.specs.Begun.{Heading, OfObject};
-ghost use Rattle.c_grammar.specs.Depth.{declarator_deep, head_deep};
 ghost use Rattle.c_grammar.specs.Machine.{declares, initial, listed, named, object_ends, shaped, sizing};
 ghost use Rattle.c_lexeme.specs.Lexemes.{lexeme_of};
+ghost use Rattle.c_declaration.specs.Others.{IsOther};
+ghost use Rattle.c_tree.specs.Said.{Plain};
+ghost use Rattle.c_tree.specs.declared.token.TokenKind.TheVariants.{RightBracket};
 ghost use Rattle.c_tree.specs.Tree.{Absent, Declared, Nothing, Objects, Scalar, Then};
 ghost use Rattle.c_tree.specs.View.{declaration_of, object_of, row_of, shape_of};
 
 use super::parameter::end_shaped_param;
-use c_begun::begun::{Declarator, Head, Proto, Purpose, Scope, Stack, State};
-use c_begun::declaration::{end_declaration, end_object, listed_object, object};
+use c_begun::begun::{Declarator, Head, NameAt, Proto, Purpose, Receiver, Stack, State};
+use c_begun::declaration::{
+    end_declaration, end_object, listed_object, object, object_declaration,
+};
 use c_begun::list::{and_object, no_objects, no_parts};
 use c_begun::part::{DeclarationPart, ObjectPart, ObjectParts, Parts, ShapePart};
 use c_begun::refusal::Refusal;
-use c_lexeme::Lexeme;
+use c_lexeme::{Lexeme, Word};
 use c_operand::operand::begin_operand;
-use c_tree::declaration::{Declaration, Initial, Object, Shape};
-use c_tree::expression::{NameId, Specifier};
+use c_tree::declaration::Shape;
+use c_tree::expression::Specifier;
 use c_tree::token::TokenKind;
 use std::alloc::Global;
 
 /// The shape of what has no size.
 fn scalar() -> ShapePart
-    ensures { shape_of result.shape ≡ Scalar }
+    ensures shape { shape_of result.shape ≡ Scalar }
+    ensures depth { result.depth ≡ 0 }
 {
     ShapePart {
         shape: Shape::Scalar,
@@ -33,41 +39,32 @@ fn scalar() -> ShapePart
 
 /// An object is whole, and a token ends it.
 pub fn end_object_by(lexeme: Lexeme, head: Head, object: ObjectPart) -> Result<State, Refusal>
-    ensures { (f : Names) → Gives f result (object_ends (lexeme_of f lexeme) (head_of f head) (object_part_of f object)) (head_deep (head_of f head) (object_depth f object)) }
+    requires { head_depth head object.depth ≤ 256 }
+    ensures { (f : Names) → Gives f result (object_ends (lexeme_of f lexeme) (head_of f head) (object_part_of f object)) }
 {
     match lexeme {
         Lexeme::Plain(kind) => end_object(kind, head, object),
-        _ => Err(Refusal::Syntax),
+        _ => Err(head.refuse()),
     }
 }
 
 /// An object without an initial value is whole, and a token ends it.
-#[tactic(auto, using(c_begun::proofs::Overs::scope_beside))]
-fn end_bare_object(
-    lexeme: Lexeme,
-    head: Head,
-    name: NameId,
-    shape: ShapePart,
-    at: u32,
-) -> Result<State, Refusal>
-    ensures { (f : Names) → Gives f result (object_ends (lexeme_of f lexeme) (head_of f head) (Declared (f name.0) (shape_part_of f shape) Absent at)) (head_deep (head_of f head) (shape_depth f shape + 1)) }
+#[tactic(auto, using(c_begun::proofs::Deeper::scope_deeper))]
+fn end_bare_object(lexeme: Lexeme, bare: Receiver) -> Result<State, Refusal>
+    requires { head_depth bare.head (bare.shape.depth + 1) ≤ 256 }
+    ensures { (f : Names) → Gives f result (object_ends (lexeme_of f lexeme) (head_of f bare.head) (Declared (f bare.name.name.0) (shape_part_of f bare.shape) Absent bare.name.at)) }
 {
-    end_object_by(lexeme, head, object(name, shape, at)?)
+    end_object_by(lexeme, bare.head, object(bare.name, bare.shape))
 }
 
 /// An object with this shape goes on or ends.
-fn go_on_object(
-    lexeme: Lexeme,
-    head: Head,
-    name: NameId,
-    shape: ShapePart,
-    at: u32,
-) -> Result<State, Refusal>
-    ensures { (f : Names) → Gives f result (shaped (lexeme_of f lexeme) (OfObject (head_of f head) (f name.0) at) (shape_part_of f shape)) (head_deep (head_of f head) (shape_depth f shape + 1)) }
+fn go_on_object(lexeme: Lexeme, object: Receiver) -> Result<State, Refusal>
+    requires { head_depth object.head (object.shape.depth + 1) ≤ 256 }
+    ensures { (f : Names) → Gives f result (shaped (lexeme_of f lexeme) (OfObject (head_of f object.head) (f object.name.name.0) object.name.at) (shape_part_of f object.shape)) }
 {
     match lexeme {
-        Lexeme::Plain(TokenKind::Equal) => Ok(State::Initial(head, name, shape, at)),
-        _ => end_bare_object(lexeme, head, name, shape, at),
+        Lexeme::Plain(TokenKind::Equal) => Ok(State::Initial(object)),
+        _ => end_bare_object(lexeme, object),
     }
 }
 
@@ -77,19 +74,19 @@ pub fn go_on_shaped(
     declarator: Declarator,
     shape: ShapePart,
 ) -> Result<State, Refusal>
-    ensures { (f : Names) → Gives f result (shaped (lexeme_of f lexeme) (declarator_of f declarator) (shape_part_of f shape)) (declarator_deep (declarator_of f declarator) (shape_depth f shape)) }
+    requires { declarator_depth declarator shape.depth ≤ 256 }
+    ensures { (f : Names) → Gives f result (shaped (lexeme_of f lexeme) (declarator_of f declarator) (shape_part_of f shape)) }
 {
     match declarator {
-        Declarator::OfObject(head, name, at) => go_on_object(lexeme, head, name, shape, at),
-        Declarator::OfParam(proto, front, specifiers, name, at) => {
-            end_shaped_param(lexeme, proto, front, specifiers, name, shape, at)
-        }
+        Declarator::OfObject(head, name) => go_on_object(lexeme, Receiver { head, name, shape }),
+        Declarator::OfParam(param) => end_shaped_param(lexeme, param, shape),
     }
 }
 
 /// An object or a parameter without a size so far goes on or ends.
 pub fn go_on_declared(lexeme: Lexeme, declarator: Declarator) -> Result<State, Refusal>
-    ensures { (f : Names) → Gives f result (declares (lexeme_of f lexeme) (declarator_of f declarator)) (declarator_deep (declarator_of f declarator) 0) }
+    requires { declarator_depth declarator 0 ≤ 256 }
+    ensures { (f : Names) → Gives f result (declares (lexeme_of f lexeme) (declarator_of f declarator)) }
 {
     match lexeme {
         Lexeme::Plain(TokenKind::LeftBracket) => Ok(State::Sizing(declarator)),
@@ -97,97 +94,73 @@ pub fn go_on_declared(lexeme: Lexeme, declarator: Declarator) -> Result<State, R
     }
 }
 
-/// An object without a size and an initial value.
-fn bare_object(name: NameId, at: u32) -> ObjectPart
-    ensures { object_of result.object ≡ Declared name.0 Scalar Absent at }
-{
-    ObjectPart {
-        object: Object {
-            name,
-            shape: Shape::Scalar,
-            initial: Initial::Absent,
-            at,
-        },
-        depth: 1,
-    }
-}
-
 /// One object, without a size and an initial value.
-fn one_object(alloc: Global, name: NameId, at: u32) -> Result<ObjectParts, Refusal>
-    ensures ok { IfOk result (λ p. row_of object_of Nothing p.list.items ≡ Then Nothing (Declared name.0 Scalar Absent at)) }
+fn one_object(alloc: Global, name: NameAt) -> Result<ObjectParts, Refusal>
+    ensures ok { IfOk result (λ p. (row_of object_of Nothing p.list.items ≡ Then Nothing (Declared name.name.0 Scalar Absent name.at)) × (p.depth ≡ 1)) }
     ensures err { IfErr result (λ e. e ≡ Memory) }
 {
-    and_object(no_objects(alloc), bare_object(name, at))
+    and_object(no_objects(alloc), object(name, scalar()))
 }
 
 /// The declaration of one object without a size and an initial value.
 fn one_declaration(
     alloc: Global,
     specifiers: Vec<Specifier>,
-    name: NameId,
-    name_at: u32,
+    name: NameAt,
     at: u32,
 ) -> Result<DeclarationPart, Refusal>
-    ensures ok { IfOk result (λ p. declaration_of p.declaration ≡ Objects specifiers.items (Then Nothing (Declared name.0 Scalar Absent name_at)) at) }
+    ensures ok { IfOk result (λ p. declaration_of p.declaration ≡ Objects specifiers.items (Then Nothing (Declared name.name.0 Scalar Absent name.at)) at) }
     ensures err { IfErr result (λ e. e ≡ Memory) }
 {
-    let objects = one_object(alloc, name, name_at)?.list;
-    Ok(DeclarationPart {
-        declaration: Declaration::Objects {
-            specifiers,
-            objects,
-            at,
-        },
-        depth: 2,
-    })
+    let objects = one_object(alloc, name)?;
+    Ok(object_declaration(specifiers, objects, at))
 }
 
 /// The head of a declaration of which no object is whole.
-fn first_head(alloc: Global, specifiers: Vec<Specifier>, at: u32, scope: Scope) -> Head
-    ensures { (f : Names) → head_of f result ≡ Heading specifiers.items Nothing at (scope_of f scope) }
+fn first_head(alloc: Global, first: Proto) -> Head
+    ensures { (f : Names) → head_of f result ≡ Heading first.specifiers.items Nothing first.at (scope_of f first.scope) }
 {
     Head {
-        specifiers,
+        specifiers: first.specifiers,
         objects: no_objects(alloc),
-        at,
-        scope,
+        at: first.at,
+        scope: first.scope,
     }
 }
 
 /// The first object of a declaration, without a size so far, goes on or ends; what is made is too small to be
 /// too deep.
 fn go_on_first(alloc: Global, lexeme: Lexeme, first: Proto) -> Result<State, Refusal>
-    ensures { (f : Names) → Gives f result (declares (lexeme_of f lexeme) (OfObject (Heading first.specifiers.items Nothing first.at (scope_of f first.scope)) (f first.name.0) first.name_at)) 0 }
+    ensures { (f : Names) → Gives f result (declares (lexeme_of f lexeme) (OfObject (Heading first.specifiers.items Nothing first.at (scope_of f first.scope)) (f first.name.name.0) first.name.at)) }
 {
+    let name = first.name;
     match lexeme {
-        Lexeme::Plain(TokenKind::LeftBracket) => Ok(State::Sizing(Declarator::OfObject(
-            first_head(alloc, first.specifiers, first.at, first.scope),
-            first.name,
-            first.name_at,
-        ))),
-        Lexeme::Plain(TokenKind::Equal) => Ok(State::Initial(
-            first_head(alloc, first.specifiers, first.at, first.scope),
-            first.name,
-            scalar(),
-            first.name_at,
-        )),
+        Lexeme::Plain(TokenKind::LeftBracket) => {
+            let head = first_head(alloc, first);
+            Ok(State::Sizing(Declarator::OfObject(head, name)))
+        }
+        Lexeme::Plain(TokenKind::Equal) => Ok(State::Initial(Receiver {
+            head: first_head(alloc, first),
+            name,
+            shape: scalar(),
+        })),
         Lexeme::Plain(TokenKind::Comma) => Ok(State::Further(Head {
             specifiers: first.specifiers,
-            objects: one_object(alloc, first.name, first.name_at)?,
+            objects: one_object(alloc, name)?,
             at: first.at,
             scope: first.scope,
         })),
-        Lexeme::Plain(TokenKind::Semicolon) => end_declaration(
-            first.scope,
-            one_declaration(alloc, first.specifiers, first.name, first.name_at, first.at)?,
-        ),
-        _ => Err(Refusal::Syntax),
+        Lexeme::Plain(TokenKind::Semicolon) => {
+            let whole = one_declaration(alloc, first.specifiers, name, first.at)?;
+            end_declaration(first.scope, whole)
+        }
+        _ => Err(first.refuse()),
     }
 }
 
 /// Behind the first name of a declaration.
 pub fn go_on_named(alloc: Global, lexeme: Lexeme, proto: Proto) -> Result<State, Refusal>
-    ensures { (f : Names) → Gives f result (named (lexeme_of f lexeme) (proto_of f proto)) 0 }
+    ensures { (f : Names) → Gives f result (named (lexeme_of f lexeme) (proto_of f proto)) }
 {
     match lexeme {
         Lexeme::Plain(TokenKind::LeftParen) => Ok(State::ParamsOpen(proto)),
@@ -195,75 +168,68 @@ pub fn go_on_named(alloc: Global, lexeme: Lexeme, proto: Proto) -> Result<State,
     }
 }
 
-/// Behind the bracket of a size.
-pub fn begin_size(
-    alloc: Global,
-    lexeme: Lexeme,
-    here: u32,
-    declarator: Declarator,
-) -> Result<State, Refusal>
-    ensures { (f : Names) → Gives f result (sizing (lexeme_of f lexeme) here (declarator_of f declarator)) 0 }
+/// Whether a token closes the bracket of a size.
+fn closes_size(lexeme: &Lexeme) -> bool
+    ensures yes { (f : Names) → IsTrue result → lexeme_of f lexeme.now ≡ Plain RightBracket }
+    ensures no { (f : Names) → result ≡ false → IsOther RightBracket (lexeme_of f lexeme.now) }
 {
     match lexeme {
-        Lexeme::Plain(TokenKind::RightBracket) => Ok(State::Shaped(
-            declarator,
-            ShapePart {
-                shape: Shape::Unsized,
-                depth: 0,
-            },
-        )),
-        _ => begin_operand(alloc, lexeme, here, Stack::Base(Purpose::Sizes(declarator))),
+        Lexeme::Plain(TokenKind::RightBracket) => true,
+        _ => false,
     }
 }
 
-/// An initial value begins.
-pub fn begin_initial(
-    alloc: Global,
-    lexeme: Lexeme,
-    here: u32,
-    head: Head,
-    name: NameId,
-    shape: ShapePart,
-    at: u32,
-) -> Result<State, Refusal>
-    ensures { (f : Names) → Gives f result (initial (lexeme_of f lexeme) here (head_of f head) (f name.0) (shape_part_of f shape) at) 0 }
+/// Behind the bracket of a size.
+pub fn begin_size(alloc: Global, word: Word, declarator: Declarator) -> Result<State, Refusal>
+    ensures { (f : Names) → Gives f result (sizing (lexeme_of f word.lexeme) word.at (declarator_of f declarator)) }
 {
+    if closes_size(&word.lexeme) {
+        let shape = ShapePart {
+            shape: Shape::Unsized,
+            depth: 0,
+        };
+        return Ok(State::Shaped(declarator, shape));
+    }
+    begin_operand(alloc, word, Stack::Base(Purpose::Sizes(declarator)))
+}
+
+/// An initial value begins.
+pub fn begin_initial(alloc: Global, word: Word, object: Receiver) -> Result<State, Refusal>
+    ensures { (f : Names) → Gives f result (initial (lexeme_of f word.lexeme) word.at (head_of f object.head) (f object.name.name.0) (shape_part_of f object.shape) object.name.at) }
+{
+    let Word { lexeme, at } = word;
     match lexeme {
-        Lexeme::Plain(TokenKind::LeftBrace) => Ok(State::Wants(Stack::Base(Purpose::Lists(
-            head,
-            name,
-            shape,
-            no_parts(alloc),
-            at,
-        )))),
+        Lexeme::Plain(TokenKind::LeftBrace) => {
+            let list = Purpose::Lists(object, no_parts(alloc));
+            Ok(State::Wants(Stack::Base(list)))
+        }
         _ => {
-            let under = Stack::Base(Purpose::Initialises(head, name, shape, at));
-            begin_operand(alloc, lexeme, here, under)
+            let under = Stack::Base(Purpose::Initialises(object));
+            begin_operand(alloc, Word { lexeme, at }, under)
         }
     }
 }
 
 /// Behind a comma of a list of initial values.
-#[tactic(auto, using(c_begun::proofs::Overs::scope_beside))]
+#[tactic(auto, using(c_begun::proofs::Deeper::scope_deeper))]
 pub fn go_on_listed(
     alloc: Global,
-    lexeme: Lexeme,
-    here: u32,
-    head: Head,
-    name: NameId,
-    shape: ShapePart,
+    word: Word,
+    object: Receiver,
     front: Parts,
-    at: u32,
 ) -> Result<State, Refusal>
-    ensures { (f : Names) → Gives f result (listed (lexeme_of f lexeme) here (head_of f head) (f name.0) (shape_part_of f shape) (parts_of f front) at) (head_deep (head_of f head) (max (shape_depth f shape) (parts_depth f front) + 1)) }
+    requires { head_depth object.head (max object.shape.depth front.depth + 1) ≤ 256 }
+    ensures { (f : Names) → Gives f result (listed (lexeme_of f word.lexeme) word.at (head_of f object.head) (f object.name.name.0) (shape_part_of f object.shape) (parts_of f front) object.name.at) }
 {
+    let Word { lexeme, at } = word;
     match lexeme {
         Lexeme::Plain(TokenKind::RightBrace) => {
-            Ok(State::Ended(head, listed_object(name, shape, front, true, at)?))
+            let whole = listed_object(object.name, object.shape, front, true);
+            Ok(State::Ended(object.head, whole))
         }
         _ => {
-            let under = Stack::Base(Purpose::Lists(head, name, shape, front, at));
-            begin_operand(alloc, lexeme, here, under)
+            let under = Stack::Base(Purpose::Lists(object, front));
+            begin_operand(alloc, Word { lexeme, at }, under)
         }
     }
 }

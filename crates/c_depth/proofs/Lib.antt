@@ -1,2 +1,4 @@
-pub mod Deeper
-pub mod SameDepths
+pub mod Befores
+pub mod Steps
+pub mod Knowns
+pub mod Stops

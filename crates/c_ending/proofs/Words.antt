@@ -9,7 +9,7 @@ use Rattle.c_tree.specs.Formed.{level_of, place}
 use Rattle.c_tree.specs.Said as lexemes
 use Rattle.c_tree.specs.Said.{Lexeme, Plain}
 use Rattle.c_tree.specs.Tree.{Expr, Prefix, Cast, Binary, Conditional, Assign}
-use Rattle.c_grammar.specs.Begun.{Bytes, Purpose, Evaluates, Returns, Tests, Starts, Bounds, Repeats, Sizes, Initialises, Lists, Labels, Stack, Base, InParen, InIndex, InCall, AfterPrefix, AfterCast, AfterJoin, InChoice, AfterColon, AfterAssign, Head, Heading, demand, limit}
+use Rattle.c_grammar.specs.Begun.{Bytes, Purpose, Evaluates, Returns, Tests, Starts, Guards, Repeats, Sizes, Initialises, Lists, Labels, Stack, Base, InParen, InIndex, InCall, AfterPrefix, AfterCast, AfterJoin, AfterQuestion, AfterColon, AfterAssign, Head, Heading, demand, limit}
 use Rattle.c_grammar.specs.Machine.{Stuck, Other, role, enter, leave, go_on, object_ends, took}
 use Rattle.c_tree.specs.Tree.{Object}
 use Rattle.c_ending.specs.Words.{IsWord}
@@ -47,7 +47,7 @@ not_limit (Evaluates under) = refl
 not_limit (Returns at under) = refl
 not_limit (Tests test) = refl
 not_limit (Starts bound at under) = refl
-not_limit (Bounds bound start at under) = refl
+not_limit (Guards bound start at under) = refl
 not_limit (Repeats bound start test at under) = refl
 not_limit (Sizes declarator) = refl
 not_limit (Initialises head name shape at) = refl
@@ -62,7 +62,7 @@ not_demand (InCall function at front under) = refl
 not_demand (AfterPrefix operator at under) = refl
 not_demand (AfterCast all at under) = refl
 not_demand (AfterJoin operator left under) = not_level operator
-not_demand (InChoice test under) = refl
+not_demand (AfterQuestion test under) = refl
 not_demand (AfterColon test first under) = refl
 not_demand (AfterAssign operator target under) = refl
 
@@ -74,7 +74,7 @@ took_word (Evaluates under) tree said h = by_word (λ said. took (Evaluates unde
 took_word (Returns at under) tree said h = by_word (λ said. took (Returns at under) said tree ≡ Stuck) (λ n. refl) (λ c. refl) (λ v. refl) (λ k b. refl) said h
 took_word (Tests test) tree said h = by_word (λ said. took (Tests test) said tree ≡ Stuck) (λ n. refl) (λ c. refl) (λ v. refl) (λ k b. refl) said h
 took_word (Starts bound at under) tree said h = by_word (λ said. took (Starts bound at under) said tree ≡ Stuck) (λ n. refl) (λ c. refl) (λ v. refl) (λ k b. refl) said h
-took_word (Bounds bound start at under) tree said h = by_word (λ said. took (Bounds bound start at under) said tree ≡ Stuck) (λ n. refl) (λ c. refl) (λ v. refl) (λ k b. refl) said h
+took_word (Guards bound start at under) tree said h = by_word (λ said. took (Guards bound start at under) said tree ≡ Stuck) (λ n. refl) (λ c. refl) (λ v. refl) (λ k b. refl) said h
 took_word (Repeats bound start test at under) tree said h = by_word (λ said. took (Repeats bound start test at under) said tree ≡ Stuck) (λ n. refl) (λ c. refl) (λ v. refl) (λ k b. refl) said h
 took_word (Sizes declarator) tree said h = by_word (λ said. took (Sizes declarator) said tree ≡ Stuck) (λ n. refl) (λ c. refl) (λ v. refl) (λ k b. refl) said h
 took_word (Initialises head name shape at) tree said h = object_word head _ said h
@@ -90,7 +90,7 @@ leave_word (Base purpose) said tree h = took_word purpose tree said h
 leave_word (InParen at under) said tree h = refl
 leave_word (InIndex array at under) said tree h = refl
 leave_word (InCall function at front under) said tree h = refl
-leave_word (InChoice test under) said tree h = refl
+leave_word (AfterQuestion test under) said tree h = refl
 leave_word (AfterPrefix operator at under) said tree h = below under said _ (leave_word under said (Prefix operator tree at) h)
 leave_word (AfterCast all at under) said tree h = below under said _ (leave_word under said (Cast all tree at) h)
 leave_word (AfterJoin operator left under) said tree h = below under said _ (leave_word under said (Binary operator left tree (place left)) h)

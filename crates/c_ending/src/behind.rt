@@ -1,44 +1,46 @@
-ghost use Rattle.std.specs.Prelude.{◌≡◌, ◌+◌, Err, IfNone, IfSome};
-ghost use Rattle.c_grammar.specs.Depth.{stack_deep};
+ghost use Rattle.std.specs.Prelude.{◌≡◌, ◌≤◌, IfErr, IfNone, IfOk, IfSome};
+ghost use Rattle.c_grammar.specs.Begun.{InCall};
 ghost use Rattle.c_grammar.specs.Machine.{called, cast_ends, go_on, opened, role, specifier_of, typed};
-ghost use Rattle.c_begun.specs.declared.refusal.Refusal.TheVariants.{Syntax};
+ghost use Rattle.c_tree.specs.Said.{Plain};
+ghost use Rattle.c_tree.specs.Tree.{NoExpr};
+ghost use Rattle.c_begun.specs.Depths.{stack_depth};
+ghost use Rattle.c_begun.specs.View.{Gives, Names, part_of, stack_of};
+ghost use Rattle.c_begun.specs.declared.refusal.Refusal.TheVariants.{Memory};
 ghost use Rattle.c_ending.specs.Words.{IsWord};
 ghost use Rattle.c_lexeme.specs.Lexemes.{lexeme_of};
-ghost use Rattle.c_tree.specs.Said.{Plain};
-ghost use Rattle.c_begun.specs.View.{Gives, Names, part_depth, part_of, stack_of};
 
 use super::leave::go_on_with;
-use c_begun::begun::{Stack, State};
+use c_begun::begun::{NameAt, Stack, State};
 use c_begun::expression::call_of_none;
-use c_begun::list::no_parts;
+use c_begun::list::{and_specifier, no_parts, one_specifier};
 use c_begun::part::Part;
 use c_begun::refusal::Refusal;
-use c_lexeme::Lexeme;
+use c_lexeme::{Lexeme, Word};
 use c_operand::operand::begin_operand;
 use c_operand::role::{role_of, specifier_said};
-use c_tree::expression::{NameId, Specifier};
+use c_tree::expression::Specifier;
 use c_tree::token::TokenKind;
 use std::alloc::Global;
 
 /// Behind an opening round bracket a type or an operand begins.
-pub fn begin_bracket(
-    alloc: Global,
-    lexeme: Lexeme,
-    here: u32,
-    at: u32,
-    under: Stack,
-) -> Result<State, Refusal>
-    ensures { (f : Names) → Gives f result (opened (specifier_of (lexeme_of f lexeme)) (lexeme_of f lexeme) here at (stack_of f under)) 0 }
+pub fn begin_bracket(alloc: Global, word: Word, at: u32, under: Stack) -> Result<State, Refusal>
+    ensures { (f : Names) → Gives f result (opened (specifier_of (lexeme_of f word.lexeme)) (lexeme_of f word.lexeme) word.at at (stack_of f under)) }
 {
-    match specifier_said(&lexeme) {
-        Some(first) => {
-            let mut specifiers = Vec::new(alloc);
-            specifiers.push(first)?;
-            Ok(State::Typed(specifiers, at, under))
-        }
+    match specifier_said(&word.lexeme) {
+        Some(first) => match one_specifier(alloc, first) {
+            Ok(specifiers) => Ok(State::Typed {
+                specifiers,
+                at,
+                under,
+            }),
+            Err(refusal) => {
+                under.let_go();
+                Err(refusal)
+            }
+        },
         None => {
-            let under = Stack::InParen(at, Box::new(alloc, under)?);
-            begin_operand(alloc, lexeme, here, under)
+            let under = under.boxed(alloc)?;
+            begin_operand(alloc, word, Stack::InParen { at, under })
         }
     }
 }
@@ -51,15 +53,18 @@ fn end_type(
     at: u32,
     under: Stack,
 ) -> Result<State, Refusal>
-    ensures { (f : Names) → Gives f result (cast_ends (lexeme_of f lexeme) specifiers.items at (stack_of f under)) 0 }
+    ensures { (f : Names) → Gives f result (cast_ends (lexeme_of f lexeme) specifiers.items at (stack_of f under)) }
 {
     match lexeme {
-        Lexeme::Plain(TokenKind::RightParen) => Ok(State::Wants(Stack::AfterCast(
-            specifiers,
-            at,
-            Box::new(alloc, under)?,
-        ))),
-        _ => Err(Refusal::Syntax),
+        Lexeme::Plain(TokenKind::RightParen) => {
+            let under = under.boxed(alloc)?;
+            Ok(State::Wants(Stack::AfterCast {
+                specifiers,
+                at,
+                under,
+            }))
+        }
+        _ => Err(under.refuse()),
     }
 }
 
@@ -71,36 +76,50 @@ pub fn go_on_type(
     at: u32,
     under: Stack,
 ) -> Result<State, Refusal>
-    ensures { (f : Names) → Gives f result (typed (specifier_of (lexeme_of f lexeme)) (lexeme_of f lexeme) specifiers.items at (stack_of f under)) 0 }
+    ensures { (f : Names) → Gives f result (typed (specifier_of (lexeme_of f lexeme)) (lexeme_of f lexeme) specifiers.items at (stack_of f under)) }
 {
     match specifier_said(&lexeme) {
-        Some(next) => {
-            let mut all = specifiers;
-            all.push(next)?;
-            Ok(State::Typed(all, at, under))
-        }
+        Some(next) => match and_specifier(specifiers, next) {
+            Ok(specifiers) => Ok(State::Typed {
+                specifiers,
+                at,
+                under,
+            }),
+            Err(refusal) => {
+                under.let_go();
+                Err(refusal)
+            }
+        },
         None => end_type(alloc, lexeme, specifiers, at, under),
     }
+}
+
+/// A call of which no argument has begun.
+fn in_call(alloc: Global, function: NameAt, under: Stack) -> Result<Stack, Refusal>
+    ensures ok { (f : Names) → IfOk result (λ s. stack_of f s ≡ InCall (f function.name.0) function.at NoExpr (stack_of f under)) }
+    ensures err { IfErr result (λ e. e ≡ Memory) }
+{
+    let under = under.boxed(alloc)?;
+    Ok(Stack::InCall(function, no_parts(alloc), under))
 }
 
 /// Behind the opening bracket of a call it ends, or an argument begins.
 pub fn begin_arguments(
     alloc: Global,
-    lexeme: Lexeme,
-    here: u32,
-    function: NameId,
-    at: u32,
+    word: Word,
+    function: NameAt,
     under: Stack,
 ) -> Result<State, Refusal>
-    ensures { (f : Names) → Gives f result (called (lexeme_of f lexeme) here (f function.0) at (stack_of f under)) 0 }
+    ensures { (f : Names) → Gives f result (called (lexeme_of f word.lexeme) word.at (f function.name.0) function.at (stack_of f under)) }
 {
+    let Word { lexeme, at } = word;
     match lexeme {
         Lexeme::Plain(TokenKind::RightParen) => {
-            Ok(State::Has(call_of_none(alloc, function, at), under))
+            Ok(State::Has(call_of_none(alloc, function), under))
         }
         _ => {
-            let under = Stack::InCall(function, at, no_parts(alloc), Box::new(alloc, under)?);
-            begin_operand(alloc, lexeme, here, under)
+            let under = in_call(alloc, function, under)?;
+            begin_operand(alloc, Word { lexeme, at }, under)
         }
     }
 }
@@ -116,15 +135,6 @@ fn plain_kind(lexeme: &Lexeme) -> Option<TokenKind>
     }
 }
 
-/// Nothing may stand there.
-fn refuse(tree: Part, under: Stack) -> Result<State, Refusal>
-    ensures { result ≡ Err Syntax }
-{
-    let _tree = tree;
-    let _under = under;
-    Err(Refusal::Syntax)
-}
-
 /// What a token does behind an operand.
 #[tactic(auto, using(crate::proofs::Words::word_behind))]
 pub fn behind_operand(
@@ -133,10 +143,14 @@ pub fn behind_operand(
     tree: Part,
     under: Stack,
 ) -> Result<State, Refusal>
-    ensures { (f : Names) → Gives f result (go_on (role (lexeme_of f lexeme)) (lexeme_of f lexeme) (part_of f tree) (stack_of f under)) (stack_deep (stack_of f under) (part_depth f tree)) }
+    requires { stack_depth under tree.depth ≤ 256 }
+    ensures { (f : Names) → Gives f result (go_on (role (lexeme_of f lexeme)) (lexeme_of f lexeme) (part_of f tree) (stack_of f under)) }
 {
     match plain_kind(&lexeme) {
         Some(kind) => go_on_with(alloc, under, role_of(kind), kind, tree),
-        None => refuse(tree, under),
+        None => {
+            tree.let_go();
+            Err(under.refuse())
+        }
     }
 }

@@ -1,15 +1,16 @@
-ghost use Rattle.std.specs.Prelude.{◌≡◌, ◌+◌, max, IfErr, IfOk};
-ghost use Rattle.c_tree.specs.Said.{Plain};
+ghost use Rattle.std.specs.Prelude.{◌≡◌, ◌+◌, ◌<◌, ◌≤◌, max, IfErr, IfOk};
+ghost use Rattle.c_tree.specs.Said.{Lexeme, Plain};
 ghost use Rattle.c_tree.specs.Tree.{AndExpr, Call, NoExpr};
 ghost use Rattle.c_tree.specs.View.{expr_of, exprs_of};
-ghost use Rattle.c_grammar.specs.Begun.{InCall, InChoice, InIndex, InParen};
-ghost use Rattle.c_grammar.specs.Depth.{stack_deep};
+ghost use Rattle.c_grammar.specs.Begun.{InCall, AfterQuestion, InIndex, InParen};
 ghost use Rattle.c_grammar.specs.Machine.{go_on, leave};
 ghost use Rattle.c_operand.specs.Roles.{role_view};
-ghost use Rattle.c_begun.specs.View.{BuildFails, Gives, Names, part_depth, part_of, parts_depth, parts_of, stack_of};
+ghost use Rattle.c_begun.specs.Depths.{stack_depth};
+ghost use Rattle.c_begun.specs.View.{Gives, Names, part_of, parts_of, stack_of};
+ghost use Rattle.c_begun.specs.declared.refusal.Refusal.TheVariants.{Memory};
 
 use super::take::take;
-use c_begun::begun::{Stack, State};
+use c_begun::begun::{NameAt, Stack, State};
 use c_begun::expression::{assign, binary, call, cast, conditional, index, paren, prefix};
 use c_begun::list::and_expr;
 use c_begun::part::{Part, Parts};
@@ -17,96 +18,108 @@ use c_begun::refusal::Refusal;
 use c_operand::demand::demand_of;
 use c_operand::operand::enter_role;
 use c_operand::role::{Role, reach_of};
-use c_tree::expression::{BinaryOperator, NameId};
+use c_tree::expression::BinaryOperator;
 use c_tree::token::TokenKind;
 use std::alloc::Global;
 
 /// The operand in round brackets has ended.
-#[tactic(auto, using(c_begun::proofs::Overs::stack_keep))]
 fn close_paren(
     alloc: Global,
-    under: Stack,
+    under: Box<Stack>,
     role: Role,
-    kind: TokenKind,
     tree: Part,
     at: u32,
 ) -> Result<State, Refusal>
-    ensures { (f : Names) → Gives f result (leave (InParen at (stack_of f under)) (role_view role kind) (Plain kind) (part_of f tree)) (stack_deep (stack_of f under) (part_depth f tree + 1)) }
+    requires { tree.depth < 256 }
+    ensures { (f : Names) (said : Lexeme) → Gives f result (leave (InParen at (stack_of f under.value)) (role_view role) said (part_of f tree)) }
 {
     match role {
-        Role::ClosesParen => Ok(State::Has(paren(alloc, tree, at)?, under)),
-        _ => Err(Refusal::Syntax),
+        Role::ClosesParen => {
+            let whole = paren(alloc, tree, at)?;
+            Ok(State::Has(whole, Box::into_inner(under)))
+        }
+        _ => {
+            tree.let_go();
+            Err(Refusal::Syntax)
+        }
     }
 }
 
 /// The operand in square brackets has ended.
-#[tactic(auto, using(c_begun::proofs::Overs::stack_keep))]
 fn close_index(
     alloc: Global,
-    under: Stack,
+    under: Box<Stack>,
     role: Role,
-    kind: TokenKind,
     tree: Part,
-    array: NameId,
-    at: u32,
+    array: NameAt,
 ) -> Result<State, Refusal>
-    ensures { (f : Names) → Gives f result (leave (InIndex (f array.0) at (stack_of f under)) (role_view role kind) (Plain kind) (part_of f tree)) (stack_deep (stack_of f under) (part_depth f tree + 1)) }
+    requires { tree.depth < 256 }
+    ensures { (f : Names) (said : Lexeme) → Gives f result (leave (InIndex (f array.name.0) array.at (stack_of f under.value)) (role_view role) said (part_of f tree)) }
 {
     match role {
-        Role::ClosesBracket => Ok(State::Has(index(alloc, array, tree, at)?, under)),
-        _ => Err(Refusal::Syntax),
+        Role::ClosesBracket => {
+            let whole = index(alloc, array, tree)?;
+            Ok(State::Has(whole, Box::into_inner(under)))
+        }
+        _ => {
+            tree.let_go();
+            Err(Refusal::Syntax)
+        }
     }
 }
 
 /// A call with one argument more.
-fn call_with(function: NameId, front: Parts, last: Part, at: u32) -> Result<Part, Refusal>
-    ensures ok { IfOk result (λ p. expr_of p.tree ≡ Call function.0 (AndExpr (exprs_of NoExpr front.list.items) (expr_of last.tree)) at) }
-    ensures err { (f : Names) → IfErr result (λ e. BuildFails e (max (parts_depth f front) (part_depth f last) + 1)) }
+fn call_with(function: NameAt, front: Parts, last: Part) -> Result<Part, Refusal>
+    requires { max front.depth last.depth < 256 }
+    ensures ok { IfOk result (λ p. expr_of p.tree ≡ Call function.name.0 (AndExpr (exprs_of NoExpr front.list.items) (expr_of last.tree)) function.at) }
+    ensures err { IfErr result (λ e. e ≡ Memory) }
 {
-    call(function, and_expr(front, last)?, at)
+    let arguments = and_expr(front, last)?;
+    Ok(call(function, arguments))
 }
 
 /// An argument of a call has ended.
-#[tactic(auto, using(c_begun::proofs::Overs::stack_keep))]
 fn close_argument(
     under: Box<Stack>,
     role: Role,
-    kind: TokenKind,
     tree: Part,
-    function: NameId,
-    at: u32,
+    function: NameAt,
     front: Parts,
 ) -> Result<State, Refusal>
-    ensures { (f : Names) → Gives f result (leave (InCall (f function.0) at (parts_of f front) (stack_of f under.value)) (role_view role kind) (Plain kind) (part_of f tree)) (stack_deep (InCall (f function.0) at (parts_of f front) (stack_of f under.value)) (part_depth f tree)) }
+    requires { max front.depth tree.depth < 256 }
+    ensures { (f : Names) (said : Lexeme) → Gives f result (leave (InCall (f function.name.0) function.at (parts_of f front) (stack_of f under.value)) (role_view role) said (part_of f tree)) }
 {
     match role {
         Role::ClosesParen => {
-            let whole = call_with(function, front, tree, at)?;
+            let whole = call_with(function, front, tree)?;
             Ok(State::Has(whole, Box::into_inner(under)))
         }
-        Role::Joins(BinaryOperator::Comma) => Ok(State::Wants(Stack::InCall(
-            function,
-            at,
-            and_expr(front, tree)?,
-            under,
-        ))),
-        _ => Err(Refusal::Syntax),
+        Role::Joins(BinaryOperator::Comma) => {
+            let front = and_expr(front, tree)?;
+            Ok(State::Wants(Stack::InCall(function, front, under)))
+        }
+        _ => {
+            tree.let_go();
+            Err(Refusal::Syntax)
+        }
     }
 }
 
 /// The second operand of a conditional has ended.
-fn part_choice(
-    under: Box<Stack>,
-    role: Role,
-    kind: TokenKind,
-    tree: Part,
-    test: Part,
-) -> Result<State, Refusal>
-    ensures { (f : Names) → Gives f result (leave (InChoice (part_of f test) (stack_of f under.value)) (role_view role kind) (Plain kind) (part_of f tree)) 0 }
+fn separate(under: Box<Stack>, role: Role, tree: Part, test: Part) -> Result<State, Refusal>
+    ensures { (f : Names) (said : Lexeme) → Gives f result (leave (AfterQuestion (part_of f test) (stack_of f under.value)) (role_view role) said (part_of f tree)) }
 {
     match role {
-        Role::Parts => Ok(State::Wants(Stack::AfterColon(test, tree, under))),
-        _ => Err(Refusal::Syntax),
+        Role::Separates => Ok(State::Wants(Stack::AfterColon {
+            test,
+            first: tree,
+            under,
+        })),
+        _ => {
+            test.let_go();
+            tree.let_go();
+            Err(Refusal::Syntax)
+        }
     }
 }
 
@@ -119,10 +132,11 @@ pub fn go_on_with(
     kind: TokenKind,
     tree: Part,
 ) -> Result<State, Refusal>
-    ensures { (f : Names) → Gives f result (go_on (role_view role kind) (Plain kind) (part_of f tree) (stack_of f under)) (stack_deep (stack_of f under) (part_depth f tree)) }
+    requires { stack_depth under tree.depth ≤ 256 }
+    ensures { (f : Names) → Gives f result (go_on (role_view role) (Plain kind) (part_of f tree) (stack_of f under)) }
 {
-    if reach_of(role, kind) <= demand_of(&under) {
-        enter_role(alloc, role, kind, tree, under)
+    if reach_of(role) <= demand_of(&under) {
+        enter_role(alloc, role, tree, under)
     } else {
         leave_part(alloc, under, role, kind, tree)
     }
@@ -130,7 +144,7 @@ pub fn go_on_with(
 
 /// The operand has ended, and the part that it ends goes on or ends with it.
 #[cycle(leaving)]
-#[tactic(auto, using(c_begun::proofs::Overs::stack_keep, c_begun::proofs::NamedTrees::place_named))]
+#[tactic(auto, using(c_begun::proofs::Deeper::stack_deeper, c_tree::proofs::NamedTrees::place_named))]
 fn leave_part(
     alloc: Global,
     under: Stack,
@@ -138,39 +152,56 @@ fn leave_part(
     kind: TokenKind,
     tree: Part,
 ) -> Result<State, Refusal>
-    ensures { (f : Names) → Gives f result (leave (stack_of f under) (role_view role kind) (Plain kind) (part_of f tree)) (stack_deep (stack_of f under) (part_depth f tree)) }
+    requires { stack_depth under tree.depth ≤ 256 }
+    ensures { (f : Names) → Gives f result (leave (stack_of f under) (role_view role) (Plain kind) (part_of f tree)) }
 {
     match under {
-        Stack::AfterPrefix(operator, at, rest) => {
+        Stack::AfterPrefix {
+            operator,
+            at,
+            under: rest,
+        } => {
             let whole = prefix(alloc, operator, tree, at)?;
             go_on_with(alloc, Box::into_inner(rest), role, kind, whole)
         }
-        Stack::AfterCast(specifiers, at, rest) => {
+        Stack::AfterCast {
+            specifiers,
+            at,
+            under: rest,
+        } => {
             let whole = cast(alloc, specifiers, tree, at)?;
             go_on_with(alloc, Box::into_inner(rest), role, kind, whole)
         }
-        Stack::AfterJoin(operator, left, rest) => {
+        Stack::AfterJoin {
+            operator,
+            left,
+            under: rest,
+        } => {
             let whole = binary(alloc, operator, left, tree)?;
             go_on_with(alloc, Box::into_inner(rest), role, kind, whole)
         }
-        Stack::AfterColon(test, first, rest) => {
+        Stack::AfterColon {
+            test,
+            first,
+            under: rest,
+        } => {
             let whole = conditional(alloc, test, first, tree)?;
             go_on_with(alloc, Box::into_inner(rest), role, kind, whole)
         }
-        Stack::AfterAssign(operator, target, rest) => {
+        Stack::AfterAssign {
+            operator,
+            target,
+            under: rest,
+        } => {
             let whole = assign(alloc, operator, target, tree)?;
             go_on_with(alloc, Box::into_inner(rest), role, kind, whole)
         }
-        Stack::InParen(at, rest) => {
-            close_paren(alloc, Box::into_inner(rest), role, kind, tree, at)
+        Stack::InParen { at, under: rest } => close_paren(alloc, rest, role, tree, at),
+        Stack::InIndex(array, rest) => close_index(alloc, rest, role, tree, array),
+        Stack::InCall(function, front, rest) => {
+            close_argument(rest, role, tree, function, front)
         }
-        Stack::InIndex(array, at, rest) => {
-            close_index(alloc, Box::into_inner(rest), role, kind, tree, array, at)
-        }
-        Stack::InCall(function, at, front, rest) => {
-            close_argument(rest, role, kind, tree, function, at, front)
-        }
-        Stack::InChoice(test, rest) => part_choice(rest, role, kind, tree, test),
+        Stack::AfterQuestion { test, under: rest } => separate(rest, role, tree, test),
         Stack::Base(purpose) => take(alloc, purpose, kind, tree),
     }
 }

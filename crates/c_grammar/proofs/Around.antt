@@ -5,9 +5,10 @@ use Rattle.c_tree.specs.declared.token.TokenKind.TheVariants as kinds
 use Rattle.c_tree.specs.Said as lexemes
 use Rattle.c_tree.specs.Said.{Lexeme, Plain}
 use Rattle.c_tree.specs.Formed.{level, level_of, IsSome, IsSomeRow, EachOf, AreSome, IsFormed, AreFormed, IsFormedOption, IsFormedShape, IsFormedObject, IsFormedParam, IsFormedStart, IsFormedStatement, AreFormedItems, IsFormedExternal, ends_open}
-use Rattle.c_tree.specs.Spelling.{Spoken, Mark, Kept, Agree, kept, free, free_specifier, prefix_kind, binary_kind, assign_kind, spell, spell_all, spell_row, spell_optional, spell_specifiers, spell_shape, spell_object, spell_name, spell_param, spell_note, spell_bound, spell_start, spell_test, spell_statement, spell_items, spell_externals}
-use Rattle.c_tree.specs.Tree.{Row, Nothing, Then, Exprs, NoExpr, AndExpr, Noted, Statement, Do, Break, Continue}
-use Rattle.c_grammar.specs.Begun.{Bytes, Header, Heads, Frames, InItems, InThen, InElse, InWhile, InDo, InFor, Braces, OfBlock, OfSwitch, OfFunction, Scope, AtFile, AmongItems, AtFor, Head, Heading, Proto, Signs, Declarator, OfObject, OfParam, Test, OfIf, OfWhile, OfDo, OfChoice, Purpose, Evaluates, Returns, Tests, Starts, Bounds, Repeats, Sizes, Initialises, Lists, Labels, Stack, Base, InParen, InIndex, InCall, AfterPrefix, AfterCast, AfterJoin, InChoice, AfterColon, AfterAssign, demand, State, Wants, Has, Opened, Typed, Called, File, Among, Begins, Stands, Closes, Bounded, Opens, Chooses, Answers, Defaults, Loops, LoopStarts, LoopTests, LoopSteps, Specified, Named, Further, Declares, Sizing, Shaped, Initial, Listed, Ended, ParamsOpen, ParamNext, ParamSpecified, ParamsDone}
+use Rattle.c_tree.specs.Spelling.{Spoken, Mark, Kept, Agree, kept, free, free_specifier, prefix_kind, binary_kind, assign_kind, spell, spell_all, spell_row, spell_optional, spell_specifiers, spell_shape, spell_object, spell_name, spell_param, spell_pragma, spell_bound, spell_start, spell_test, spell_statement, spell_items, spell_externals}
+use Rattle.c_tree.specs.declared.pragma.Pragma.{Pragma}
+use Rattle.c_tree.specs.Tree.{Row, Nothing, Then, Exprs, NoExpr, AndExpr, Statement, Do, Break, Continue}
+use Rattle.c_grammar.specs.Begun.{Bytes, Header, Heads, Frames, InItems, InThen, InElse, InWhile, InDo, InFor, Braces, OfBlock, OfSwitch, OfFunction, Scope, AtFile, AmongItems, AtFor, Head, Heading, Proto, Signs, Declarator, OfObject, OfParam, Test, OfIf, OfWhile, OfDo, OfChoice, Purpose, Evaluates, Returns, Tests, Starts, Guards, Repeats, Sizes, Initialises, Lists, Labels, Stack, Base, InParen, InIndex, InCall, AfterPrefix, AfterCast, AfterJoin, AfterQuestion, AfterColon, AfterAssign, demand, State, Wants, Has, Opened, Typed, Called, File, Among, Begins, Stands, Closes, Bounded, Opens, Chooses, Answers, Defaults, Loops, LoopStarts, LoopTests, LoopSteps, Specified, Named, Further, Declares, Sizing, Shaped, Initial, Listed, Ended, ParamsOpen, ParamNext, ParamSpecified, ParamsDone}
 use Rattle.c_grammar.specs.Machine.{Moved, Goes, Stuck}
 use Rattle.c_grammar.proofs.ReadStatements.{labels_of}
 
@@ -23,7 +24,7 @@ before_all (AndExpr front last) rest = spell_all (AndExpr front last) ++ free ki
 abbrev pub header_around : Header → List Mark → List Mark
 header_around (Heads all name name_at params body_at at front) rest = spell_externals front ++ (spell_specifiers all at ++ Kept (lexemes.Name name) name_at ∷ free kinds.LeftParen ∷ (spell_row spell_param params ++ free kinds.RightParen ∷ kept kinds.LeftBrace body_at ∷ rest))
 
-abbrev pub for_around : Option Noted → ℕ → List Mark → List Mark
+abbrev pub for_around : Option Pragma → ℕ → List Mark → List Mark
 for_around bound at rest = spell_bound bound ++ kept kinds.For at ∷ free kinds.LeftParen ∷ rest
 
 abbrev mutual
@@ -66,7 +67,7 @@ purpose_around (Evaluates under) rest = frames_around under rest
 purpose_around (Returns at under) rest = frames_around under (kept kinds.Return at ∷ rest)
 purpose_around (Tests test) rest = test_around test (free kinds.LeftParen ∷ rest)
 purpose_around (Starts bound at under) rest = frames_around under (for_around bound at rest)
-purpose_around (Bounds bound start at under) rest = frames_around under (for_around bound at (spell_start start ++ rest))
+purpose_around (Guards bound start at under) rest = frames_around under (for_around bound at (spell_start start ++ rest))
 purpose_around (Repeats bound start test at under) rest = frames_around under (for_around bound at (spell_start start ++ (spell_optional test ++ free kinds.Semicolon ∷ rest)))
 purpose_around (Sizes declarator) rest = declarator_around declarator (free kinds.LeftBracket ∷ rest)
 purpose_around (Initialises head name shape at) rest = head_around head (Kept (lexemes.Name name) at ∷ (spell_shape shape ++ free kinds.Equal ∷ rest))
@@ -81,7 +82,7 @@ stack_around (InCall function at front under) rest = stack_around under (Kept (l
 stack_around (AfterPrefix operator at under) rest = stack_around under (kept (prefix_kind operator) at ∷ rest)
 stack_around (AfterCast all at under) rest = stack_around under (kept kinds.LeftParen at ∷ (map free_specifier all ++ free kinds.RightParen ∷ rest))
 stack_around (AfterJoin operator left under) rest = stack_around under (spell left ++ free (binary_kind operator) ∷ rest)
-stack_around (InChoice test under) rest = stack_around under (spell test ++ free kinds.Question ∷ rest)
+stack_around (AfterQuestion test under) rest = stack_around under (spell test ++ free kinds.Question ∷ rest)
 stack_around (AfterColon test first under) rest = stack_around under (spell test ++ free kinds.Question ∷ (spell first ++ free kinds.Colon ∷ rest))
 stack_around (AfterAssign operator target under) rest = stack_around under (spell target ++ free (assign_kind operator) ∷ rest)
 
@@ -103,7 +104,7 @@ around (Among front braces) rest = braces_around braces (spell_items front ++ re
 around (Begins under) rest = frames_around under rest
 around (Stands statement under) rest = frames_around under (spell_statement statement ++ rest)
 around (Closes statement under) rest = frames_around under (spell_open statement ++ rest)
-around (Bounded bound under) rest = frames_around under (spell_note kinds.LoopBound bound ++ rest)
+around (Bounded bound under) rest = frames_around under (spell_pragma kinds.LoopBound bound ++ rest)
 around (Opens test) rest = test_around test rest
 around (Chooses test at under) rest = frames_around under (kept kinds.Switch at ∷ spell_test test rest)
 around (Answers at under) rest = frames_around under (kept kinds.Return at ∷ rest)
@@ -170,7 +171,7 @@ SoundPurpose (Evaluates under) = SoundFrames under
 SoundPurpose (Returns at under) = SoundFrames under
 SoundPurpose (Tests test) = SoundTest test
 SoundPurpose (Starts bound at under) = SoundFrames under
-SoundPurpose (Bounds bound start at under) = IsFormedStart start × SoundFrames under
+SoundPurpose (Guards bound start at under) = IsFormedStart start × SoundFrames under
 SoundPurpose (Repeats bound start test at under) = IsFormedStart start × IsFormedOption test × SoundFrames under
 SoundPurpose (Sizes declarator) = SoundDeclarator declarator
 SoundPurpose (Initialises head name shape at) = IsFormedShape shape × SoundHead head
@@ -185,7 +186,7 @@ SoundStack (InCall function at front under) = AreFormed front × SoundStack unde
 SoundStack (AfterPrefix operator at under) = SoundStack under
 SoundStack (AfterCast all at under) = IsSome all × SoundStack under
 SoundStack (AfterJoin operator left under) = (level left ≤ level_of operator) × (level_of operator ≤ demand under) × IsFormed left × SoundStack under
-SoundStack (InChoice test under) = (level test ≤ 12) × (13 ≤ demand under) × IsFormed test × SoundStack under
+SoundStack (AfterQuestion test under) = (level test ≤ 12) × (13 ≤ demand under) × IsFormed test × SoundStack under
 SoundStack (AfterColon test first under) = (level test ≤ 12) × (13 ≤ demand under) × IsFormed test × IsFormed first × SoundStack under
 SoundStack (AfterAssign operator target under) = (level target ≤ 2) × (14 ≤ demand under) × IsFormed target × SoundStack under
 

@@ -10,7 +10,7 @@ use Rattle.c_tree.specs.Formed.{place, external_place, IsFirstPlace}
 use Rattle.c_tree.specs.Spelling.{Spoken}
 use Rattle.c_tree.specs.Tree as trees
 use Rattle.c_tree.specs.Tree.{Row, Nothing, Then, Expr, Name, Paren, Index, Call, Prefix, Cast, Binary, Conditional, Assign, Exprs, NoExpr, AndExpr, Declaration, Statement, Empty, If, IfElse, While, For, Do, Items, NoItem, External}
-use Rattle.c_grammar.specs.Begun.{Bytes, Header, Heads, Frames, InItems, InThen, InElse, InWhile, InDo, InFor, Braces, OfBlock, OfSwitch, OfFunction, Scope, AtFile, AmongItems, AtFor, Head, Heading, Proto, Signs, Declarator, OfObject, OfParam, Test, OfIf, OfWhile, OfDo, OfChoice, Purpose, Evaluates, Returns, Tests, Starts, Bounds, Repeats, Sizes, Initialises, Lists, Labels, Stack, Base, InParen, InIndex, InCall, AfterPrefix, AfterCast, AfterJoin, InChoice, AfterColon, AfterAssign, demand, State, Wants, Has, Opened, Typed, Called, File, Among, Begins, Stands, Closes, Bounded, Opens, Chooses, Answers, Defaults, Loops, LoopStarts, LoopTests, LoopSteps, Specified, Named, Further, Declares, Sizing, Shaped, Initial, Listed, Ended, ParamsOpen, ParamNext, ParamSpecified, ParamsDone}
+use Rattle.c_grammar.specs.Begun.{Bytes, Header, Heads, Frames, InItems, InThen, InElse, InWhile, InDo, InFor, Braces, OfBlock, OfSwitch, OfFunction, Scope, AtFile, AmongItems, AtFor, Head, Heading, Proto, Signs, Declarator, OfObject, OfParam, Test, OfIf, OfWhile, OfDo, OfChoice, Purpose, Evaluates, Returns, Tests, Starts, Guards, Repeats, Sizes, Initialises, Lists, Labels, Stack, Base, InParen, InIndex, InCall, AfterPrefix, AfterCast, AfterJoin, AfterQuestion, AfterColon, AfterAssign, demand, State, Wants, Has, Opened, Typed, Called, File, Among, Begins, Stands, Closes, Bounded, Opens, Chooses, Answers, Defaults, Loops, LoopStarts, LoopTests, LoopSteps, Specified, Named, Further, Declares, Sizing, Shaped, Initial, Listed, Ended, ParamsOpen, ParamNext, ParamSpecified, ParamsDone}
 use Rattle.c_grammar.specs.Machine.{Goes, role, reach, declared, step, after_all, leave}
 use Rattle.c_grammar.specs.Law.{run, BeginsWith}
 use Rattle.c_grammar.proofs.Laws.{after_all-append}
@@ -169,7 +169,7 @@ ends_purpose (Evaluates under) = plain kinds.Semicolon ∷ ends_frames under
 ends_purpose (Returns at under) = plain kinds.Semicolon ∷ ends_frames under
 ends_purpose (Tests test) = ends_test test
 ends_purpose (Starts bound at under) = plain kinds.Semicolon ∷ plain kinds.Semicolon ∷ plain kinds.RightParen ∷ plain kinds.Semicolon ∷ ends_frames under
-ends_purpose (Bounds bound start at under) = plain kinds.Semicolon ∷ plain kinds.RightParen ∷ plain kinds.Semicolon ∷ ends_frames under
+ends_purpose (Guards bound start at under) = plain kinds.Semicolon ∷ plain kinds.RightParen ∷ plain kinds.Semicolon ∷ ends_frames under
 ends_purpose (Repeats bound start test at under) = plain kinds.RightParen ∷ plain kinds.Semicolon ∷ ends_frames under
 ends_purpose (Sizes declarator) = plain kinds.RightBracket ∷ ends_declarator declarator
 ends_purpose (Initialises head name shape at) = ends_head head
@@ -181,7 +181,7 @@ purpose_end (Evaluates under) tree = reaches_step _ (Stands (trees.Evaluate tree
 purpose_end (Returns at under) tree = reaches_step _ (Stands (trees.Return (Some tree) at) under) _ _ refl (frames_end under (trees.Return (Some tree) at))
 purpose_end (Tests test) tree = test_end test tree
 purpose_end (Starts bound at under) tree = reaches_step _ (LoopTests bound (trees.StartValue tree) at under) _ _ refl (loop_tests_end bound (trees.StartValue tree) at under)
-purpose_end (Bounds bound start at under) tree = reaches_step _ (LoopSteps bound start (Some tree) at under) _ _ refl (loop_steps_end bound start (Some tree) at under)
+purpose_end (Guards bound start at under) tree = reaches_step _ (LoopSteps bound start (Some tree) at under) _ _ refl (loop_steps_end bound start (Some tree) at under)
 purpose_end (Repeats bound start test at under) tree = reaches_step _ (Begins (InFor bound start test (Some tree) at under)) _ _ refl (begins_end (InFor bound start test (Some tree) at under))
 purpose_end (Sizes declarator) tree = reaches_step _ (Shaped declarator (trees.Sized tree)) _ _ refl (declarator_end declarator (trees.Sized tree))
 purpose_end (Initialises (Heading all objects at scope) name shape here) tree =
@@ -200,7 +200,7 @@ ends_stack (InCall function at front under) = plain kinds.RightParen ∷ ends_st
 ends_stack (AfterPrefix operator at under) = ends_stack under
 ends_stack (AfterCast all at under) = ends_stack under
 ends_stack (AfterJoin operator left under) = ends_stack under
-ends_stack (InChoice test under) = plain kinds.Colon ∷ zero_token ∷ ends_stack under
+ends_stack (AfterQuestion test under) = plain kinds.Colon ∷ zero_token ∷ ends_stack under
 ends_stack (AfterColon test first under) = ends_stack under
 ends_stack (AfterAssign operator target under) = ends_stack under
 
@@ -222,7 +222,7 @@ first_of_purpose (Evaluates under) = (plain kinds.Semicolon, _, refl, refl)
 first_of_purpose (Returns at under) = (plain kinds.Semicolon, _, refl, refl)
 first_of_purpose (Tests test) = first_of_test test
 first_of_purpose (Starts bound at under) = (plain kinds.Semicolon, _, refl, refl)
-first_of_purpose (Bounds bound start at under) = (plain kinds.Semicolon, _, refl, refl)
+first_of_purpose (Guards bound start at under) = (plain kinds.Semicolon, _, refl, refl)
 first_of_purpose (Repeats bound start test at under) = (plain kinds.RightParen, _, refl, refl)
 first_of_purpose (Sizes declarator) = (plain kinds.RightBracket, _, refl, refl)
 first_of_purpose (Initialises (Heading all objects at scope) name shape here) = (plain kinds.Semicolon, _, refl, refl)
@@ -237,7 +237,7 @@ first_closer (InCall function at front under) = record { token = plain kinds.Rig
 first_closer (AfterPrefix operator at under) = let k = first_closer under in record { token = k.token; rest = k.rest; split = k.split; closes = k.closes }
 first_closer (AfterCast all at under) = let k = first_closer under in record { token = k.token; rest = k.rest; split = k.split; closes = k.closes }
 first_closer (AfterJoin operator left under) = let k = first_closer under in record { token = k.token; rest = k.rest; split = k.split; closes = k.closes }
-first_closer (InChoice test under) = record { token = plain kinds.Colon; rest = zero_token ∷ ends_stack under; split = refl; closes = refl }
+first_closer (AfterQuestion test under) = record { token = plain kinds.Colon; rest = zero_token ∷ ends_stack under; split = refl; closes = refl }
 first_closer (AfterColon test first under) = let k = first_closer under in record { token = k.token; rest = k.rest; split = k.split; closes = k.closes }
 first_closer (AfterAssign operator target under) = let k = first_closer under in record { token = k.token; rest = k.rest; split = k.split; closes = k.closes }
 
@@ -257,7 +257,7 @@ stack_end (InCall function at front under) tree = reaches_step _ (Has (Call func
 stack_end (AfterPrefix operator at under) tree = stack_as tree (Prefix operator tree at) (AfterPrefix operator at under) under (omega arith) (λ token. refl) (stack_end under (Prefix operator tree at))
 stack_end (AfterCast all at under) tree = stack_as tree (Cast all tree at) (AfterCast all at under) under (omega arith) (λ token. refl) (stack_end under (Cast all tree at))
 stack_end (AfterJoin operator left under) tree = stack_as tree (Binary operator left tree (place left)) (AfterJoin operator left under) under (omega (arith, most operator)) (λ token. refl) (stack_end under (Binary operator left tree (place left)))
-stack_end (InChoice test under) tree =
+stack_end (AfterQuestion test under) tree =
     let whole = Conditional test tree (Name [] 0) (place test) in
     reaches_step _ (Wants (AfterColon test tree under)) _ _ refl
     (reaches_step _ (Has (Name [] 0) (AfterColon test tree under)) _ _ refl

@@ -10,9 +10,10 @@ use Rattle.c_tree.specs.Size.{size, size_all, size_row, size_optional, size_shap
 use Rattle.c_tree.specs.Spelling.{Spoken}
 use Rattle.c_tree.specs.Formed.{place}
 use Rattle.c_tree.specs.Tree as trees
-use Rattle.c_tree.specs.Tree.{Row, Nothing, Then, Expr, Name, Paren, Index, Call, Postfix, Prefix, Cast, Binary, Conditional, Assign, Exprs, NoExpr, AndExpr, Shape, Scalar, Value, Absent, Object, Declared, Param, Parameter, Declaration, Objects, Prototype, Noted, Note, ForStart, Statement, Evaluate, Return, Do, If, IfElse, While, For, Items, External}
-use Rattle.c_grammar.specs.Begun.{Bytes, Header, Heads, Frames, InItems, InThen, InElse, InWhile, InDo, InFor, Braces, OfBlock, OfSwitch, OfFunction, Scope, AtFile, AmongItems, AtFor, Head, Heading, Proto, Signs, Declarator, OfObject, OfParam, Test, OfIf, OfWhile, OfDo, OfChoice, Purpose, Evaluates, Returns, Tests, Starts, Bounds, Repeats, Sizes, Initialises, Lists, Labels, Stack, Base, InParen, InIndex, InCall, AfterPrefix, AfterCast, AfterJoin, InChoice, AfterColon, AfterAssign, demand, State, Wants, Has, Opened, Typed, Called, File, Among, Begins, Stands, Closes, Bounded, Opens, Chooses, Answers, Defaults, Loops, LoopStarts, LoopTests, LoopSteps, Specified, Named, Further, Declares, Sizing, Shaped, Initial, Listed, Ended, ParamsOpen, ParamNext, ParamSpecified, ParamsDone}
-use Rattle.c_grammar.specs.Machine.{Moved, Goes, Stuck, Role, Joins, Assigns, Steps, Asks, Parts, OpensParen, ClosesParen, OpensBracket, ClosesBracket, role, reach, only_if, begin, enter, leave, go_on, opened, typed, cast_ends, called, begin_statement, begin_loop, close, label, item, among, settle, semicolon, paren, brace, colon, answers, loop_starts, loop_tests, loop_steps, file_item, first_name, specified, shaped, declares, named, further, sizing, initial, listed, param_begins, params_open, param_named, param_specified, body, params_done, object_ends, param_ends, tested, took, step, after_all, specifier_of}
+use Rattle.c_tree.specs.declared.pragma.Pragma.{Pragma}
+use Rattle.c_tree.specs.Tree.{Row, Nothing, Then, Expr, Name, Paren, Index, Call, Postfix, Prefix, Cast, Binary, Conditional, Assign, Exprs, NoExpr, AndExpr, Shape, Scalar, Value, Absent, Object, Declared, Param, Parameter, Declaration, Objects, Prototype, ForStart, Statement, Evaluate, Return, Do, If, IfElse, While, For, Items, External}
+use Rattle.c_grammar.specs.Begun.{Bytes, Header, Heads, Frames, InItems, InThen, InElse, InWhile, InDo, InFor, Braces, OfBlock, OfSwitch, OfFunction, Scope, AtFile, AmongItems, AtFor, Head, Heading, Proto, Signs, Declarator, OfObject, OfParam, Test, OfIf, OfWhile, OfDo, OfChoice, Purpose, Evaluates, Returns, Tests, Starts, Guards, Repeats, Sizes, Initialises, Lists, Labels, Stack, Base, InParen, InIndex, InCall, AfterPrefix, AfterCast, AfterJoin, AfterQuestion, AfterColon, AfterAssign, demand, State, Wants, Has, Opened, Typed, Called, File, Among, Begins, Stands, Closes, Bounded, Opens, Chooses, Answers, Defaults, Loops, LoopStarts, LoopTests, LoopSteps, Specified, Named, Further, Declares, Sizing, Shaped, Initial, Listed, Ended, ParamsOpen, ParamNext, ParamSpecified, ParamsDone}
+use Rattle.c_grammar.specs.Machine.{Moved, Goes, Stuck, Role, Joins, Assigns, Steps, Asks, Separates, OpensParen, ClosesParen, OpensBracket, ClosesBracket, role, reach, only_if, begin, enter, leave, go_on, opened, typed, cast_ends, called, begin_statement, begin_loop, close, label, item, among, settle, semicolon, paren, brace, colon, answers, loop_starts, loop_tests, loop_steps, file_item, first_name, specified, shaped, declares, named, further, sizing, initial, listed, param_begins, params_open, param_named, param_specified, body, params_done, object_ends, param_ends, tested, took, step, after_all, specifier_of}
 use Rattle.c_grammar.specs.Depth.{header_deep, frames_deep, braces_deep, scope_deep, head_deep, proto_deep, declarator_deep, test_deep, purpose_deep, stack_deep, deep}
 
 -- it leads nowhere, or to a state that is at least so deep
@@ -20,11 +21,11 @@ abbrev pub Grows : ℕ → Moved → Type 0
 Grows n Stuck = Unit {0}
 Grows n (Goes state) = n ≤ deep state
 
-header_mono : (header : Header) (a b : ℕ) → a ≤ b → header_deep header a ≤ header_deep header b
+pub header_mono : (header : Header) (a b : ℕ) → a ≤ b → header_deep header a ≤ header_deep header b
 header_mono (Heads all name name_at params body_at at front) a b h = omega (arith, h)
 
 mutual
-  frames_mono : (under : Frames) (a b : ℕ) → a ≤ b → frames_deep under a ≤ frames_deep under b
+  pub frames_mono : (under : Frames) (a b : ℕ) → a ≤ b → frames_deep under a ≤ frames_deep under b
   frames_mono (InItems front braces) a b h = braces_mono braces _ _ (omega (arith, h))
   frames_mono (InThen test at under) a b h = frames_mono under _ _ (omega (arith, h))
   frames_mono (InElse test first at under) a b h = frames_mono under _ _ (omega (arith, h))
@@ -32,45 +33,45 @@ mutual
   frames_mono (InDo bound at under) a b h = frames_mono under _ _ (omega (arith, h))
   frames_mono (InFor bound start test last at under) a b h = frames_mono under _ _ (omega (arith, h))
 
-  braces_mono : (braces : Braces) (a b : ℕ) → a ≤ b → braces_deep braces a ≤ braces_deep braces b
+  pub braces_mono : (braces : Braces) (a b : ℕ) → a ≤ b → braces_deep braces a ≤ braces_deep braces b
   braces_mono (OfBlock at under) a b h = frames_mono under _ _ (omega (arith, h))
   braces_mono (OfSwitch test at under) a b h = frames_mono under _ _ (omega (arith, h))
   braces_mono (OfFunction header) a b h = header_mono header a b h
 
-scope_mono : (scope : Scope) (a b : ℕ) → a ≤ b → scope_deep scope a ≤ scope_deep scope b
+pub scope_mono : (scope : Scope) (a b : ℕ) → a ≤ b → scope_deep scope a ≤ scope_deep scope b
 scope_mono (AtFile front) a b h = omega (arith, h)
 scope_mono (AmongItems front braces) a b h = braces_mono braces _ _ (omega (arith, h))
 scope_mono (AtFor bound at under) a b h = frames_mono under _ _ (omega (arith, h))
 
-head_mono : (head : Head) (a b : ℕ) → a ≤ b → head_deep head a ≤ head_deep head b
+pub head_mono : (head : Head) (a b : ℕ) → a ≤ b → head_deep head a ≤ head_deep head b
 head_mono (Heading all objects at scope) a b h = scope_mono scope _ _ (omega (arith, h))
 
-proto_mono : (proto : Proto) (a b : ℕ) → a ≤ b → proto_deep proto a ≤ proto_deep proto b
+pub proto_mono : (proto : Proto) (a b : ℕ) → a ≤ b → proto_deep proto a ≤ proto_deep proto b
 proto_mono (Signs all name name_at at scope) a b h = scope_mono scope _ _ (omega (arith, h))
 
-declarator_mono : (declarator : Declarator) (a b : ℕ) → a ≤ b → declarator_deep declarator a ≤ declarator_deep declarator b
+pub declarator_mono : (declarator : Declarator) (a b : ℕ) → a ≤ b → declarator_deep declarator a ≤ declarator_deep declarator b
 declarator_mono (OfObject head name at) a b h = head_mono head _ _ (omega (arith, h))
 declarator_mono (OfParam proto front all name at) a b h = proto_mono proto _ _ (omega (arith, h))
 
-test_mono : (test : Test) (a b : ℕ) → a ≤ b → test_deep test a ≤ test_deep test b
+pub test_mono : (test : Test) (a b : ℕ) → a ≤ b → test_deep test a ≤ test_deep test b
 test_mono (OfIf at under) a b h = frames_mono under _ _ (omega (arith, h))
 test_mono (OfWhile bound at under) a b h = frames_mono under _ _ (omega (arith, h))
 test_mono (OfDo bound body at under) a b h = frames_mono under _ _ (omega (arith, h))
 test_mono (OfChoice at under) a b h = frames_mono under _ _ (omega (arith, h))
 
-purpose_mono : (purpose : Purpose) (a b : ℕ) → a ≤ b → purpose_deep purpose a ≤ purpose_deep purpose b
+pub purpose_mono : (purpose : Purpose) (a b : ℕ) → a ≤ b → purpose_deep purpose a ≤ purpose_deep purpose b
 purpose_mono (Evaluates under) a b h = frames_mono under _ _ (omega (arith, h))
 purpose_mono (Returns at under) a b h = frames_mono under _ _ (omega (arith, h))
 purpose_mono (Tests test) a b h = test_mono test a b h
 purpose_mono (Starts bound at under) a b h = frames_mono under _ _ (omega (arith, h))
-purpose_mono (Bounds bound start at under) a b h = frames_mono under _ _ (omega (arith, h))
+purpose_mono (Guards bound start at under) a b h = frames_mono under _ _ (omega (arith, h))
 purpose_mono (Repeats bound start test at under) a b h = frames_mono under _ _ (omega (arith, h))
 purpose_mono (Sizes declarator) a b h = declarator_mono declarator a b h
 purpose_mono (Initialises head name shape at) a b h = head_mono head _ _ (omega (arith, h))
 purpose_mono (Lists head name shape front at) a b h = head_mono head _ _ (omega (arith, h))
 purpose_mono (Labels front braces at) a b h = braces_mono braces _ _ (omega (arith, h))
 
-stack_mono : (under : Stack) (a b : ℕ) → a ≤ b → stack_deep under a ≤ stack_deep under b
+pub stack_mono : (under : Stack) (a b : ℕ) → a ≤ b → stack_deep under a ≤ stack_deep under b
 stack_mono (Base purpose) a b h = purpose_mono purpose a b h
 stack_mono (InParen at under) a b h = stack_mono under _ _ (omega (arith, h))
 stack_mono (InIndex array at under) a b h = stack_mono under _ _ (omega (arith, h))
@@ -78,7 +79,7 @@ stack_mono (InCall function at front under) a b h = stack_mono under _ _ (omega 
 stack_mono (AfterPrefix operator at under) a b h = stack_mono under _ _ (omega (arith, h))
 stack_mono (AfterCast all at under) a b h = stack_mono under _ _ (omega (arith, h))
 stack_mono (AfterJoin operator left under) a b h = stack_mono under _ _ (omega (arith, h))
-stack_mono (InChoice test under) a b h = stack_mono under _ _ (omega (arith, h))
+stack_mono (AfterQuestion test under) a b h = stack_mono under _ _ (omega (arith, h))
 stack_mono (AfterColon test first under) a b h = stack_mono under _ _ (omega (arith, h))
 stack_mono (AfterAssign operator target under) a b h = stack_mono under _ _ (omega (arith, h))
 
@@ -120,7 +121,7 @@ grows_enter : (r : Role) (tree : Expr Bytes) (under : Stack) → Grows (stack_de
 grows_enter (Joins operator) tree under = grows_only (nat_le _ _) _ (Wants (AfterJoin operator tree under)) (stack_mono under _ _ (omega arith))
 grows_enter (Assigns operator) tree under = grows_only (nat_le _ _) _ (Wants (AfterAssign operator tree under)) (stack_mono under _ _ (omega arith))
 grows_enter (Steps operator) tree under = grows_only (nat_le _ _) _ (Has (Postfix operator tree (place tree)) under) (stack_mono under _ _ (omega arith))
-grows_enter Asks tree under = grows_only (nat_le _ _) _ (Wants (InChoice tree under)) (stack_mono under _ _ (omega arith))
+grows_enter Asks tree under = grows_only (nat_le _ _) _ (Wants (AfterQuestion tree under)) (stack_mono under _ _ (omega arith))
 grows_enter OpensParen (Name name at) under = omega arith
 grows_enter OpensBracket (Name name at) under = stack_mono under _ _ (omega arith)
 grows_enter _ tree under = tt
@@ -151,7 +152,7 @@ grows_took (Evaluates under) (Plain kinds.Semicolon) tree = omega arith
 grows_took (Returns at under) (Plain kinds.Semicolon) tree = omega arith
 grows_took (Tests test) (Plain kinds.RightParen) tree = grows_tested test tree
 grows_took (Starts bound at under) (Plain kinds.Semicolon) tree = omega arith
-grows_took (Bounds bound start at under) (Plain kinds.Semicolon) tree = omega arith
+grows_took (Guards bound start at under) (Plain kinds.Semicolon) tree = omega arith
 grows_took (Repeats bound start test at under) (Plain kinds.RightParen) tree = frames_mono under _ _ (omega arith)
 grows_took (Sizes declarator) (Plain kinds.RightBracket) tree = omega arith
 grows_took (Initialises head name shape at) said tree = grows_object_ends said head (Declared name shape (Value tree) at)
@@ -170,7 +171,7 @@ grows_leave (InParen at under) ClosesParen said tree = omega arith
 grows_leave (InIndex array at under) ClosesBracket said tree = omega arith
 grows_leave (InCall function at front under) ClosesParen said tree = omega arith
 grows_leave (InCall function at front under) (Joins binary.Comma) said tree = stack_mono under _ _ (omega arith)
-grows_leave (InChoice test under) Parts said tree = stack_mono under _ _ (omega arith)
+grows_leave (AfterQuestion test under) Separates said tree = stack_mono under _ _ (omega arith)
 grows_leave (Base purpose) r said tree = grows_took purpose said tree
 grows_leave _ r said tree = tt
 
@@ -208,7 +209,7 @@ grows_begin_statement (lexemes.Pragma kinds.Marker bytes) at under = omega arith
 grows_begin_statement (lexemes.Pragma kinds.LoopBound bytes) at under = omega arith
 grows_begin_statement said at under = begin_in (frames_deep under 1) said at (Base (Evaluates under)) (frames_mono under _ _ (omega arith))
 
-grows_begin_loop : (said : Lexeme) (at : ℕ) (bound : Noted) (under : Frames) → Grows (frames_deep under 1) (begin_loop said at bound under)
+grows_begin_loop : (said : Lexeme) (at : ℕ) (bound : Pragma) (under : Frames) → Grows (frames_deep under 1) (begin_loop said at bound under)
 grows_begin_loop (Plain kinds.While) at bound under = frames_mono under _ _ (omega arith)
 grows_begin_loop (Plain kinds.Do) at bound under = frames_mono under _ _ (omega arith)
 grows_begin_loop (Plain kinds.For) at bound under = omega arith
@@ -264,16 +265,16 @@ grows_answers : (said : Lexeme) (here at : ℕ) (under : Frames) → Grows (fram
 grows_answers (Plain kinds.Semicolon) here at under = omega arith
 grows_answers said here at under = begin_in (frames_deep under 1) said here (Base (Returns at under)) (frames_mono under _ _ (omega arith))
 
-grows_loop_starts : (o : Option Specifier) (said : Lexeme) (here : ℕ) (bound : Option Noted) (at : ℕ) (under : Frames) → Grows (frames_deep under 1) (loop_starts o said here bound at under)
+grows_loop_starts : (o : Option Specifier) (said : Lexeme) (here : ℕ) (bound : Option Pragma) (at : ℕ) (under : Frames) → Grows (frames_deep under 1) (loop_starts o said here bound at under)
 grows_loop_starts (Some word) said here bound at under = frames_mono under _ _ (omega arith)
 grows_loop_starts None (Plain kinds.Semicolon) here bound at under = omega arith
 grows_loop_starts None said here bound at under = begin_in (frames_deep under 1) said here (Base (Starts bound at under)) (frames_mono under _ _ (omega arith))
 
-grows_loop_tests : (said : Lexeme) (here : ℕ) (bound : Option Noted) (start : ForStart Bytes) (at : ℕ) (under : Frames) → Grows (frames_deep under ((size_start start).depth + 1)) (loop_tests said here bound start at under)
+grows_loop_tests : (said : Lexeme) (here : ℕ) (bound : Option Pragma) (start : ForStart Bytes) (at : ℕ) (under : Frames) → Grows (frames_deep under ((size_start start).depth + 1)) (loop_tests said here bound start at under)
 grows_loop_tests (Plain kinds.Semicolon) here bound start at under = frames_mono under _ _ (omega arith)
-grows_loop_tests said here bound start at under = begin_in (frames_deep under ((size_start start).depth + 1)) said here (Base (Bounds bound start at under)) (frames_mono under _ _ (omega arith))
+grows_loop_tests said here bound start at under = begin_in (frames_deep under ((size_start start).depth + 1)) said here (Base (Guards bound start at under)) (frames_mono under _ _ (omega arith))
 
-grows_loop_steps : (said : Lexeme) (here : ℕ) (bound : Option Noted) (start : ForStart Bytes) (test : Option (Expr Bytes)) (at : ℕ) (under : Frames) → Grows (frames_deep under (max (size_start start).depth (size_optional test).depth + 1)) (loop_steps said here bound start test at under)
+grows_loop_steps : (said : Lexeme) (here : ℕ) (bound : Option Pragma) (start : ForStart Bytes) (test : Option (Expr Bytes)) (at : ℕ) (under : Frames) → Grows (frames_deep under (max (size_start start).depth (size_optional test).depth + 1)) (loop_steps said here bound start test at under)
 grows_loop_steps (Plain kinds.RightParen) here bound start test at under = frames_mono under _ _ (omega arith)
 grows_loop_steps said here bound start test at under = begin_in (frames_deep under (max (size_start start).depth (size_optional test).depth + 1)) said here (Base (Repeats bound start test at under)) (frames_mono under _ _ (omega arith))
 

@@ -5,8 +5,9 @@ use Rattle.c_tree.specs.declared.token.TokenKind.TheVariants as kinds
 use Rattle.c_tree.specs.declared.expression.Specifier.{Specifier}
 use Rattle.c_tree.specs.Size.{size, size_all, size_row, size_optional, size_shape, size_initial, size_object, size_param, size_declaration, size_label, size_start, size_statement, size_items, size_external, size_unit}
 use Rattle.c_tree.specs.Formed.{IsSome, EachOf, IsFormedParam, IsFormedDeclaration, IsFormedStatement, IsFormedStart, AreFormedItems, IsFormedExternal, IsFormedUnit}
-use Rattle.c_tree.specs.Spelling.{Spoken, Mark, Agree, spell, spell_all, spell_row, spell_optional, spell_specifiers, spell_shape, spell_initial, spell_object, spell_param, spell_declaration, spell_note, spell_label, spell_start, spell_statement, spell_items, spell_external, spell_externals, spell_unit}
-use Rattle.c_tree.specs.Tree.{Row, Nothing, Then, Expr, Number, Character, Name, Paren, Index, Call, Postfix, Prefix, Cast, Binary, Conditional, Assign, Exprs, NoExpr, AndExpr, Shape, Scalar, Unsized, Sized, Initial, Absent, Value, Listed, Object, Declared, Param, Parameter, Declaration, Objects, Prototype, Noted, Note, Label, Case, Default, ForStart, NoStart, StartValue, StartDeclaration, Statement, Block, Empty, Evaluate, Marker, If, IfElse, While, Do, For, Switch, Break, Continue, Return, Items, NoItem, AndDeclaration, AndStatement, AndRestriction, AndLabel, External, Restriction, Declaring, Function, TranslationUnit, Whole}
+use Rattle.c_tree.specs.Spelling.{Spoken, Mark, Agree, spell, spell_all, spell_row, spell_optional, spell_specifiers, spell_shape, spell_initial, spell_object, spell_param, spell_declaration, spell_pragma, spell_label, spell_start, spell_statement, spell_items, spell_external, spell_externals, spell_unit}
+use Rattle.c_tree.specs.declared.pragma.Pragma.{Pragma}
+use Rattle.c_tree.specs.Tree.{Row, Nothing, Then, Expr, Number, Character, Name, Paren, Index, Call, Postfix, Prefix, Cast, Binary, Conditional, Assign, Exprs, NoExpr, AndExpr, Shape, Scalar, Unsized, Sized, Initial, Absent, Value, Listed, Object, Declared, Param, Parameter, Declaration, Objects, Prototype, Label, Case, Default, ForStart, NoStart, StartValue, StartDeclaration, Statement, Block, Empty, Evaluate, Marker, If, IfElse, While, Do, For, Switch, Break, Continue, Return, Items, NoItem, AndDeclaration, AndStatement, AndRestriction, AndLabel, External, Restriction, Declaring, Function, TranslationUnit, Whole}
 use Rattle.c_grammar.specs.Begun.{Bytes}
 
 mutual
@@ -70,8 +71,8 @@ nodes_declaration : (d : Declaration Bytes) → IsFormedDeclaration d → (size_
 nodes_declaration (Objects all objects at) f = simp length-append (omega (arith, nodes_objects objects))
 nodes_declaration (Prototype all name params at) f = simp length-append (omega (arith, nodes_params params f.1))
 
-nodes_note : (kind : _) (r : Noted) → 1 ≤ length (spell_note kind r)
-nodes_note kind (Note bytes at) = omega arith
+nodes_pragma : (kind : _) (pragma : Pragma) → 1 ≤ length (spell_pragma kind pragma)
+nodes_pragma kind pragma = omega arith
 
 nodes_label : (l : Label Bytes) → (size_label l).nodes ≤ length (spell_label l)
 nodes_label (Case value at) = simp length-append (omega (arith, nodes_expr value))
@@ -87,7 +88,7 @@ mutual
   nodes_statement (Block items at) f = simp length-append (omega (arith, nodes_items false items f))
   nodes_statement (Empty at) f = omega arith
   nodes_statement (Evaluate value at) f = simp length-append (omega (arith, nodes_expr value))
-  nodes_statement (Marker bytes at) f = omega arith
+  nodes_statement (Marker pragma) f = omega arith
   nodes_statement (If test first at) f = simp length-append (omega (arith, nodes_expr test, nodes_statement first f.1))
   nodes_statement (IfElse test first second at) f = simp length-append (omega (arith, nodes_expr test, nodes_statement first f.2, nodes_statement second f.3))
   nodes_statement (While bound test body at) f = simp length-append (omega (arith, nodes_expr test, nodes_statement body f.1))
@@ -102,11 +103,11 @@ mutual
   nodes_items labels NoItem f = omega arith
   nodes_items labels (AndDeclaration front d) f = simp length-append (omega (arith, nodes_items labels front f.0, nodes_declaration d f.1))
   nodes_items labels (AndStatement front s) f = simp length-append (omega (arith, nodes_items labels front f.0, nodes_statement s f.1))
-  nodes_items labels (AndRestriction front r) f = simp length-append (omega (arith, nodes_items labels front f, nodes_note kinds.FlowRestriction r))
+  nodes_items labels (AndRestriction front pragma) f = simp length-append (omega (arith, nodes_items labels front f, nodes_pragma kinds.FlowRestriction pragma))
   nodes_items labels (AndLabel front l) f = simp length-append (omega (arith, nodes_items labels front f.0, nodes_label l))
 
 nodes_external : (e : External Bytes) → IsFormedExternal e → (size_external e).nodes ≤ length (spell_external e)
-nodes_external (Restriction r) f = nodes_note kinds.FlowRestriction r
+nodes_external (Restriction pragma) f = nodes_pragma kinds.FlowRestriction pragma
 nodes_external (Declaring d) f = nodes_declaration d f
 nodes_external (Function all name name_at params body body_at at) f = simp length-append (omega (arith, nodes_params params f.1, nodes_items false body f.2))
 

@@ -15,8 +15,8 @@ use Rattle.c_tree.specs.Said.{Lexeme, Plain}
 use Rattle.c_tree.specs.Formed.{level, level_of, place, IsFormed, AreFormed, IsSome}
 use Rattle.c_tree.specs.Spelling.{Spoken, Mark, Kept, Fits, Agree, kept, free, free_specifier, specifier_kind, postfix_kind, prefix_kind, binary_kind, assign_kind, spell, spell_all}
 use Rattle.c_tree.specs.Tree.{Expr, Number, Character, Name, Paren, Index, Call, Postfix, Prefix, Cast, Binary, Conditional, Assign, Exprs, NoExpr, AndExpr}
-use Rattle.c_grammar.specs.Begun.{Bytes, Stack, InParen, InIndex, InCall, AfterPrefix, AfterCast, AfterJoin, InChoice, AfterColon, AfterAssign, demand, State, Wants, Has, Opened, Typed, Called}
-use Rattle.c_grammar.specs.Machine.{Goes, Joins, Assigns, Steps, Asks, Parts, OpensParen, ClosesParen, OpensBracket, ClosesBracket, role, reach, begin, opened, typed, called, go_on, step, after_all, specifier_of}
+use Rattle.c_grammar.specs.Begun.{Bytes, Stack, InParen, InIndex, InCall, AfterPrefix, AfterCast, AfterJoin, AfterQuestion, AfterColon, AfterAssign, demand, State, Wants, Has, Opened, Typed, Called}
+use Rattle.c_grammar.specs.Machine.{Goes, Joins, Assigns, Steps, Asks, Separates, OpensParen, ClosesParen, OpensBracket, ClosesBracket, role, reach, begin, opened, typed, called, go_on, step, after_all, specifier_of}
 use Rattle.c_grammar.proofs.Levels.{tail, tail_within, tail_below, tail_of_primary, level_within}
 use Rattle.c_grammar.proofs.Leads.{said_of, Leads, go_then, go_stay, go_step, go_end, goes_on, only_if_so, kept_step, free_step, has_step, split, starts, by_start, go_start, specifier_read}
 
@@ -144,12 +144,12 @@ mutual
       subst (λ n. Leads ts (Wants under) (Has (Conditional test first second n) under) (m ∷ ms)) (sym f.2)
       (go_then ts _ (Has test under) _ (free kinds.Question ∷ ((spell first ++ free kinds.Colon ∷ spell second) ++ m ∷ ms)) (m ∷ ms)
       (read_back test under (free kinds.Question) _ ts f.3 (omega (arith, f.0)) (omega (arith, tail_within test, f.0)) (split (spell test) (free kinds.Question ∷ (spell first ++ free kinds.Colon ∷ spell second)) (m ∷ ms) ts g))
-      (λ rest g. go_then rest _ (Wants (InChoice test under)) _ ((spell first ++ free kinds.Colon ∷ spell second) ++ m ∷ ms) (m ∷ ms)
+      (λ rest g. go_then rest _ (Wants (AfterQuestion test under)) _ ((spell first ++ free kinds.Colon ∷ spell second) ++ m ∷ ms) (m ∷ ms)
       (go_step (free kinds.Question) _ _ _ (has_step (Plain kinds.Question) Asks test under _ refl (λ said. goes_on Asks said test under h ∙ only_if_so (level test) 12 _ f.0)) rest g)
-      (λ rest g. go_then rest _ (Has first (InChoice test under)) _ (free kinds.Colon ∷ (spell second ++ m ∷ ms)) (m ∷ ms)
-      (read_back first (InChoice test under) (free kinds.Colon) (spell second ++ m ∷ ms) rest f.4 (level_within first) (omega (arith, tail_within first, level_within first)) (split (spell first) (free kinds.Colon ∷ spell second) (m ∷ ms) rest g))
+      (λ rest g. go_then rest _ (Has first (AfterQuestion test under)) _ (free kinds.Colon ∷ (spell second ++ m ∷ ms)) (m ∷ ms)
+      (read_back first (AfterQuestion test under) (free kinds.Colon) (spell second ++ m ∷ ms) rest f.4 (level_within first) (omega (arith, tail_within first, level_within first)) (split (spell first) (free kinds.Colon ∷ spell second) (m ∷ ms) rest g))
       (λ rest g. go_then rest _ (Wants (AfterColon test first under)) _ (spell second ++ m ∷ ms) (m ∷ ms)
-      (go_step (free kinds.Colon) _ _ _ (has_step (Plain kinds.Colon) Parts first (InChoice test under) _ refl (λ said. refl)) rest g)
+      (go_step (free kinds.Colon) _ _ _ (has_step (Plain kinds.Colon) Separates first (AfterQuestion test under) _ refl (λ said. refl)) rest g)
       (λ rest g. go_then rest _ (Has second (AfterColon test first under)) _ (m ∷ ms) (m ∷ ms)
       (read_back second (AfterColon test first under) m ms rest f.5 f.1 (omega (arith, tail_within second, f.1)) g)
       (go_end m ms second (AfterColon test first under) (Has (Conditional test first second (place test)) under) k (λ r token e. ap (λ r. go_on r token.said (Conditional test first second (place test)) under) (sym e))))))))

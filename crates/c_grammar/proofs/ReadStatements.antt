@@ -9,9 +9,10 @@ use Rattle.c_tree.specs.declared.expression.Specifier.TheVariants as specifiers
 use Rattle.c_tree.specs.Said as lexemes
 use Rattle.c_tree.specs.Said.{Lexeme, Plain}
 use Rattle.c_tree.specs.Formed.{place, IsFormed, IsSome, IsFormedOption, IsFormedLabel, IsFormedStart, IsFormedDeclaration, IsFormedStatement, AreFormedItems, ends_open}
-use Rattle.c_tree.specs.Spelling.{Spoken, Mark, Kept, Agree, kept, free, specifier_kind, spell, spell_specifiers, spell_declaration, spell_optional, spell_note, spell_bound, spell_label, spell_start, spell_test, spell_statement, spell_items}
-use Rattle.c_tree.specs.Tree.{Expr, Declaration, Objects, Prototype, Noted, Note, Label, Case, Default, ForStart, NoStart, StartValue, StartDeclaration, Statement, Block, Empty, Evaluate, Marker, If, IfElse, While, Do, For, Switch, Break, Continue, Return, Items, NoItem, AndDeclaration, AndStatement, AndRestriction, AndLabel}
-use Rattle.c_grammar.specs.Begun.{Bytes, Frames, InItems, InThen, InElse, InWhile, InDo, InFor, Braces, OfBlock, OfSwitch, OfFunction, AmongItems, AtFor, Test, OfIf, OfWhile, OfDo, OfChoice, Evaluates, Returns, Tests, Starts, Bounds, Repeats, Labels, Base, State, Wants, Among, Begins, Stands, Closes, Bounded, Opens, Chooses, Answers, Defaults, Loops, LoopStarts, LoopTests, LoopSteps, Specified}
+use Rattle.c_tree.specs.Spelling.{Spoken, Mark, Kept, Agree, kept, free, specifier_kind, spell, spell_specifiers, spell_declaration, spell_optional, spell_pragma, spell_bound, spell_label, spell_start, spell_test, spell_statement, spell_items}
+use Rattle.c_tree.specs.declared.pragma.Pragma.{Pragma}
+use Rattle.c_tree.specs.Tree.{Expr, Declaration, Objects, Prototype, Label, Case, Default, ForStart, NoStart, StartValue, StartDeclaration, Statement, Block, Empty, Evaluate, Marker, If, IfElse, While, Do, For, Switch, Break, Continue, Return, Items, NoItem, AndDeclaration, AndStatement, AndRestriction, AndLabel}
+use Rattle.c_grammar.specs.Begun.{Bytes, Frames, InItems, InThen, InElse, InWhile, InDo, InFor, Braces, OfBlock, OfSwitch, OfFunction, AmongItems, AtFor, Test, OfIf, OfWhile, OfDo, OfChoice, Evaluates, Returns, Tests, Starts, Guards, Repeats, Labels, Base, State, Wants, Among, Begins, Stands, Closes, Bounded, Opens, Chooses, Answers, Defaults, Loops, LoopStarts, LoopTests, LoopSteps, Specified}
 use Rattle.c_grammar.specs.Machine.{Goes, step, begin, begin_statement, answers, loop_starts, loop_tests, loop_steps, specifier_of, among, label, settle, tested}
 use Rattle.c_grammar.proofs.Levels.{level_within}
 use Rattle.c_grammar.proofs.Leads.{said_of, Leads, go_then, go_stay, go_same, go_kept, go_next, split, starts, by_start, first_of, with_more, specifier_read}
@@ -29,15 +30,15 @@ answers_starts : (at : ℕ) (under : Frames) (token : Spoken) → starts token.s
 answers_starts at under token h =
     by_start (λ said. answers said token.at at under ≡ begin said token.at (Base (Returns at under))) (λ name. refl) (λ constant. refl) (λ value. refl) refl refl refl refl refl refl refl token.said h
 
-loop_starts_starts : (bound : Option Noted) (at : ℕ) (under : Frames) (token : Spoken) → starts token.said ≡ true → step (LoopStarts bound at under) token ≡ begin token.said token.at (Base (Starts bound at under))
+loop_starts_starts : (bound : Option Pragma) (at : ℕ) (under : Frames) (token : Spoken) → starts token.said ≡ true → step (LoopStarts bound at under) token ≡ begin token.said token.at (Base (Starts bound at under))
 loop_starts_starts bound at under token h =
     by_start (λ said. loop_starts (specifier_of said) said token.at bound at under ≡ begin said token.at (Base (Starts bound at under))) (λ name. refl) (λ constant. refl) (λ value. refl) refl refl refl refl refl refl refl token.said h
 
-loop_tests_starts : (bound : Option Noted) (start : ForStart Bytes) (at : ℕ) (under : Frames) (token : Spoken) → starts token.said ≡ true → step (LoopTests bound start at under) token ≡ begin token.said token.at (Base (Bounds bound start at under))
+loop_tests_starts : (bound : Option Pragma) (start : ForStart Bytes) (at : ℕ) (under : Frames) (token : Spoken) → starts token.said ≡ true → step (LoopTests bound start at under) token ≡ begin token.said token.at (Base (Guards bound start at under))
 loop_tests_starts bound start at under token h =
-    by_start (λ said. loop_tests said token.at bound start at under ≡ begin said token.at (Base (Bounds bound start at under))) (λ name. refl) (λ constant. refl) (λ value. refl) refl refl refl refl refl refl refl token.said h
+    by_start (λ said. loop_tests said token.at bound start at under ≡ begin said token.at (Base (Guards bound start at under))) (λ name. refl) (λ constant. refl) (λ value. refl) refl refl refl refl refl refl refl token.said h
 
-loop_steps_starts : (bound : Option Noted) (start : ForStart Bytes) (test : Option (Expr Bytes)) (at : ℕ) (under : Frames) (token : Spoken) → starts token.said ≡ true → step (LoopSteps bound start test at under) token ≡ begin token.said token.at (Base (Repeats bound start test at under))
+loop_steps_starts : (bound : Option Pragma) (start : ForStart Bytes) (test : Option (Expr Bytes)) (at : ℕ) (under : Frames) (token : Spoken) → starts token.said ≡ true → step (LoopSteps bound start test at under) token ≡ begin token.said token.at (Base (Repeats bound start test at under))
 loop_steps_starts bound start test at under token h =
     by_start (λ said. loop_steps said token.at bound start test at under ≡ begin said token.at (Base (Repeats bound start test at under))) (λ name. refl) (λ constant. refl) (λ value. refl) refl refl refl refl refl refl refl token.said h
 
@@ -46,34 +47,34 @@ statement_starts under token h =
     by_start (λ said. begin_statement said token.at under ≡ begin said token.at (Base (Evaluates under))) (λ name. refl) (λ constant. refl) (λ value. refl) refl refl refl refl refl refl refl token.said h
 
 -- the keyword of a loop, behind its pragma where it has one
-loop_begins : (kind : TokenKind) (at : ℕ) (under : Frames) (b : Option Noted → State) → step (Begins under) (record { said = Plain kind; at = at }) ≡ Goes (b None) → ((bound : Noted) → step (Bounded bound under) (record { said = Plain kind; at = at }) ≡ Goes (b (Some bound))) → (bound : Option Noted) (ms : List Mark) (ts : List Spoken) → Agree (spell_bound bound ++ kept kind at ∷ ms) ts → Leads ts (Begins under) (b bound) ms
+loop_begins : (kind : TokenKind) (at : ℕ) (under : Frames) (b : Option Pragma → State) → step (Begins under) (record { said = Plain kind; at = at }) ≡ Goes (b None) → ((bound : Pragma) → step (Bounded bound under) (record { said = Plain kind; at = at }) ≡ Goes (b (Some bound))) → (bound : Option Pragma) (ms : List Mark) (ts : List Spoken) → Agree (spell_bound bound ++ kept kind at ∷ ms) ts → Leads ts (Begins under) (b bound) ms
 loop_begins kind at under b n h None ms ts g = go_kept (Plain kind) at ms (Begins under) (b None) n ts g
-loop_begins kind at under b n h (Some (Note bytes here)) ms ts g =
-    go_then ts _ (Bounded (Note bytes here) under) _ (kept kind at ∷ ms) ms
-    (go_kept (lexemes.Pragma kinds.LoopBound bytes) here _ (Begins under) (Bounded (Note bytes here) under) refl ts g)
-    (go_kept (Plain kind) at ms (Bounded (Note bytes here) under) (b (Some (Note bytes here))) (h (Note bytes here)))
+loop_begins kind at under b n h (Some pragma) ms ts g =
+    go_then ts _ (Bounded pragma under) _ (kept kind at ∷ ms) ms
+    (go_kept (lexemes.Pragma kinds.LoopBound pragma.text) pragma.at _ (Begins under) (Bounded pragma under) refl ts g)
+    (go_kept (Plain kind) at ms (Bounded pragma under) (b (Some pragma)) (h pragma))
 
-first_declared : (bound : Option Noted) (at : ℕ) (under : Frames) (word : Specifier) (here : ℕ) → step (LoopStarts bound at under) (record { said = Plain (specifier_kind word); at = here }) ≡ Goes (Specified (word ∷ []) here (AtFor bound at under))
+first_declared : (bound : Option Pragma) (at : ℕ) (under : Frames) (word : Specifier) (here : ℕ) → step (LoopStarts bound at under) (record { said = Plain (specifier_kind word); at = here }) ≡ Goes (Specified (word ∷ []) here (AtFor bound at under))
 first_declared bound at under specifiers.Static here = refl
 first_declared bound at under _ here = refl
 
 -- what stands first in the head of a `for`
-read_start : (start : ForStart Bytes) (bound : Option Noted) (at : ℕ) (under : Frames) (ms : List Mark) (ts : List Spoken) → IsFormedStart start → Agree (spell_start start ++ ms) ts → Leads ts (LoopStarts bound at under) (LoopTests bound start at under) ms
+read_start : (start : ForStart Bytes) (bound : Option Pragma) (at : ℕ) (under : Frames) (ms : List Mark) (ts : List Spoken) → IsFormedStart start → Agree (spell_start start ++ ms) ts → Leads ts (LoopStarts bound at under) (LoopTests bound start at under) ms
 read_start NoStart bound at under ms ts f g = go_next (Plain kinds.Semicolon) ms (LoopStarts bound at under) (LoopTests bound NoStart at under) (λ here. refl) ts g
 read_start (StartValue e) bound at under ms ts f g =
     whole e (Starts bound at under) (Plain kinds.Semicolon) ms (LoopStarts bound at under) (LoopTests bound (StartValue e) at under) (loop_starts_starts bound at under) f (level_within e) (omega arith) refl ts (split (spell e) (free kinds.Semicolon ∷ []) ms ts g)
 read_start (StartDeclaration d) bound at under ms ts f g = read_declaration d (AtFor bound at under) (LoopStarts bound at under) (first_declared bound at under) f ms ts g
 
-read_loop_test : (test : Option (Expr Bytes)) (bound : Option Noted) (start : ForStart Bytes) (at : ℕ) (under : Frames) (ms : List Mark) (ts : List Spoken) → IsFormedOption test → Agree (spell_optional test ++ free kinds.Semicolon ∷ ms) ts → Leads ts (LoopTests bound start at under) (LoopSteps bound start test at under) ms
+read_loop_test : (test : Option (Expr Bytes)) (bound : Option Pragma) (start : ForStart Bytes) (at : ℕ) (under : Frames) (ms : List Mark) (ts : List Spoken) → IsFormedOption test → Agree (spell_optional test ++ free kinds.Semicolon ∷ ms) ts → Leads ts (LoopTests bound start at under) (LoopSteps bound start test at under) ms
 read_loop_test None bound start at under ms ts f g = go_next (Plain kinds.Semicolon) ms (LoopTests bound start at under) (LoopSteps bound start None at under) (λ here. refl) ts g
-read_loop_test (Some e) bound start at under ms ts f g = whole e (Bounds bound start at under) (Plain kinds.Semicolon) ms (LoopTests bound start at under) (LoopSteps bound start (Some e) at under) (loop_tests_starts bound start at under) f (level_within e) (omega arith) refl ts g
+read_loop_test (Some e) bound start at under ms ts f g = whole e (Guards bound start at under) (Plain kinds.Semicolon) ms (LoopTests bound start at under) (LoopSteps bound start (Some e) at under) (loop_tests_starts bound start at under) f (level_within e) (omega arith) refl ts g
 
-read_loop_step : (last : Option (Expr Bytes)) (bound : Option Noted) (start : ForStart Bytes) (test : Option (Expr Bytes)) (at : ℕ) (under : Frames) (ms : List Mark) (ts : List Spoken) → IsFormedOption last → Agree (spell_optional last ++ free kinds.RightParen ∷ ms) ts → Leads ts (LoopSteps bound start test at under) (Begins (InFor bound start test last at under)) ms
+read_loop_step : (last : Option (Expr Bytes)) (bound : Option Pragma) (start : ForStart Bytes) (test : Option (Expr Bytes)) (at : ℕ) (under : Frames) (ms : List Mark) (ts : List Spoken) → IsFormedOption last → Agree (spell_optional last ++ free kinds.RightParen ∷ ms) ts → Leads ts (LoopSteps bound start test at under) (Begins (InFor bound start test last at under)) ms
 read_loop_step None bound start test at under ms ts f g = go_next (Plain kinds.RightParen) ms (LoopSteps bound start test at under) (Begins (InFor bound start test None at under)) (λ here. refl) ts g
 read_loop_step (Some e) bound start test at under ms ts f g = whole e (Repeats bound start test at under) (Plain kinds.RightParen) ms (LoopSteps bound start test at under) (Begins (InFor bound start test (Some e) at under)) (loop_steps_starts bound start test at under) f (level_within e) (omega arith) refl ts g
 
 -- the head of a `for`, up to its body
-read_for : (bound : Option Noted) (start : ForStart Bytes) (test last : Option (Expr Bytes)) (at : ℕ) (under : Frames) (ms : List Mark) (ts : List Spoken) → IsFormedStart start → IsFormedOption test → IsFormedOption last → Agree (spell_bound bound ++ kept kinds.For at ∷ free kinds.LeftParen ∷ (spell_start start ++ (spell_optional test ++ free kinds.Semicolon ∷ (spell_optional last ++ free kinds.RightParen ∷ ms)))) ts → Leads ts (Begins under) (Begins (InFor bound start test last at under)) ms
+read_for : (bound : Option Pragma) (start : ForStart Bytes) (test last : Option (Expr Bytes)) (at : ℕ) (under : Frames) (ms : List Mark) (ts : List Spoken) → IsFormedStart start → IsFormedOption test → IsFormedOption last → Agree (spell_bound bound ++ kept kinds.For at ∷ free kinds.LeftParen ∷ (spell_start start ++ (spell_optional test ++ free kinds.Semicolon ∷ (spell_optional last ++ free kinds.RightParen ∷ ms)))) ts → Leads ts (Begins under) (Begins (InFor bound start test last at under)) ms
 read_for bound start test last at under ms ts f h k g =
     let behind_step = spell_optional last ++ free kinds.RightParen ∷ ms in
     let behind_test = spell_optional test ++ free kinds.Semicolon ∷ behind_step in
@@ -112,15 +113,15 @@ starts_item : (said : Lexeme) → starts said ≡ true → (here : ℕ) (front :
 starts_item said h here front braces =
     by_start (λ said. among (specifier_of said) said here front braces ≡ begin_statement said here (InItems front braces)) (λ name. refl) (λ constant. refl) (λ value. refl) refl refl refl refl refl refl refl said h
 
-bound_begins : (bound : Option Noted) (kind : TokenKind) (at : ℕ) (ms : List Mark) → Plain kind ≢ Plain kinds.Else → ((here : ℕ) (front : Items Bytes) (braces : Braces) → among (specifier_of (Plain kind)) (Plain kind) here front braces ≡ begin_statement (Plain kind) here (InItems front braces)) → BeginsStatement (spell_bound bound ++ kept kind at ∷ ms)
+bound_begins : (bound : Option Pragma) (kind : TokenKind) (at : ℕ) (ms : List Mark) → Plain kind ≢ Plain kinds.Else → ((here : ℕ) (front : Items Bytes) (braces : Braces) → among (specifier_of (Plain kind)) (Plain kind) here front braces ≡ begin_statement (Plain kind) here (InItems front braces)) → BeginsStatement (spell_bound bound ++ kept kind at ∷ ms)
 bound_begins None kind at ms n h = (kept kind at, ms, refl, n, h)
-bound_begins (Some (Note bytes here)) kind at ms n h = (Kept (lexemes.Pragma kinds.LoopBound bytes) here, _, refl, (λ e. cc), (λ here front braces. refl))
+bound_begins (Some pragma) kind at ms n h = (Kept (lexemes.Pragma kinds.LoopBound pragma.text) pragma.at, _, refl, (λ e. cc), (λ here front braces. refl))
 
 first_of_statement : (s : Statement Bytes) → BeginsStatement (spell_statement s)
 first_of_statement (Block items at) = (kept kinds.LeftBrace at, _, refl, (λ e. cc), (λ here front braces. refl))
 first_of_statement (Empty at) = (kept kinds.Semicolon at, _, refl, (λ e. cc), (λ here front braces. refl))
 first_of_statement (Evaluate value at) = let f = with_more (spell value) (free kinds.Semicolon ∷ []) (first_of value) in (f.0, f.1, f.2, starts_no_else (said_of f.0) f.3, starts_item (said_of f.0) f.3)
-first_of_statement (Marker bytes at) = (Kept (lexemes.Pragma kinds.Marker bytes) at, _, refl, (λ e. cc), (λ here front braces. refl))
+first_of_statement (Marker pragma) = (Kept (lexemes.Pragma kinds.Marker pragma.text) pragma.at, _, refl, (λ e. cc), (λ here front braces. refl))
 first_of_statement (If test first at) = (kept kinds.If at, _, refl, (λ e. cc), (λ here front braces. refl))
 first_of_statement (IfElse test first second at) = (kept kinds.If at, _, refl, (λ e. cc), (λ here front braces. refl))
 first_of_statement (While bound test body at) = bound_begins bound kinds.While at _ (λ e. cc) (λ here front braces. refl)
@@ -189,14 +190,14 @@ read_label (Default at) front braces ms ts h f g =
 declared_among : (front : Items Bytes) (braces : Braces) (word : Specifier) (here : ℕ) → step (Among front braces) (record { said = Plain (specifier_kind word); at = here }) ≡ Goes (Specified (word ∷ []) here (AmongItems front braces))
 declared_among front braces word here = ap (λ o. among o (Plain (specifier_kind word)) here front braces) (specifier_read word)
 
-read_restriction : (r : Noted) (front : Items Bytes) (braces : Braces) (ms : List Mark) (ts : List Spoken) → Agree (spell_note kinds.FlowRestriction r ++ ms) ts → Leads ts (Among front braces) (Among (AndRestriction front r) braces) ms
-read_restriction (Note bytes at) front braces ms ts g = go_kept (lexemes.Pragma kinds.FlowRestriction bytes) at ms (Among front braces) (Among (AndRestriction front (Note bytes at)) braces) refl ts g
+read_restriction : (pragma : Pragma) (front : Items Bytes) (braces : Braces) (ms : List Mark) (ts : List Spoken) → Agree (spell_pragma kinds.FlowRestriction pragma ++ ms) ts → Leads ts (Among front braces) (Among (AndRestriction front pragma) braces) ms
+read_restriction pragma front braces ms ts g = go_kept (lexemes.Pragma kinds.FlowRestriction pragma.text) pragma.at ms (Among front braces) (Among (AndRestriction front pragma) braces) refl ts g
 
-first_of_note : (r : Noted) → BeginsItem (spell_note kinds.FlowRestriction r)
-first_of_note (Note bytes at) = (Kept (lexemes.Pragma kinds.FlowRestriction bytes) at, [], refl, (λ e. cc))
+first_of_pragma : (pragma : Pragma) → BeginsItem (spell_pragma kinds.FlowRestriction pragma)
+first_of_pragma pragma = (Kept (lexemes.Pragma kinds.FlowRestriction pragma.text) pragma.at, [], refl, (λ e. cc))
 
 -- the parts of a `for`, as its head reads them
-for_parts : (bound : Option Noted) (start : ForStart Bytes) (test last : Option (Expr Bytes)) (body : Statement Bytes) (at : ℕ) (m : Mark) (ms : List Mark) (ts : List Spoken) → Agree (spell_statement (For bound start test last body at) ++ m ∷ ms) ts → Agree (spell_bound bound ++ kept kinds.For at ∷ free kinds.LeftParen ∷ (spell_start start ++ (spell_optional test ++ free kinds.Semicolon ∷ (spell_optional last ++ free kinds.RightParen ∷ (spell_statement body ++ m ∷ ms))))) ts
+for_parts : (bound : Option Pragma) (start : ForStart Bytes) (test last : Option (Expr Bytes)) (body : Statement Bytes) (at : ℕ) (m : Mark) (ms : List Mark) (ts : List Spoken) → Agree (spell_statement (For bound start test last body at) ++ m ∷ ms) ts → Agree (spell_bound bound ++ kept kinds.For at ∷ free kinds.LeftParen ∷ (spell_start start ++ (spell_optional test ++ free kinds.Semicolon ∷ (spell_optional last ++ free kinds.RightParen ∷ (spell_statement body ++ m ∷ ms))))) ts
 for_parts bound start test last body at m ms ts g =
     let rest = m ∷ ms in
     let behind_step = spell_optional last ++ free kinds.RightParen ∷ spell_statement body in
@@ -219,7 +220,7 @@ mutual
   read_statement (Evaluate value at) under m ms ts f h g =
       subst (λ n. Leads ts (Begins under) (Stands (Evaluate value n) under) (m ∷ ms)) (sym f.0)
       (whole value (Evaluates under) (Plain kinds.Semicolon) (m ∷ ms) (Begins under) (Stands (Evaluate value (place value)) under) (statement_starts under) f.1 (level_within value) (omega arith) refl ts (split (spell value) (free kinds.Semicolon ∷ []) (m ∷ ms) ts g))
-  read_statement (Marker bytes at) under m ms ts f h g = go_kept (lexemes.Pragma kinds.Marker bytes) at (m ∷ ms) (Begins under) (Stands (Marker bytes at) under) refl ts g
+  read_statement (Marker pragma) under m ms ts f h g = go_kept (lexemes.Pragma kinds.Marker pragma.text) pragma.at (m ∷ ms) (Begins under) (Stands (Marker pragma) under) refl ts g
   read_statement (If test first at) under m ms ts f h g =
       go_then ts _ (Opens (OfIf at under)) _ (spell_test test (spell_statement first) ++ m ∷ ms) (m ∷ ms)
       (go_kept (Plain kinds.If) at _ (Begins under) (Opens (OfIf at under)) refl ts g)
@@ -303,10 +304,10 @@ mutual
       (λ rest g. go_then rest _ (Stands s (InItems front braces)) _ (m ∷ ms) (m ∷ ms)
       (read_statement s (InItems front braces) m ms rest f.1 (λ e. h) g)
       (go_same m ms (Stands s (InItems front braces)) (Among (AndStatement front s) braces) (λ here. refl))))
-  read_items (AndRestriction front r) braces m ms ts f h g =
-      go_then ts _ (Among front braces) _ (spell_note kinds.FlowRestriction r ++ m ∷ ms) (m ∷ ms)
-      (front_then front braces (spell_note kinds.FlowRestriction r) (m ∷ ms) ts (first_of_note r) (λ x xs n g. read_items front braces x xs ts f n g) g)
-      (λ rest g. read_restriction r front braces (m ∷ ms) rest g)
+  read_items (AndRestriction front pragma) braces m ms ts f h g =
+      go_then ts _ (Among front braces) _ (spell_pragma kinds.FlowRestriction pragma ++ m ∷ ms) (m ∷ ms)
+      (front_then front braces (spell_pragma kinds.FlowRestriction pragma) (m ∷ ms) ts (first_of_pragma pragma) (λ x xs n g. read_items front braces x xs ts f n g) g)
+      (λ rest g. read_restriction pragma front braces (m ∷ ms) rest g)
   read_items (AndLabel front l) braces m ms ts f h g =
       go_then ts _ (Among front braces) _ (spell_label l ++ m ∷ ms) (m ∷ ms)
       (front_then front braces (spell_label l) (m ∷ ms) ts (first_of_label l) (λ x xs n g. read_items front braces x xs ts f.0 n g) g)

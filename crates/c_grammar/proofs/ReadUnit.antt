@@ -6,7 +6,7 @@ use Rattle.c_tree.specs.Said as lexemes
 use Rattle.c_tree.specs.Said.{Plain}
 use Rattle.c_tree.specs.Formed.{EachOf, IsFormedExternal, IsFormedUnit, IsFirstPlace}
 use Rattle.c_tree.specs.Spelling.{Spoken, Mark, Kept, Agree, kept, free, specifier_kind, spell_specifiers, spell_row, spell_param, spell_items, spell_external, spell_externals, spell_unit}
-use Rattle.c_tree.specs.Tree.{Row, Nothing, Then, NoItem, Note, External, Restriction, Declaring, Function, TranslationUnit, Whole}
+use Rattle.c_tree.specs.Tree.{Row, Nothing, Then, NoItem, External, Restriction, Declaring, Function, TranslationUnit, Whole}
 use Rattle.c_grammar.specs.Begun.{Bytes, Heads, OfFunction, AtFile, Signs, File, Among, Specified, Named, ParamsOpen, ParamsDone}
 use Rattle.c_grammar.specs.Machine.{Moved, Goes, step, after_all, file_item}
 use Rattle.c_grammar.proofs.Leads.{Leads, go_then, go_stay, go_kept, go_next, split, specifier_read}
@@ -17,7 +17,7 @@ declared_at : (front : Row (External Bytes)) (word : Specifier) (here : ℕ) →
 declared_at front word here = ap (λ o. file_item o (Plain (specifier_kind word)) here front) (specifier_read word)
 
 read_external : (e : External Bytes) (front : Row (External Bytes)) (ms : List Mark) (ts : List Spoken) → IsFormedExternal e → Agree (spell_external e ++ ms) ts → Leads ts (File front) (File (Then front e)) ms
-read_external (Restriction (Note bytes at)) front ms ts f g = go_kept (lexemes.Pragma kinds.FlowRestriction bytes) at ms (File front) (File (Then front (Restriction (Note bytes at)))) refl ts g
+read_external (Restriction pragma) front ms ts f g = go_kept (lexemes.Pragma kinds.FlowRestriction pragma.text) pragma.at ms (File front) (File (Then front (Restriction pragma))) refl ts g
 read_external (Declaring d) front ms ts f g = read_declaration d (AtFile front) (File front) (declared_at front) f ms ts g
 read_external (Function all name name_at params body body_at at) front ms ts f g =
     let row = spell_row spell_param params in

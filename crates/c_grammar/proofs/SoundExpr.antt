@@ -10,8 +10,8 @@ use Rattle.c_tree.specs.Said.{Lexeme, Plain}
 use Rattle.c_tree.specs.Formed.{level, level_of, place, IsFormed}
 use Rattle.c_tree.specs.Spelling.{Mark, Kept, Free, Agree, kept, free, free_specifier, specifier_kind, postfix_kind, binary_kind, assign_kind, spell, spell_all, spell_row}
 use Rattle.c_tree.specs.Tree.{Row, Nothing, Then, Expr, Name, Prefix, Cast, Binary, Conditional, Assign, Exprs, NoExpr, AndExpr}
-use Rattle.c_grammar.specs.Begun.{Bytes, Purpose, limit, Stack, Base, InParen, InIndex, InCall, AfterPrefix, AfterCast, AfterJoin, InChoice, AfterColon, AfterAssign, demand, Evaluates}
-use Rattle.c_grammar.specs.Machine.{Moved, Role, Joins, Assigns, Steps, Asks, Parts, OpensParen, ClosesParen, OpensBracket, ClosesBracket, Other, role, reach, begin, enter, leave, go_on, took, specifier_of}
+use Rattle.c_grammar.specs.Begun.{Bytes, Purpose, limit, Stack, Base, InParen, InIndex, InCall, AfterPrefix, AfterCast, AfterJoin, AfterQuestion, AfterColon, AfterAssign, demand, Evaluates}
+use Rattle.c_grammar.specs.Machine.{Moved, Role, Joins, Assigns, Steps, Asks, Separates, OpensParen, ClosesParen, OpensBracket, ClosesBracket, Other, role, reach, begin, enter, leave, go_on, took, specifier_of}
 use Rattle.c_grammar.proofs.Levels.{least}
 use Rattle.c_grammar.proofs.Around.{before_row, before_all, purpose_around, stack_around, SoundPurpose, SoundStack, Implies, Keeps}
 
@@ -28,7 +28,7 @@ lexeme_of (Joins operator) = Plain (binary_kind operator)
 lexeme_of (Assigns operator) = Plain (assign_kind operator)
 lexeme_of (Steps operator) = Plain (postfix_kind operator)
 lexeme_of Asks = Plain kinds.Question
-lexeme_of Parts = Plain kinds.Colon
+lexeme_of Separates = Plain kinds.Colon
 lexeme_of OpensParen = Plain kinds.LeftParen
 lexeme_of ClosesParen = Plain kinds.RightParen
 lexeme_of OpensBracket = Plain kinds.LeftBracket
@@ -107,7 +107,7 @@ keeps_leave t (InParen at under) ClosesParen tree rest f h s = ((f, one_demand u
 keeps_leave t (InIndex array at under) ClosesBracket tree rest f h s = ((f, one_demand under, s), implies_same _ _ (ap (λ ms. stack_around under (Kept (lexemes.Name array) at ∷ free kinds.LeftBracket ∷ ms)) (append_assoc (spell tree) (free kinds.RightBracket ∷ []) rest)))
 keeps_leave t (InCall function at front under) ClosesParen tree rest f h s = (((s.0, h, f), one_demand under, s.1), implies_same _ _ (ap (λ ms. stack_around under (Kept (lexemes.Name function) at ∷ free kinds.LeftParen ∷ ms)) (append_assoc (spell_all (AndExpr front tree)) (free kinds.RightParen ∷ []) rest ∙ all_more front tree (free kinds.RightParen ∷ rest))))
 keeps_leave t (InCall function at front under) (Joins binary.Comma) tree rest f h s = (((s.0, h, f), s.1), implies_same _ _ (ap (λ ms. stack_around under (Kept (lexemes.Name function) at ∷ free kinds.LeftParen ∷ ms)) (all_more front tree (free kinds.Comma ∷ rest))))
-keeps_leave t (InChoice test under) Parts tree rest f h s = ((s.0, s.1, s.2, f, s.3), implies_same _ _ refl)
+keeps_leave t (AfterQuestion test under) Separates tree rest f h s = ((s.0, s.1, s.2, f, s.3), implies_same _ _ refl)
 keeps_leave t (Base purpose) r tree rest f h s = t purpose (lexeme_of r) tree rest f h s
 keeps_leave t _ r tree rest f h s = tt
 

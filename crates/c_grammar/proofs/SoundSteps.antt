@@ -9,8 +9,9 @@ use Rattle.c_tree.specs.Said.{Lexeme, Plain}
 use Rattle.c_tree.specs.Formed.{IsSome, IsSomeRow, EachOf, AreSome, AreFormed, IsFormedOption, IsFormedShape, IsFormedParam, IsFormedStart, IsFormedStatement, IsFormedExternal, ends_open}
 use Rattle.c_tree.specs.Spelling.{Spoken, Mark, Kept, Free, Fits, Agree, kept, free, free_specifier, specifier_kind, spell, spell_all, spell_row, spell_optional, spell_specifiers, spell_shape, spell_name, spell_param, spell_bound, spell_start, spell_statement, spell_items, spell_externals}
 use Rattle.c_tree.specs.Tree as trees
-use Rattle.c_tree.specs.Tree.{Row, Nothing, Then, Expr, Exprs, NoExpr, AndExpr, Shape, Scalar, Unsized, Absent, Object, Declared, Param, Parameter, Prototype, Noted, Note, Default, ForStart, NoStart, Statement, Block, Empty, Evaluate, Marker, If, IfElse, While, Do, For, Switch, Break, Continue, Return, Items, External, Restriction}
-use Rattle.c_grammar.specs.Begun.{Bytes, Heads, Frames, InItems, InThen, InElse, InWhile, InDo, InFor, Braces, OfBlock, OfSwitch, OfFunction, Scope, AtFile, AmongItems, AtFor, Head, Heading, Proto, Signs, Declarator, OfObject, OfParam, Returns, Tests, Starts, Bounds, Repeats, Sizes, Initialises, Lists, Stack, Base, InParen, InCall, State, Wants, Has, Opened, Typed, Called, File, Among, Begins, Stands, Closes, Bounded, Opens, Chooses, Answers, Defaults, Loops, LoopStarts, LoopTests, LoopSteps, Specified, Named, Further, Declares, Sizing, Shaped, Initial, Listed, Ended, ParamsOpen, ParamNext, ParamSpecified, ParamsDone}
+use Rattle.c_tree.specs.declared.pragma.Pragma.{Pragma}
+use Rattle.c_tree.specs.Tree.{Row, Nothing, Then, Expr, Exprs, NoExpr, AndExpr, Shape, Scalar, Unsized, Absent, Object, Declared, Param, Parameter, Prototype, Default, ForStart, NoStart, Statement, Block, Empty, Evaluate, Marker, If, IfElse, While, Do, For, Switch, Break, Continue, Return, Items, External, Restriction}
+use Rattle.c_grammar.specs.Begun.{Bytes, Heads, Frames, InItems, InThen, InElse, InWhile, InDo, InFor, Braces, OfBlock, OfSwitch, OfFunction, Scope, AtFile, AmongItems, AtFor, Head, Heading, Proto, Signs, Declarator, OfObject, OfParam, Returns, Tests, Starts, Guards, Repeats, Sizes, Initialises, Lists, Stack, Base, InParen, InCall, State, Wants, Has, Opened, Typed, Called, File, Among, Begins, Stands, Closes, Bounded, Opens, Chooses, Answers, Defaults, Loops, LoopStarts, LoopTests, LoopSteps, Specified, Named, Further, Declares, Sizing, Shaped, Initial, Listed, Ended, ParamsOpen, ParamNext, ParamSpecified, ParamsDone}
 use Rattle.c_grammar.specs.Machine.{Moved, Goes, Stuck, opened, typed, cast_ends, called, semicolon, paren, brace, colon, answers, loop_starts, loop_tests, loop_steps, file_item, first_name, specified, shaped, declares, named, further, sizing, initial, listed, param_begins, params_open, param_named, param_specified, body, params_done, object_ends, param_ends, step, after_all, specifier_of}
 use Rattle.c_grammar.proofs.Around.{before_row, before_all, for_around, frames_around, braces_around, scope_around, head_around, proto_around, declarator_around, stack_around, around, SoundFrames, SoundScope, SoundHead, SoundProto, SoundDeclarator, SoundStack, SoundState, Implies, Keeps, spell_open, IsOpen}
 use Rattle.c_grammar.proofs.SoundExpr.{implies_same, one_demand, keeps_begin, keeps_has, specifier_says}
@@ -161,19 +162,19 @@ keeps_answers : (said : Lexeme) (here at : ℕ) (under : Frames) (rest : List Ma
 keeps_answers (Plain kinds.Semicolon) here at under rest s = ((refl, tt, s), implies_same _ _ refl)
 keeps_answers said here at under rest s = keeps_begin said here (Base (Returns at under)) rest s
 
-keeps_loop_value : (said : Lexeme) (here : ℕ) (bound : Option Noted) (at : ℕ) (under : Frames) (rest : List Mark) → SoundFrames under → Keeps (loop_starts None said here bound at under) rest (frames_around under (for_around bound at (unless_semicolon said here ∷ rest)))
+keeps_loop_value : (said : Lexeme) (here : ℕ) (bound : Option Pragma) (at : ℕ) (under : Frames) (rest : List Mark) → SoundFrames under → Keeps (loop_starts None said here bound at under) rest (frames_around under (for_around bound at (unless_semicolon said here ∷ rest)))
 keeps_loop_value (Plain kinds.Semicolon) here bound at under rest s = ((tt, s), implies_same _ _ refl)
 keeps_loop_value said here bound at under rest s = keeps_begin said here (Base (Starts bound at under)) rest s
 
-keeps_loop_starts : (o : Option Specifier) (said : Lexeme) (here : ℕ) (bound : Option Noted) (at : ℕ) (under : Frames) (rest : List Mark) → specifier_of said ≡ o → SoundFrames under → Keeps (loop_starts o said here bound at under) rest (frames_around under (for_around bound at (start_mark o said here ∷ rest)))
+keeps_loop_starts : (o : Option Specifier) (said : Lexeme) (here : ℕ) (bound : Option Pragma) (at : ℕ) (under : Frames) (rest : List Mark) → specifier_of said ≡ o → SoundFrames under → Keeps (loop_starts o said here bound at under) rest (frames_around under (for_around bound at (start_mark o said here ∷ rest)))
 keeps_loop_starts None said here bound at under rest e s = keeps_loop_value said here bound at under rest s
 keeps_loop_starts (Some word) said here bound at under rest e s = ((tt, s), implies_same _ _ (ap (λ l. frames_around under (for_around bound at (Kept l here ∷ rest))) (sym (specifier_says said word e))))
 
-keeps_loop_tests : (said : Lexeme) (here : ℕ) (bound : Option Noted) (start : ForStart Bytes) (at : ℕ) (under : Frames) (rest : List Mark) → IsFormedStart start → SoundFrames under → Keeps (loop_tests said here bound start at under) rest (frames_around under (for_around bound at (spell_start start ++ unless_semicolon said here ∷ rest)))
+keeps_loop_tests : (said : Lexeme) (here : ℕ) (bound : Option Pragma) (start : ForStart Bytes) (at : ℕ) (under : Frames) (rest : List Mark) → IsFormedStart start → SoundFrames under → Keeps (loop_tests said here bound start at under) rest (frames_around under (for_around bound at (spell_start start ++ unless_semicolon said here ∷ rest)))
 keeps_loop_tests (Plain kinds.Semicolon) here bound start at under rest f s = ((f, tt, s), implies_same _ _ refl)
-keeps_loop_tests said here bound start at under rest f s = keeps_begin said here (Base (Bounds bound start at under)) rest (f, s)
+keeps_loop_tests said here bound start at under rest f s = keeps_begin said here (Base (Guards bound start at under)) rest (f, s)
 
-keeps_loop_steps : (said : Lexeme) (here : ℕ) (bound : Option Noted) (start : ForStart Bytes) (test : Option (Expr Bytes)) (at : ℕ) (under : Frames) (rest : List Mark) → IsFormedStart start → IsFormedOption test → SoundFrames under → Keeps (loop_steps said here bound start test at under) rest (frames_around under (for_around bound at (spell_start start ++ (spell_optional test ++ free kinds.Semicolon ∷ unless_paren said here ∷ rest))))
+keeps_loop_steps : (said : Lexeme) (here : ℕ) (bound : Option Pragma) (start : ForStart Bytes) (test : Option (Expr Bytes)) (at : ℕ) (under : Frames) (rest : List Mark) → IsFormedStart start → IsFormedOption test → SoundFrames under → Keeps (loop_steps said here bound start test at under) rest (frames_around under (for_around bound at (spell_start start ++ (spell_optional test ++ free kinds.Semicolon ∷ unless_paren said here ∷ rest))))
 keeps_loop_steps (Plain kinds.RightParen) here bound start test at under rest f h s = ((f, h, tt, s), implies_same _ _ refl)
 keeps_loop_steps said here bound start test at under rest f h s = keeps_begin said here (Base (Repeats bound start test at under)) rest (f, h, s)
 

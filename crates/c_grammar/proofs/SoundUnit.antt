@@ -8,8 +8,9 @@ use Rattle.c_tree.specs.Said as lexemes
 use Rattle.c_tree.specs.Said.{Lexeme, Plain}
 use Rattle.c_tree.specs.Formed.{EachOf, IsFormed, IsFormedObject, IsFormedParam, IsFormedDeclaration, IsFormedStatement, AreFormedItems, ends_open}
 use Rattle.c_tree.specs.Spelling.{Mark, Kept, Free, kept, free, specifier_kind, spell, spell_all, spell_row, spell_optional, spell_specifiers, spell_shape, spell_object, spell_param, spell_declaration, spell_bound, spell_start, spell_test, spell_statement, spell_items, spell_externals}
-use Rattle.c_tree.specs.Tree.{Row, Then, Expr, AndExpr, Value, Object, Declared, Param, Declaration, Objects, Noted, Statement, If, IfElse, While, For, Items, AndStatement}
-use Rattle.c_grammar.specs.Begun.{Bytes, Heads, Frames, InItems, InThen, InElse, InWhile, InDo, InFor, Braces, OfBlock, OfSwitch, OfFunction, Scope, AtFile, AmongItems, AtFor, Head, Heading, Proto, Test, OfIf, OfWhile, OfDo, OfChoice, Evaluates, Returns, Tests, Starts, Bounds, Repeats, Sizes, Initialises, Lists, Labels, Base, State, Wants, Defaults}
+use Rattle.c_tree.specs.declared.pragma.Pragma.{Pragma}
+use Rattle.c_tree.specs.Tree.{Row, Then, Expr, AndExpr, Value, Object, Declared, Param, Declaration, Objects, Statement, If, IfElse, While, For, Items, AndStatement}
+use Rattle.c_grammar.specs.Begun.{Bytes, Heads, Frames, InItems, InThen, InElse, InWhile, InDo, InFor, Braces, OfBlock, OfSwitch, OfFunction, Scope, AtFile, AmongItems, AtFor, Head, Heading, Proto, Test, OfIf, OfWhile, OfDo, OfChoice, Evaluates, Returns, Tests, Starts, Guards, Repeats, Sizes, Initialises, Lists, Labels, Base, State, Wants, Defaults}
 use Rattle.c_grammar.specs.Machine.{Goes, begin_statement, begin_loop, close, label, item, among, settle, body, declared, object_ends, param_ends, tested, specifier_of}
 use Rattle.c_grammar.proofs.ReadStatements.{labels_of, no_else}
 use Rattle.c_grammar.proofs.Around.{before_row, for_around, frames_around, braces_around, scope_around, head_around, proto_around, declarator_around, test_around, around, SoundFrames, SoundBraces, SoundScope, SoundHead, SoundProto, SoundTest, SoundState, Keeps}
@@ -54,7 +55,7 @@ keeps_took (Evaluates under) (Plain kinds.Semicolon) tree rest f h s = ((refl, (
 keeps_took (Returns at under) (Plain kinds.Semicolon) tree rest f h s = ((refl, f, s), implies_same _ _ (ap (λ ms. frames_around under (kept kinds.Return at ∷ ms)) (append_assoc (spell tree) (free kinds.Semicolon ∷ []) rest)))
 keeps_took (Tests test) (Plain kinds.RightParen) tree rest f h s = keeps_tested test tree rest f s
 keeps_took (Starts bound at under) (Plain kinds.Semicolon) tree rest f h s = ((f, s), implies_same _ _ (ap (λ ms. frames_around under (for_around bound at ms)) (append_assoc (spell tree) (free kinds.Semicolon ∷ []) rest)))
-keeps_took (Bounds bound start at under) (Plain kinds.Semicolon) tree rest f h s = ((s.0, f, s.1), implies_same _ _ refl)
+keeps_took (Guards bound start at under) (Plain kinds.Semicolon) tree rest f h s = ((s.0, f, s.1), implies_same _ _ refl)
 keeps_took (Repeats bound start test at under) (Plain kinds.RightParen) tree rest f h s = ((s.0, s.1, f, s.2), implies_same _ _ refl)
 keeps_took (Sizes declarator) (Plain kinds.RightBracket) tree rest f h s = (((h, f), s), implies_same _ _ (ap (λ ms. declarator_around declarator (free kinds.LeftBracket ∷ ms)) (append_assoc (spell tree) (free kinds.RightBracket ∷ []) rest)))
 keeps_took (Initialises head name shape at) said tree rest f h s =
@@ -87,7 +88,7 @@ keeps_begin_statement (lexemes.Pragma kinds.Marker bytes) at under rest s = ((re
 keeps_begin_statement (lexemes.Pragma kinds.LoopBound bytes) at under rest s = (s, implies_same _ _ refl)
 keeps_begin_statement said at under rest s = keeps_begin said at (Base (Evaluates under)) rest s
 
-pub keeps_begin_loop : (said : Lexeme) (at : ℕ) (bound : Noted) (under : Frames) (rest : List Mark) → SoundFrames under → Keeps (begin_loop said at bound under) rest (frames_around under (spell_bound (Some bound) ++ Kept said at ∷ rest))
+pub keeps_begin_loop : (said : Lexeme) (at : ℕ) (bound : Pragma) (under : Frames) (rest : List Mark) → SoundFrames under → Keeps (begin_loop said at bound under) rest (frames_around under (spell_bound (Some bound) ++ Kept said at ∷ rest))
 keeps_begin_loop (Plain kinds.While) at bound under rest s = (s, implies_same _ _ refl)
 keeps_begin_loop (Plain kinds.Do) at bound under rest s = (s, implies_same _ _ refl)
 keeps_begin_loop (Plain kinds.For) at bound under rest s = (s, implies_same _ _ refl)
@@ -165,7 +166,7 @@ keeps_then said here test at under s rest (inr n) t u f h ih =
     subst (λ o. Keeps o rest (frames_around (InThen test at under) (spell_statement s ++ then_mark said mark ∷ rest))) (sym (no_else said here test at under s n))
     (subst (λ all. Keeps (settle under said here (If test s at)) rest all) e g)
 
-keeps_do : (said : Lexeme) (bound : Option Noted) (at : ℕ) (under : Frames) (here : ℕ) (s : Statement Bytes) (rest : List Mark) → SoundFrames under → IsFormedStatement s → Keeps (settle (InDo bound at under) said here s) rest (frames_around (InDo bound at under) (spell_statement s ++ Free said ∷ rest))
+keeps_do : (said : Lexeme) (bound : Option Pragma) (at : ℕ) (under : Frames) (here : ℕ) (s : Statement Bytes) (rest : List Mark) → SoundFrames under → IsFormedStatement s → Keeps (settle (InDo bound at under) said here s) rest (frames_around (InDo bound at under) (spell_statement s ++ Free said ∷ rest))
 keeps_do (Plain kinds.While) bound at under here s rest u f = ((f, u), implies_same _ _ refl)
 keeps_do _ bound at under here s rest u f = tt
 

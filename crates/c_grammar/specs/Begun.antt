@@ -5,7 +5,8 @@ use Rattle.c_tree.specs.declared.expression.PrefixOperator.{PrefixOperator}
 use Rattle.c_tree.specs.declared.expression.BinaryOperator.{BinaryOperator}
 use Rattle.c_tree.specs.declared.expression.AssignOperator.{AssignOperator}
 use Rattle.c_tree.specs.Formed.{level_of}
-use Rattle.c_tree.specs.Tree.{Row, Expr, Exprs, Shape, Object, Param, Noted, ForStart, Statement, Items, External}
+use Rattle.c_tree.specs.declared.pragma.Pragma.{Pragma}
+use Rattle.c_tree.specs.Tree.{Row, Expr, Exprs, Shape, Object, Param, ForStart, Statement, Items, External}
 
 abbrev pub Bytes : Type 0
 Bytes = List ℕ
@@ -20,9 +21,9 @@ mutual
     InItems : (front : Items Bytes) (braces : Braces) → Frames
     InThen : (test : Expr Bytes) (at : ℕ) (under : Frames) → Frames
     InElse : (test : Expr Bytes) (first : Statement Bytes) (at : ℕ) (under : Frames) → Frames
-    InWhile : (bound : Option Noted) (test : Expr Bytes) (at : ℕ) (under : Frames) → Frames
-    InDo : (bound : Option Noted) (at : ℕ) (under : Frames) → Frames
-    InFor : (bound : Option Noted) (start : ForStart Bytes) (test step : Option (Expr Bytes)) (at : ℕ) (under : Frames) → Frames
+    InWhile : (bound : Option Pragma) (test : Expr Bytes) (at : ℕ) (under : Frames) → Frames
+    InDo : (bound : Option Pragma) (at : ℕ) (under : Frames) → Frames
+    InFor : (bound : Option Pragma) (start : ForStart Bytes) (test step : Option (Expr Bytes)) (at : ℕ) (under : Frames) → Frames
 
   -- what the items between braces belong to
   pub data Braces : Type 0 where
@@ -34,7 +35,7 @@ mutual
 pub data Scope : Type 0 where
   AtFile : (front : Row (External Bytes)) → Scope
   AmongItems : (front : Items Bytes) (braces : Braces) → Scope
-  AtFor : (bound : Option Noted) (at : ℕ) (under : Frames) → Scope
+  AtFor : (bound : Option Pragma) (at : ℕ) (under : Frames) → Scope
 
 -- a declaration of objects, as far as they are whole
 pub data Head : Type 0 where
@@ -52,8 +53,8 @@ pub data Declarator : Type 0 where
 -- what a test in round brackets belongs to
 pub data Test : Type 0 where
   OfIf : (at : ℕ) (under : Frames) → Test
-  OfWhile : (bound : Option Noted) (at : ℕ) (under : Frames) → Test
-  OfDo : (bound : Option Noted) (body : Statement Bytes) (at : ℕ) (under : Frames) → Test
+  OfWhile : (bound : Option Pragma) (at : ℕ) (under : Frames) → Test
+  OfDo : (bound : Option Pragma) (body : Statement Bytes) (at : ℕ) (under : Frames) → Test
   OfChoice : (at : ℕ) (under : Frames) → Test
 
 -- what a whole expression stands in
@@ -61,9 +62,9 @@ pub data Purpose : Type 0 where
   Evaluates : (under : Frames) → Purpose
   Returns : (at : ℕ) (under : Frames) → Purpose
   Tests : (test : Test) → Purpose
-  Starts : (bound : Option Noted) (at : ℕ) (under : Frames) → Purpose
-  Bounds : (bound : Option Noted) (start : ForStart Bytes) (at : ℕ) (under : Frames) → Purpose
-  Repeats : (bound : Option Noted) (start : ForStart Bytes) (test : Option (Expr Bytes)) (at : ℕ) (under : Frames) → Purpose
+  Starts : (bound : Option Pragma) (at : ℕ) (under : Frames) → Purpose
+  Guards : (bound : Option Pragma) (start : ForStart Bytes) (at : ℕ) (under : Frames) → Purpose
+  Repeats : (bound : Option Pragma) (start : ForStart Bytes) (test : Option (Expr Bytes)) (at : ℕ) (under : Frames) → Purpose
   Sizes : (declarator : Declarator) → Purpose
   Initialises : (head : Head) (name : Bytes) (shape : Shape Bytes) (at : ℕ) → Purpose
   Lists : (head : Head) (name : Bytes) (shape : Shape Bytes) (front : Exprs Bytes) (at : ℕ) → Purpose
@@ -78,7 +79,7 @@ pub data Stack : Type 0 where
   AfterPrefix : (operator : PrefixOperator) (at : ℕ) (under : Stack) → Stack
   AfterCast : (specifiers : List Specifier) (at : ℕ) (under : Stack) → Stack
   AfterJoin : (operator : BinaryOperator) (left : Expr Bytes) (under : Stack) → Stack
-  InChoice : (test : Expr Bytes) (under : Stack) → Stack
+  AfterQuestion : (test : Expr Bytes) (under : Stack) → Stack
   AfterColon : (test first : Expr Bytes) (under : Stack) → Stack
   AfterAssign : (operator : AssignOperator) (target : Expr Bytes) (under : Stack) → Stack
 
@@ -122,7 +123,7 @@ pub data State : Type 0 where
   -- a semicolon must come
   Closes : (statement : Statement Bytes) (under : Frames) → State
   -- a loop must come
-  Bounded : (bound : Noted) (under : Frames) → State
+  Bounded : (bound : Pragma) (under : Frames) → State
   -- the test's bracket must come
   Opens : (test : Test) → State
   -- the braces of a `switch` must come
@@ -132,10 +133,10 @@ pub data State : Type 0 where
   -- the colon of `default` must come
   Defaults : (front : Items Bytes) (braces : Braces) (at : ℕ) → State
   -- behind `for`, its bracket, its first and its second semicolon
-  Loops : (bound : Option Noted) (at : ℕ) (under : Frames) → State
-  LoopStarts : (bound : Option Noted) (at : ℕ) (under : Frames) → State
-  LoopTests : (bound : Option Noted) (start : ForStart Bytes) (at : ℕ) (under : Frames) → State
-  LoopSteps : (bound : Option Noted) (start : ForStart Bytes) (test : Option (Expr Bytes)) (at : ℕ) (under : Frames) → State
+  Loops : (bound : Option Pragma) (at : ℕ) (under : Frames) → State
+  LoopStarts : (bound : Option Pragma) (at : ℕ) (under : Frames) → State
+  LoopTests : (bound : Option Pragma) (start : ForStart Bytes) (at : ℕ) (under : Frames) → State
+  LoopSteps : (bound : Option Pragma) (start : ForStart Bytes) (test : Option (Expr Bytes)) (at : ℕ) (under : Frames) → State
   -- within the specifiers of a declaration, and behind the first name
   Specified : (specifiers : List Specifier) (at : ℕ) (scope : Scope) → State
   Named : (proto : Proto) → State

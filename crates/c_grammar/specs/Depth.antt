@@ -1,7 +1,7 @@
 -- The least depth of a unit in which this has begun.
 use Rattle.std.specs.Prelude.{ℕ, ◌+◌, max}
 use Rattle.c_tree.specs.Size.{size, size_all, size_row, size_optional, size_shape, size_object, size_param, size_start, size_statement, size_items, size_external}
-use Rattle.c_grammar.specs.Begun.{Header, Heads, Frames, InItems, InThen, InElse, InWhile, InDo, InFor, Braces, OfBlock, OfSwitch, OfFunction, Scope, AtFile, AmongItems, AtFor, Head, Heading, Proto, Signs, Declarator, OfObject, OfParam, Test, OfIf, OfWhile, OfDo, OfChoice, Purpose, Evaluates, Returns, Tests, Starts, Bounds, Repeats, Sizes, Initialises, Lists, Labels, Stack, Base, InParen, InIndex, InCall, AfterPrefix, AfterCast, AfterJoin, InChoice, AfterColon, AfterAssign, State, Wants, Has, Opened, Typed, Called, File, Among, Begins, Stands, Closes, Bounded, Opens, Chooses, Answers, Defaults, Loops, LoopStarts, LoopTests, LoopSteps, Specified, Named, Further, Declares, Sizing, Shaped, Initial, Listed, Ended, ParamsOpen, ParamNext, ParamSpecified, ParamsDone}
+use Rattle.c_grammar.specs.Begun.{Header, Heads, Frames, InItems, InThen, InElse, InWhile, InDo, InFor, Braces, OfBlock, OfSwitch, OfFunction, Scope, AtFile, AmongItems, AtFor, Head, Heading, Proto, Signs, Declarator, OfObject, OfParam, Test, OfIf, OfWhile, OfDo, OfChoice, Purpose, Evaluates, Returns, Tests, Starts, Guards, Repeats, Sizes, Initialises, Lists, Labels, Stack, Base, InParen, InIndex, InCall, AfterPrefix, AfterCast, AfterJoin, AfterQuestion, AfterColon, AfterAssign, State, Wants, Has, Opened, Typed, Called, File, Among, Begins, Stands, Closes, Bounded, Opens, Chooses, Answers, Defaults, Loops, LoopStarts, LoopTests, LoopSteps, Specified, Named, Further, Declares, Sizing, Shaped, Initial, Listed, Ended, ParamsOpen, ParamNext, ParamSpecified, ParamsDone}
 
 -- where the body of this function is so deep
 abbrev pub header_deep : Header → ℕ → ℕ
@@ -55,7 +55,7 @@ purpose_deep (Evaluates under) d = frames_deep under (d + 1)
 purpose_deep (Returns at under) d = frames_deep under (d + 1)
 purpose_deep (Tests test) d = test_deep test d
 purpose_deep (Starts bound at under) d = frames_deep under (d + 1)
-purpose_deep (Bounds bound start at under) d = frames_deep under (max (size_start start).depth d + 1)
+purpose_deep (Guards bound start at under) d = frames_deep under (max (size_start start).depth d + 1)
 purpose_deep (Repeats bound start test at under) d = frames_deep under (max (max (size_start start).depth (size_optional test).depth) d + 1)
 purpose_deep (Sizes declarator) d = declarator_deep declarator d
 purpose_deep (Initialises head name shape at) d = head_deep head (max (size_shape shape).depth d + 1)
@@ -71,7 +71,7 @@ stack_deep (InCall function at front under) d = stack_deep under (max (size_all 
 stack_deep (AfterPrefix operator at under) d = stack_deep under (d + 1)
 stack_deep (AfterCast all at under) d = stack_deep under (d + 1)
 stack_deep (AfterJoin operator left under) d = stack_deep under (max (size left).depth d + 1)
-stack_deep (InChoice test under) d = stack_deep under (max (size test).depth d + 1)
+stack_deep (AfterQuestion test under) d = stack_deep under (max (size test).depth d + 1)
 stack_deep (AfterColon test first under) d = stack_deep under (max (max (size test).depth (size first).depth) d + 1)
 stack_deep (AfterAssign operator target under) d = stack_deep under (max (size target).depth d + 1)
 

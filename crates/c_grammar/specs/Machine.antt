@@ -14,9 +14,10 @@ use Rattle.c_tree.specs.Said as lexemes
 use Rattle.c_tree.specs.Said.{Lexeme, Plain}
 use Rattle.c_tree.specs.Spelling.{Spoken}
 use Rattle.c_tree.specs.Formed.{level, level_of, place}
-use Rattle.c_tree.specs.Tree.{Row, Nothing, Then, Expr, Number, Character, Name, Paren, Index, Call, Postfix, Prefix, Cast, Binary, Conditional, Assign, Exprs, NoExpr, AndExpr, Shape, Scalar, Unsized, Sized, Absent, Value, Object, Declared, Param, Parameter, Declaration, Objects, Prototype, Noted, Note, Case, Default, ForStart, NoStart, StartValue, StartDeclaration, Statement, Block, Empty, Evaluate, Marker, If, IfElse, While, Do, For, Switch, Break, Continue, Return, Items, NoItem, AndDeclaration, AndStatement, AndRestriction, AndLabel, External, Restriction, Declaring, Function}
+use Rattle.c_tree.specs.declared.pragma.Pragma.{Pragma}
+use Rattle.c_tree.specs.Tree.{Row, Nothing, Then, Expr, Number, Character, Name, Paren, Index, Call, Postfix, Prefix, Cast, Binary, Conditional, Assign, Exprs, NoExpr, AndExpr, Shape, Scalar, Unsized, Sized, Absent, Value, Object, Declared, Param, Parameter, Declaration, Objects, Prototype, Case, Default, ForStart, NoStart, StartValue, StartDeclaration, Statement, Block, Empty, Evaluate, Marker, If, IfElse, While, Do, For, Switch, Break, Continue, Return, Items, NoItem, AndDeclaration, AndStatement, AndRestriction, AndLabel, External, Restriction, Declaring, Function}
 use Rattle.c_tree.specs.Tree as trees
-use Rattle.c_grammar.specs.Begun.{Bytes, Heads, Frames, InItems, InThen, InElse, InWhile, InDo, InFor, Braces, OfBlock, OfSwitch, OfFunction, Scope, AtFile, AmongItems, AtFor, Head, Heading, Proto, Signs, Declarator, OfObject, OfParam, Test, OfIf, OfWhile, OfDo, OfChoice, Purpose, Evaluates, Returns, Tests, Starts, Bounds, Repeats, Sizes, Initialises, Lists, Labels, Stack, Base, InParen, InIndex, InCall, AfterPrefix, AfterCast, AfterJoin, InChoice, AfterColon, AfterAssign, demand, State, Wants, Has, Opened, Typed, Called, File, Among, Begins, Stands, Closes, Bounded, Opens, Chooses, Answers, Defaults, Loops, LoopStarts, LoopTests, LoopSteps, Specified, Named, Further, Declares, Sizing, Shaped, Initial, Listed, Ended, ParamsOpen, ParamNext, ParamSpecified, ParamsDone}
+use Rattle.c_grammar.specs.Begun.{Bytes, Heads, Frames, InItems, InThen, InElse, InWhile, InDo, InFor, Braces, OfBlock, OfSwitch, OfFunction, Scope, AtFile, AmongItems, AtFor, Head, Heading, Proto, Signs, Declarator, OfObject, OfParam, Test, OfIf, OfWhile, OfDo, OfChoice, Purpose, Evaluates, Returns, Tests, Starts, Guards, Repeats, Sizes, Initialises, Lists, Labels, Stack, Base, InParen, InIndex, InCall, AfterPrefix, AfterCast, AfterJoin, AfterQuestion, AfterColon, AfterAssign, demand, State, Wants, Has, Opened, Typed, Called, File, Among, Begins, Stands, Closes, Bounded, Opens, Chooses, Answers, Defaults, Loops, LoopStarts, LoopTests, LoopSteps, Specified, Named, Further, Declares, Sizing, Shaped, Initial, Listed, Ended, ParamsOpen, ParamNext, ParamSpecified, ParamsDone}
 
 -- where a step leads
 pub data Moved : Type 0 where
@@ -29,7 +30,7 @@ pub data Role : Type 0 where
   Assigns : (operator : AssignOperator) → Role
   Steps : (operator : PostfixOperator) → Role
   Asks : Role
-  Parts : Role
+  Separates : Role
   OpensParen : Role
   ClosesParen : Role
   OpensBracket : Role
@@ -70,7 +71,7 @@ role (Plain kinds.BarEqual) = Assigns assign.BitOr
 role (Plain kinds.PlusPlus) = Steps postfix.Increment
 role (Plain kinds.MinusMinus) = Steps postfix.Decrement
 role (Plain kinds.Question) = Asks
-role (Plain kinds.Colon) = Parts
+role (Plain kinds.Colon) = Separates
 role (Plain kinds.LeftParen) = OpensParen
 role (Plain kinds.RightParen) = ClosesParen
 role (Plain kinds.LeftBracket) = OpensBracket
@@ -150,7 +151,7 @@ took (Evaluates under) (Plain kinds.Semicolon) tree = Goes (Stands (Evaluate tre
 took (Returns at under) (Plain kinds.Semicolon) tree = Goes (Stands (Return (Some tree) at) under)
 took (Tests test) (Plain kinds.RightParen) tree = Goes (tested test tree)
 took (Starts bound at under) (Plain kinds.Semicolon) tree = Goes (LoopTests bound (StartValue tree) at under)
-took (Bounds bound start at under) (Plain kinds.Semicolon) tree = Goes (LoopSteps bound start (Some tree) at under)
+took (Guards bound start at under) (Plain kinds.Semicolon) tree = Goes (LoopSteps bound start (Some tree) at under)
 took (Repeats bound start test at under) (Plain kinds.RightParen) tree = Goes (Begins (InFor bound start test (Some tree) at under))
 took (Sizes declarator) (Plain kinds.RightBracket) tree = Goes (Shaped declarator (Sized tree))
 took (Initialises head name shape at) said tree = object_ends said head (Declared name shape (Value tree) at)
@@ -164,7 +165,7 @@ abbrev pub enter : Role → Expr Bytes → Stack → Moved
 enter (Joins operator) tree under = only_if (nat_le (level tree) (level_of operator)) (Wants (AfterJoin operator tree under))
 enter (Assigns operator) tree under = only_if (nat_le (level tree) 2) (Wants (AfterAssign operator tree under))
 enter (Steps operator) tree under = only_if (nat_le (level tree) 1) (Has (Postfix operator tree (place tree)) under)
-enter Asks tree under = only_if (nat_le (level tree) 12) (Wants (InChoice tree under))
+enter Asks tree under = only_if (nat_le (level tree) 12) (Wants (AfterQuestion tree under))
 enter OpensParen (Name name at) under = Goes (Called name at under)
 enter OpensBracket (Name name at) under = Goes (Wants (InIndex name at under))
 enter _ tree under = Stuck
@@ -180,7 +181,7 @@ leave (InParen at under) ClosesParen said tree = Goes (Has (Paren tree at) under
 leave (InIndex array at under) ClosesBracket said tree = Goes (Has (Index array tree at) under)
 leave (InCall function at front under) ClosesParen said tree = Goes (Has (Call function (AndExpr front tree) at) under)
 leave (InCall function at front under) (Joins binary.Comma) said tree = Goes (Wants (InCall function at (AndExpr front tree) under))
-leave (InChoice test under) Parts said tree = Goes (Wants (AfterColon test tree under))
+leave (AfterQuestion test under) Separates said tree = Goes (Wants (AfterColon test tree under))
 leave (Base purpose) r said tree = took purpose said tree
 leave _ r said tree = Stuck
 
@@ -215,11 +216,11 @@ begin_statement (Plain kinds.Switch) at under = Goes (Opens (OfChoice at under))
 begin_statement (Plain kinds.Break) at under = Goes (Closes (Break at) under)
 begin_statement (Plain kinds.Continue) at under = Goes (Closes (Continue at) under)
 begin_statement (Plain kinds.Return) at under = Goes (Answers at under)
-begin_statement (lexemes.Pragma kinds.Marker bytes) at under = Goes (Stands (Marker bytes at) under)
-begin_statement (lexemes.Pragma kinds.LoopBound bytes) at under = Goes (Bounded (Note bytes at) under)
+begin_statement (lexemes.Pragma kinds.Marker bytes) at under = Goes (Stands (Marker (record { text = bytes; at = at })) under)
+begin_statement (lexemes.Pragma kinds.LoopBound bytes) at under = Goes (Bounded (record { text = bytes; at = at }) under)
 begin_statement said at under = begin said at (Base (Evaluates under))
 
-abbrev pub begin_loop : Lexeme → ℕ → Noted → Frames → Moved
+abbrev pub begin_loop : Lexeme → ℕ → Pragma → Frames → Moved
 begin_loop (Plain kinds.While) at bound under = Goes (Opens (OfWhile (Some bound) at under))
 begin_loop (Plain kinds.Do) at bound under = Goes (Begins (InDo (Some bound) at under))
 begin_loop (Plain kinds.For) at bound under = Goes (Loops (Some bound) at under)
@@ -238,7 +239,7 @@ label braces state = Stuck
 
 abbrev pub item : Lexeme → ℕ → Items Bytes → Braces → Moved
 item (Plain kinds.RightBrace) at front braces = Goes (close braces front)
-item (lexemes.Pragma kinds.FlowRestriction bytes) at front braces = Goes (Among (AndRestriction front (Note bytes at)) braces)
+item (lexemes.Pragma kinds.FlowRestriction bytes) at front braces = Goes (Among (AndRestriction front (record { text = bytes; at = at })) braces)
 item (Plain kinds.Case) at front braces = label braces (Wants (Base (Labels front braces at)))
 item (Plain kinds.Default) at front braces = label braces (Defaults front braces at)
 item said at front braces = begin_statement said at (InItems front braces)
@@ -278,23 +279,23 @@ abbrev pub answers : Lexeme → ℕ → ℕ → Frames → Moved
 answers (Plain kinds.Semicolon) here at under = Goes (Stands (Return None at) under)
 answers said here at under = begin said here (Base (Returns at under))
 
-abbrev pub loop_starts : Option Specifier → Lexeme → ℕ → Option Noted → ℕ → Frames → Moved
+abbrev pub loop_starts : Option Specifier → Lexeme → ℕ → Option Pragma → ℕ → Frames → Moved
 loop_starts (Some specifier) said here bound at under = Goes (Specified (specifier ∷ []) here (AtFor bound at under))
 loop_starts None (Plain kinds.Semicolon) here bound at under = Goes (LoopTests bound NoStart at under)
 loop_starts None said here bound at under = begin said here (Base (Starts bound at under))
 
-abbrev pub loop_tests : Lexeme → ℕ → Option Noted → ForStart Bytes → ℕ → Frames → Moved
+abbrev pub loop_tests : Lexeme → ℕ → Option Pragma → ForStart Bytes → ℕ → Frames → Moved
 loop_tests (Plain kinds.Semicolon) here bound start at under = Goes (LoopSteps bound start None at under)
-loop_tests said here bound start at under = begin said here (Base (Bounds bound start at under))
+loop_tests said here bound start at under = begin said here (Base (Guards bound start at under))
 
-abbrev pub loop_steps : Lexeme → ℕ → Option Noted → ForStart Bytes → Option (Expr Bytes) → ℕ → Frames → Moved
+abbrev pub loop_steps : Lexeme → ℕ → Option Pragma → ForStart Bytes → Option (Expr Bytes) → ℕ → Frames → Moved
 loop_steps (Plain kinds.RightParen) here bound start test at under = Goes (Begins (InFor bound start test None at under))
 loop_steps said here bound start test at under = begin said here (Base (Repeats bound start test at under))
 
 -- at file level
 abbrev pub file_item : Option Specifier → Lexeme → ℕ → Row (External Bytes) → Moved
 file_item (Some specifier) said here front = Goes (Specified (specifier ∷ []) here (AtFile front))
-file_item None (lexemes.Pragma kinds.FlowRestriction bytes) here front = Goes (File (Then front (Restriction (Note bytes here))))
+file_item None (lexemes.Pragma kinds.FlowRestriction bytes) here front = Goes (File (Then front (Restriction (record { text = bytes; at = here }))))
 file_item None said here front = Stuck
 
 abbrev pub first_name : Lexeme → ℕ → List Specifier → ℕ → Scope → Moved

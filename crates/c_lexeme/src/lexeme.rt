@@ -11,3 +11,10 @@ pub enum Lexeme {
     Character(u8),
     Pragma(TokenKind, Text),
 }
+
+/// What a token says, and its place.
+#[derive(Drop)]
+pub struct Word {
+    pub lexeme: Lexeme,
+    pub at: u32,
+}

@@ -8,7 +8,7 @@ use Rattle.c_lexer.specs.declared.pieces.Form.{Form}
 use Rattle.c_lexer.specs.declared.pieces.Form.TheVariants as forms
 use Rattle.c_lexer.specs.Forms.{IsPiece, IsPrefixed, prefixes, punctuators}
 use Rattle.c_lexer.proofs.TextLemmas.{and_parts, picked}
-use Rattle.c_lexer.proofs.Gaps.{comment_first}
+use Rattle.c_lexer.proofs.Comments.{comment_first}
 
 -- 0 blank, 1 letter, 2 digit, 3 quote, 4 double quote, 5 other
 abbrev pub class : ℕ → ℕ

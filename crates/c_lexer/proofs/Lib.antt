@@ -1,10 +1,9 @@
 pub mod TextLemmas
-pub mod Gaps
+pub mod Comments
 pub mod Quotes
 pub mod FirstBytes
 pub mod Operators
 pub mod Longest
 pub mod Cuts
-pub mod PragmaLemmas
 pub mod Tokens
 pub mod Unique

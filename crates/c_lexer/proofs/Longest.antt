@@ -3,15 +3,16 @@ use Rattle.std.proofs.Common.{◌≡◌, ◌≢◌, ℕ, ◌+◌, ◌<◌, ◌�
 use Rattle.std.specs.Prelude.{slice_index}
 use Rattle.std.proofs.lemmas.Bool.{true≢false, leb-true, eq-eqb}
 use Rattle.c_tree.specs.Bytes.{IsDigit, IsNameByte, IsBlankByte, Each, Stands, Spans, SpansOne}
+use Rattle.c_tree.specs.Pragmas.{IsOperator}
 use Rattle.c_lexer.specs.declared.pieces.Form.{Form}
 use Rattle.c_lexer.specs.declared.pieces.Form.TheVariants as forms
 use Rattle.c_lexer.specs.Bytes.{IsOnLine, EndsBefore}
-use Rattle.c_lexer.specs.Spacing.{IsComment}
-use Rattle.c_lexer.specs.Forms.{GoesOn, BeginsNumber, IsWord, IsNumber, IsQuoted, IsPrefixed, IsPunctuator, IsLine, IsOperator, IsPiece, IsLongest, NoPiece, prefixes, punctuators}
+use Rattle.c_lexer.specs.Comments.{IsComment}
+use Rattle.c_lexer.specs.Forms.{GoesOn, BeginsNumber, IsWord, IsNumber, IsQuoted, IsPrefixed, IsPunctuator, IsLine, IsPiece, IsLongest, NoPiece, prefixes, punctuators}
 use Rattle.c_lexer.proofs.TextLemmas.{picked}
-use Rattle.c_lexer.proofs.Gaps.{three, comment_same, comment_first, comment_after, spacers_grow}
+use Rattle.c_lexer.proofs.Comments.{three, comment_same, comment_first, comment_after}
 use Rattle.c_lexer.proofs.Quotes.{quoted_same}
-use Rattle.c_lexer.proofs.Operators.{operator_same, operator_word}
+use Rattle.c_lexer.proofs.Operators.{operator_after, operator_same, operator_word}
 use Rattle.c_lexer.proofs.FirstBytes.{class, blank_class, letter_class, digit_class, prefixed_class, punctuator_class, clash, no_name, are_names, names_stand}
 
 -- a run of bytes that goes as far as it can ends at one place
@@ -54,9 +55,6 @@ prefixed_short source at end p =
 
 operator_run : (source : List ℕ) (at end : ℕ) → at + 7 ≤ length source → IsOperator source at end → Run source at (at + 7)
 operator_run source at end within o = text_run (codes "_Pragma") source at refl within o.word (operator_word source at end o)
-
-pub operator_after : (source : List ℕ) (at end : ℕ) → IsOperator source at end → at + 7 < end
-operator_after source at end o = omega (arith, spacers_grow o.before_open.ends source (at + 7) o.open_at o.before_open.spacers, spacers_grow o.before_string.ends source (o.open_at + 1) o.from o.before_string.spacers, o.string.ends, spacers_grow o.before_close.ends source o.to o.close_at o.before_close.spacers, o.ends)
 
 pub operator_piece_run : (fresh : Bool) (source : List ℕ) (at end : ℕ) → IsPiece forms.Operator fresh source at end → Run source at (at + 7)
 operator_piece_run fresh source at end p = operator_run source at end (omega (arith, operator_after source at end p.has, p.within)) p.has
@@ -108,7 +106,7 @@ longest_operator fresh source at end within o = record { piece = piece; longest 
 
     no_longer : (other : Form) (further : ℕ) → end < further → IsPiece other fresh source at further → ⊥
     no_longer forms.Word further lt p = p.has.other (o.word, sym (runs_same source at (at + 7) further run (word_run source at further p.some p.within p.has)) ∙ refl)
-    no_longer forms.Operator further lt p = absurd (omega (arith, lt, (operator_same source at end further o p.has).ending))
+    no_longer forms.Operator further lt p = absurd (omega (arith, lt, operator_same source at end further o p.has))
     no_longer forms.PrefixedQuote further lt p = absurd (omega (arith, prefixed_short source at further p.has, runs_same source at (at + 7) p.has.quote_at run (prefixed_run source at further p.within p.has)))
     no_longer other further lt p = clash other fresh source at further 1 (ap class o.word.0) refl refl p
 
@@ -180,6 +178,13 @@ longest_comment fresh source at end c = record { piece = record { some = omega (
       | inr h ↦ let t = picked slash_short punctuators source at further refl p.has.text in absurd (omega (arith, lt, h.after, short_slash t.text source at further t.passes t.spans first))
     ]
     no_longer other further lt p = clash other fresh source at further 5 (ap class first) refl refl p
+
+-- a line goes on from its number sign
+pub line_from : (source : List ℕ) (at end : ℕ) → slice_index source at ≡ 35 → Each IsOnLine source (at + 1) end → Each IsOnLine source at end
+line_from source at end hash line i after before = elim (three at i) [
+  | inl e ↦ (λ k. omega (arith, hash, k, ap (slice_index source) e))
+  | inr h ↦ elim h [ inl lt ↦ line i (omega arith) before | inr lt ↦ absurd (omega arith) ]
+]
 
 pub longest_directive : (fresh : Bool) (source : List ℕ) (at end : ℕ) → at < end → end ≤ length source → IsLine fresh source at end → IsLongest forms.Directive fresh source at end
 longest_directive fresh source at end some within l = record { piece = record { some = some; within = within; has = l }; longest = no_longer }

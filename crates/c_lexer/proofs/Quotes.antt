@@ -3,7 +3,7 @@ use Rattle.std.proofs.Common.{◌≡◌, ℕ, ◌+◌, ◌<◌, ◌≤◌, inl, 
 use Rattle.std.proofs.lemmas.Bool.{true≢false}
 use Rattle.std.specs.Prelude.{slice_index}
 use Rattle.c_lexer.specs.Forms.{is_taken, IsQuoted}
-use Rattle.c_lexer.proofs.Gaps.{three}
+use Rattle.c_lexer.proofs.Comments.{three}
 
 -- where no quote so far closes it, a quoted text is no shorter
 pub quoted_beyond : (quote : ℕ) (source : List ℕ) (at end n : ℕ) → (q : IsQuoted quote source at end) → ((m : ℕ) → m < n → slice_index source (at + 1 + m) ≡ quote → is_taken source (at + 1) m ≡ true) → n ≤ q.size

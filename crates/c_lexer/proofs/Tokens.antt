@@ -1,14 +1,12 @@
 -- A piece that counts as a token has the form of its kind.
-use Rattle.std.proofs.Common.{◌≡◌, ℕ, ◌+◌, ◌-◌, ◌<◌, ◌≤◌, ◌⊎◌, inl, inr, Bool, true, false, if◌then◌else◌, Option, Some, None, List, [], ◌∷◌, ◌++◌, map, length, take, drop, codes, refl, sym, ap, subst, ◌∙◌, arith}
-use Rattle.std.specs.Prelude.{slice_index, slice_range, nat_eq}
-use Rattle.std.specs.List.{IsAmong}
+use Rattle.std.proofs.Common.{◌≡◌, ℕ, ◌<◌, ◌≤◌, ◌⊎◌, inl, inr, Bool, true, false, if◌then◌else◌, Option, Some, None, List, [], ◌∷◌, ◌++◌, map, length, drop, codes, refl, sym, ap, subst, ◌∙◌, arith}
+use Rattle.std.specs.Prelude.{slice_range}
 use Rattle.std.specs.Str.{bytes_eq}
-use Rattle.std.proofs.lemmas.Bool.{true≢false, eqb-false}
-use Rattle.std.proofs.lemmas.List.{get_or_past, drop-take, take-take, length-take-le}
+use Rattle.std.proofs.lemmas.Bool.{true≢false}
 use Rattle.std.proofs.lemmas.Slice.Eq.{bytes_eq-Decides}
 use Rattle.c_tree.specs.declared.token.TokenKind.{TokenKind}
 use Rattle.c_tree.specs.declared.token.TokenKind.TheVariants as tokens
-use Rattle.c_tree.specs.Bytes.{IsBlankByte, IsNameByte, Each, Spans, SpansOne}
+use Rattle.c_tree.specs.Bytes.{Spans, SpansOne}
 use Rattle.c_tree.specs.Words.{text, keywords, outside_words, reserved_words}
 use Rattle.c_tree.specs.Said.{IsToken}
 use Rattle.c_lexer.specs.declared.pieces.Form.{Form}
@@ -16,18 +14,12 @@ use Rattle.c_lexer.specs.declared.pieces.Form.TheVariants as forms
 use Rattle.c_lexer.specs.declared.pieces.Piece.{Piece}
 use Rattle.c_lexer.specs.declared.pieces.Kind.{Kind}
 use Rattle.c_lexer.specs.declared.pieces.Kind.TheVariants as kinds
-use Rattle.c_tree.specs.Pragmas.{IsPragma, first_word, pragma_text, from_bracket, from_string, behind_blanks, before_quote, from_quote, without_return, behind_hash, Begins}
-use Rattle.c_tree.specs.Pragmas.Within.{Blanks}
+use Rattle.c_tree.specs.Pragmas.{IsPragma, first_word, pragma_text, string_text, without_return, behind_hash}
 use Rattle.c_tree.specs.Pragmas as tree
-use Rattle.c_lexer.specs.Bytes.{IsOnLine}
-use Rattle.c_lexer.specs.Spacing.{IsGap}
-use Rattle.c_lexer.specs.Forms.{IsWord, IsOperator, IsPiece}
-use Rattle.c_lexer.specs.Kinds.{find_kind, spellings, is_one, signs, token_or, word_kind, sign_kind, pragma_kind, IsPragmaWord, IsKind}
+use Rattle.c_lexer.specs.Forms.{IsWord, IsPiece}
+use Rattle.c_lexer.specs.Kinds.{find_kind, spellings, is_one, signs, token_or, word_kind, sign_kind, pragma_kind, IsKind}
 use Rattle.c_lexer.specs.Cut.{StandsAt}
-use Rattle.c_lexer.proofs.Gaps.{spacers_grow}
-use Rattle.c_lexer.proofs.FirstBytes.{class, blank_class}
-use Rattle.c_lexer.proofs.PragmaLemmas.{rest_cons, rest_nil, gap_behind, quote_behind, text_before, begins_stands, drop_rest, rest_ends_word, rest_on_line}
-use Rattle.c_lexer.proofs.TextLemmas.{set_within, spans_text, text_spans, spans_one}
+use Rattle.c_lexer.proofs.TextLemmas.{spans_text, text_spans, spans_one}
 
 -- what is found among spellings is spelled so
 found_text : (list : List TokenKind) (bytes : List ℕ) (kind : TokenKind) → find_kind bytes (spellings list) ≡ Some kind → bytes ≡ text kind
@@ -120,113 +112,8 @@ pragma_token source at end bytes kind some within form e h = bound (bytes_eq (fi
     bound true t k = token tokens.LoopBound (codes "loopbound") t k (λ p. record { some = some; within = within; form = p })
     bound false t k = marker (bytes_eq (first_word bytes) (codes "marker")) refl k
 
-not_blank : (b n : ℕ) → b ≡ n → nat_eq (class n) 0 ≡ false → IsBlankByte b → ⊥
-not_blank b n e test h = eqb-false (class n) 0 test (sym (ap class e) ∙ blank_class b h)
-
--- the operator, part by part
-module _ (source : List ℕ) (at end : ℕ) (within : end ≤ length source) (o : IsOperator source at end) where
-  close_lt : o.close_at < end
-  close_lt = omega (arith, o.ends)
-
-  to_le : o.to ≤ o.close_at
-  to_le = spacers_grow o.before_close.ends source o.to o.close_at o.before_close.spacers
-
-  from_lt : o.from < end
-  from_lt = omega (arith, o.string.ends, to_le, close_lt)
-
-  open_lt : o.open_at < end
-  open_lt = omega (arith, from_lt, spacers_grow o.before_string.ends source (o.open_at + 1) o.from o.before_string.spacers)
-
-  bracket : from_bracket source at end ≡ slice_index source o.open_at ∷ slice_range source (o.open_at + 1) end
-  bracket = gap_behind source end within (at + 7) o.open_at o.before_open open_lt (not_blank _ 40 o.opens refl) (λ e. absurd (omega (arith, e, o.opens))) ∙ rest_cons source end within o.open_at open_lt
-
-  string : from_string source at end ≡ slice_index source o.from ∷ slice_range source (o.from + 1) end
-  string = ap (λ bytes. behind_blanks Blanks (drop 1 bytes)) bracket ∙ gap_behind source end within (o.open_at + 1) o.from o.before_string from_lt (not_blank _ 34 o.string.opens refl) (λ e. absurd (omega (arith, e, o.string.opens))) ∙ rest_cons source end within o.from from_lt
-
-  text_is : pragma_text source at end ≡ slice_range source (o.from + 1) (o.to - 1)
-  text_is = rw o.word.0 (ap (λ bytes. before_quote false (drop 1 bytes)) string ∙ text_before source o.from o.to end o.string (omega (arith, to_le, close_lt)) within)
-
-  last_place : o.from + 1 + o.string.size ≡ o.to - 1
-  last_place = omega (arith, o.string.ends)
-
-  next_place : o.to - 1 + 1 ≡ o.to
-  next_place = omega (arith, o.string.ends)
-
-  quoted : from_quote false (drop 1 (from_string source at end)) ≡ slice_index source (o.to - 1) ∷ slice_range source (o.to - 1 + 1) end
-  quoted = ap (λ bytes. from_quote false (drop 1 bytes)) string ∙ quote_behind source o.from o.to end o.string (omega (arith, to_le, close_lt)) within ∙ rest_cons source end within (o.to - 1) (omega (arith, to_le, close_lt, o.string.ends))
-
-  ending : behind_blanks Blanks (drop 1 (from_quote false (drop 1 (from_string source at end)))) ≡ codes ")"
-  ending =
-      ap (λ bytes. behind_blanks Blanks (drop 1 bytes)) quoted
-      ∙ ap (λ k. behind_blanks Blanks (slice_range source k end)) next_place
-      ∙ gap_behind source end within o.to o.close_at o.before_close close_lt (not_blank _ 41 o.closes refl) (λ e. absurd (omega (arith, e, o.closes)))
-      ∙ rest_cons source end within o.close_at close_lt
-      ∙ ap (λ b. b ∷ slice_range source (o.close_at + 1) end) o.closes
-      ∙ ap (λ bytes. 41 ∷ bytes) (ap (λ k. slice_range source k end) (sym o.ends) ∙ rest_nil source end within)
-
-  on_line : IsAmong (pragma_text source at end) 10 → ⊥
-  on_line among = rest_on_line source (o.to - 1) (omega (arith, to_le, close_lt, within)) (o.from + 1) line (subst (λ bytes. IsAmong bytes 10) text_is among)
-    where
-      line : Each IsOnLine source (o.from + 1) (o.to - 1)
-      line i after before =
-          let place : o.from + 1 + (i - (o.from + 1)) ≡ i = omega arith in
-          subst (λ k. IsOnLine (slice_index source k)) place (o.string.line (i - (o.from + 1)) (omega (arith, o.string.ends)))
-
-  operator_form : tree.IsOperator source at end
-  operator_form = record {
-    word = o.word;
-    opens = rw bracket (o.opens, tt);
-    string = rw string (o.string.opens, tt);
-    line = on_line;
-    closes = rw quoted (ap (slice_index source) (sym last_place) ∙ o.string.closes, tt);
-    ends = ending;
-  }
-
-  pub operator_token : (kind : TokenKind) → at < end → pragma_kind (slice_range source (o.from + 1) (o.to - 1)) ≡ kinds.Token kind → IsToken kind source at end
-  operator_token kind some h = pragma_token source at end (slice_range source (o.from + 1) (o.to - 1)) kind some within (inr operator_form) text_is h
-
 token_same : {kind other : TokenKind} → kinds.Token kind ≡ kinds.Token other → kind ≡ other
 token_same h = cc
-
--- the line of a pragma: what stands on it is the same in a source that ends with it
-module _ (source : List ℕ) (at end word : ℕ) (some : at < end) (within : end ≤ length source) (hash : slice_index source at ≡ 35) (on_line : Each IsOnLine source at end) (gap : IsGap (take end source) (at + 1) word) (pragma : IsPragmaWord (take end source) word) where
-  size : length (take end source) ≡ end
-  size = length-take-le end source within
-
-  inside : end ≤ length (take end source)
-  inside = omega (arith, size)
-
-  word_lt : word < end
-  word_lt = elim (below word) [ inl lt ↦ lt | inr le ↦ absurd (omega (arith, pragma.0.0, get_or_past (take end source) word 0 (omega (arith, size, le)))) ]
-    where
-      below : (n : ℕ) → (n < end) ⊎ (end ≤ n)
-      below n = grind arith
-
-  word_end : word + 6 ≤ end
-  word_end = omega (arith, size, set_within (codes "pragma") (take end source) word refl (omega (arith, size, word_lt)) pragma.0)
-
-  same_line : slice_range source (at + 1) end ≡ slice_range (take end source) (at + 1) end
-  same_line =
-      let place : at + 1 + (end - (at + 1)) ≡ end = omega arith in
-      let front : drop (at + 1) (take end source) ≡ take (end - (at + 1)) (drop (at + 1) source) = ap (λ n. drop (at + 1) (take n source)) (sym place) ∙ drop-take (at + 1) (end - (at + 1)) source in
-      sym (take-take (end - (at + 1)) (end - (at + 1)) (drop (at + 1) source) (omega arith)) ∙ ap (take (end - (at + 1))) (sym front)
-
-  behind : behind_hash source at end ≡ slice_range (take end source) word end
-  behind = ap (behind_blanks Blanks) same_line ∙ gap_behind (take end source) end inside (at + 1) word gap word_lt (not_blank _ 112 pragma.0.0 refl) (λ e. absurd (omega (arith, e, pragma.0.0)))
-
-  directive_form : tree.IsDirective source at end
-  directive_form = record {
-    hash = hash;
-    line = on_line;
-    word = subst (Begins (codes "pragma")) (sym behind) (begins_stands (take end source) end inside (codes "pragma") word pragma.0 word_end);
-    whole = subst (λ bytes. IsNameByte (slice_index bytes 6) → ⊥) (sym behind) (rest_ends_word (take end source) end inside 6 word word_end (λ lt. pragma.1 (omega (arith, size, lt))));
-  }
-
-  line_text : pragma_text source at end ≡ without_return (slice_range (take end source) (word + 6) end)
-  line_text = rw hash (ap without_return (ap (drop 6) behind ∙ drop_rest (take end source) end inside 6 word word_end))
-
-  pub directive_token : (kind : TokenKind) → pragma_kind (without_return (slice_range (take end source) (word + 6) (length (take end source)))) ≡ kinds.Token kind → IsToken kind source at end
-  directive_token kind h = pragma_token source at end (without_return (slice_range (take end source) (word + 6) (length (take end source)))) kind some within (inl directive_form) (line_text ∙ ap (λ n. without_return (slice_range (take end source) (word + 6) n)) (sym size)) h
 
 -- a piece that counts as a token is one
 pub stands_token : (piece : Piece) (fresh : Bool) (source : List ℕ) (at : ℕ) (kind : TokenKind) → StandsAt piece fresh source at → piece.kind ≡ kinds.Token kind → IsToken kind source at piece.end
@@ -235,14 +122,14 @@ stands_token piece fresh source at kind s e = by_form piece.form piece.kind e s.
     by_form : (form : Form) (other : Kind) → other ≡ kinds.Token kind → IsPiece form fresh source at piece.end → IsKind form other source at piece.end → IsToken kind source at piece.end
     by_form forms.Blank other same p k = absurd (let no : kinds.Blank ≡ kinds.Token kind = sym k ∙ same in cc)
     by_form forms.Comment other same p k = absurd (let no : kinds.Comment ≡ kinds.Token kind = sym k ∙ same in cc)
-    by_form forms.Directive other same p k = elim k.2 [
-      | inl h ↦ directive_token source at piece.end k.0 p.some p.within p.has.hash p.has.line k.1 h.0 kind (sym h.1 ∙ same)
+    by_form forms.Directive other same p k = elim k [
+      | inl h ↦ pragma_token source at piece.end (without_return (drop 6 (behind_hash source at piece.end))) kind p.some p.within (inl (record { hash = p.has.hash; line = p.has.line; word = h.0 })) (rw p.has.hash refl) (sym h.1 ∙ same)
       | inr h ↦ elim h [
         | inl j ↦ absurd (let no : kinds.Dropped ≡ kinds.Token kind = sym j.1 ∙ same in cc)
         | inr j ↦ absurd (let no : kinds.Outside ≡ kinds.Token kind = sym j.2 ∙ same in cc)
       ]
     ]
-    by_form forms.Operator other same p k = operator_token source at piece.end p.within k.0 kind p.some (sym k.1 ∙ same)
+    by_form forms.Operator other same p k = pragma_token source at piece.end (string_text source at) kind p.some p.within (inr p.has) (rw p.has.word.0 refl) (sym k ∙ same)
     by_form forms.Word other same p k = word_token source at piece.end p.some p.within kind p.has (sym k ∙ same)
     by_form forms.Number other same p k = elim k [
       | inl h ↦ (let is : tokens.Number ≡ kind = token_same (sym h.1 ∙ same) in subst (λ t. IsToken t source at piece.end) is (record { some = p.some; within = p.within; form = h.0 }))

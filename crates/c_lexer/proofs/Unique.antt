@@ -1,10 +1,10 @@
 -- A source has one cut.
-use Rattle.std.proofs.Common.{◌≡◌, ◌≢◌, ℕ, ◌+◌, ◌-◌, ◌≤◌, ◌⊎◌, inl, inr, Bool, true, false, ◌&&◌, not, nat_eq, List, [], ◌∷◌, length, take, refl, sym, ap, subst, ◌∙◌, arith}
-use Rattle.std.specs.Prelude.{slice_index, slice_range}
+use Rattle.std.proofs.Common.{◌≡◌, ◌≢◌, ℕ, ◌+◌, ◌≤◌, ◌⊎◌, inl, inr, Bool, true, false, ◌&&◌, not, nat_eq, List, [], ◌∷◌, length, refl, sym, ap, subst, ◌∙◌, arith}
+use Rattle.std.specs.Prelude.{slice_index}
 use Rattle.std.proofs.lemmas.Bool.{true≢false, eq-eqb}
-use Rattle.std.proofs.lemmas.List.{get_or_past}
 use Rattle.c_tree.specs.declared.token.Token.{Token}
 use Rattle.c_tree.specs.Bytes.{Spans}
+use Rattle.c_tree.specs.Pragmas.{IsPragmaWord, behind_hash}
 use Rattle.c_lexer.specs.declared.pieces.Form.{Form}
 use Rattle.c_lexer.specs.declared.pieces.Form.TheVariants as forms
 use Rattle.c_lexer.specs.declared.pieces.Kind.{Kind}
@@ -13,13 +13,13 @@ use Rattle.c_lexer.specs.declared.pieces.Piece.{Piece}
 use Rattle.c_lexer.specs.declared.LexFault.{LexFault}
 use Rattle.c_lexer.specs.declared.LexFault.TheVariants as faults
 use Rattle.c_lexer.specs.Forms.{IsPiece, IsLongest, punctuators}
-use Rattle.c_lexer.specs.Kinds.{IsKind, IsLineKind, IsMarker, IsPragmaWord, pragma_kind}
+use Rattle.c_lexer.specs.Kinds.{IsKind, IsLineKind, IsMarker}
 use Rattle.c_lexer.specs.Cut.{IsFresh, StandsAt, IsCut, fresh_after, tokens_of, HasTokens, StopsAt}
 use Rattle.c_lexer.proofs.TextLemmas.{picked}
-use Rattle.c_lexer.proofs.Gaps.{three, gap_same, comment_first}
+use Rattle.c_lexer.proofs.Comments.{three, comment_first}
 use Rattle.c_lexer.proofs.FirstBytes.{class, class_of, clash, digit_class, form_class, is_number}
-use Rattle.c_lexer.proofs.Operators.{operator_same}
-use Rattle.c_lexer.proofs.Longest.{runs_same, word_run, prefixed_run, prefixed_short, operator_piece_run, operator_after, point_alone, alone_point}
+use Rattle.c_lexer.proofs.Operators.{operator_after}
+use Rattle.c_lexer.proofs.Longest.{runs_same, word_run, prefixed_run, prefixed_short, operator_piece_run, point_alone, alone_point}
 
 -- no punctuator begins as a comment to the end of a line does
 abbrev not_slashes : List ℕ → Bool
@@ -95,29 +95,25 @@ same_longest form other fresh source at end further l m = (same_form fresh sourc
     same : end ≡ further
     same = elim (three end further) [ inl e ↦ e | inr h ↦ elim h [ inl lt ↦ absurd (l.longest other further lt m.piece) | inr lt ↦ absurd (m.longest form end lt l.piece) ] ]
 
-pragma_no_marker : (line : List ℕ) (word : ℕ) → IsPragmaWord line word → IsMarker line word → ⊥
-pragma_no_marker line word p (inl h) = absurd (omega (arith, p.0.0, get_or_past line word 0 (omega (arith, h))))
-pragma_no_marker line word p (inr (inl h)) = absurd (omega (arith, p.0.0, h))
-pragma_no_marker line word p (inr (inr h)) = absurd (omega (arith, p.0.0, h.0))
+pragma_no_marker : (line : List ℕ) → IsPragmaWord line → IsMarker line → ⊥
+pragma_no_marker line p (inl h) = absurd (omega (arith, p.0.0, ap (λ bytes. slice_index bytes 0) h))
+pragma_no_marker line p (inr (inl h)) = absurd (omega (arith, p.0.0, h))
+pragma_no_marker line p (inr (inr h)) = absurd (omega (arith, p.0.0, h.0))
 
-line_kind_same : (line : List ℕ) (word : ℕ) (kind other : Kind) → IsLineKind kind line word → IsLineKind other line word → kind ≡ other
-line_kind_same line word kind other (inl h) (inl k) = h.1 ∙ sym k.1
-line_kind_same line word kind other (inl h) (inr (inl k)) = absurd (pragma_no_marker line word h.0 k.0)
-line_kind_same line word kind other (inl h) (inr (inr k)) = absurd (k.0 h.0)
-line_kind_same line word kind other (inr (inl h)) (inl k) = absurd (pragma_no_marker line word k.0 h.0)
-line_kind_same line word kind other (inr (inl h)) (inr (inl k)) = h.1 ∙ sym k.1
-line_kind_same line word kind other (inr (inl h)) (inr (inr k)) = absurd (k.1 h.0)
-line_kind_same line word kind other (inr (inr h)) (inl k) = absurd (h.0 k.0)
-line_kind_same line word kind other (inr (inr h)) (inr (inl k)) = absurd (h.1 k.0)
-line_kind_same line word kind other (inr (inr h)) (inr (inr k)) = h.2 ∙ sym k.2
+line_kind_same : (line : List ℕ) (kind other : Kind) → IsLineKind kind line → IsLineKind other line → kind ≡ other
+line_kind_same line kind other (inl h) (inl k) = h.1 ∙ sym k.1
+line_kind_same line kind other (inl h) (inr (inl k)) = absurd (pragma_no_marker line h.0 k.0)
+line_kind_same line kind other (inl h) (inr (inr k)) = absurd (k.0 h.0)
+line_kind_same line kind other (inr (inl h)) (inl k) = absurd (pragma_no_marker line k.0 h.0)
+line_kind_same line kind other (inr (inl h)) (inr (inl k)) = h.1 ∙ sym k.1
+line_kind_same line kind other (inr (inl h)) (inr (inr k)) = absurd (k.1 h.0)
+line_kind_same line kind other (inr (inr h)) (inl k) = absurd (h.0 k.0)
+line_kind_same line kind other (inr (inr h)) (inr (inl k)) = absurd (h.1 k.0)
+line_kind_same line kind other (inr (inr h)) (inr (inr k)) = h.2 ∙ sym k.2
 
 pub same_kind : (form : Form) (kind other : Kind) (source : List ℕ) (at end : ℕ) → IsKind form kind source at end → IsKind form other source at end → kind ≡ other
-same_kind forms.Directive kind other source at end h k =
-    let same : h.0 ≡ k.0 = gap_same (take end source) (at + 1) h.0 k.0 h.1 k.1 in
-    line_kind_same (take end source) h.0 kind other h.2 (subst (λ n. IsLineKind other (take end source) n) (sym same) k.2)
-same_kind forms.Operator kind other source at end h k =
-    let same = operator_same source at end end h.0 k.0 in
-    h.1 ∙ ap (λ n. pragma_kind (slice_range source (n + 1) (h.0.to - 1))) same.from ∙ ap (λ n. pragma_kind (slice_range source (k.0.from + 1) (n - 1))) same.to ∙ sym k.1
+same_kind forms.Directive kind other source at end h k = line_kind_same (behind_hash source at end) kind other h k
+same_kind forms.Operator kind other source at end h k = h ∙ sym k
 same_kind forms.Number kind other source at end (inl h) (inl k) = h.1 ∙ sym k.1
 same_kind forms.Number kind other source at end (inl h) (inr k) = absurd (k.0 h.0)
 same_kind forms.Number kind other source at end (inr h) (inl k) = absurd (h.0 k.0)
@@ -138,10 +134,6 @@ same_fresh forms.Blank before after other source at end (inl h) (inl k) = h.1 �
 same_fresh forms.Blank before after other source at end (inl h) (inr k) = absurd (k.0 h.0)
 same_fresh forms.Blank before after other source at end (inr h) (inl k) = absurd (h.0 k.0)
 same_fresh forms.Blank before after other source at end (inr h) (inr k) = h.1 ∙ sym k.1
-same_fresh forms.Comment before after other source at end (inl h) (inl k) = h.1 ∙ sym k.1
-same_fresh forms.Comment before after other source at end (inl h) (inr k) = absurd (k.0 h.0)
-same_fresh forms.Comment before after other source at end (inr h) (inl k) = absurd (h.0 k.0)
-same_fresh forms.Comment before after other source at end (inr h) (inr k) = h.1 ∙ sym k.1
 same_fresh _ before after other source at end h k = h ∙ sym k
 
 -- one piece stands at a place

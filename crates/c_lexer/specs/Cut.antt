@@ -13,10 +13,10 @@ use Rattle.c_lexer.specs.Bytes.{IsOnLine}
 use Rattle.c_lexer.specs.Forms.{IsLongest, NoPiece}
 use Rattle.c_lexer.specs.Kinds.{IsKind}
 
--- a line begins within blanks that hold a line feed; a line that begins within a comment begins with what is left of the comment
+-- a line begins within blanks that hold a line feed; a comment is as one blank, and leaves this as it is
 abbrev pub IsFresh : Form → (before after : Bool) → List ℕ → (at end : ℕ) → Type 0
 IsFresh forms.Blank before after source at end = (Each IsOnLine source at end × (after ≡ before)) ⊎ ((Each IsOnLine source at end → ⊥) × (after ≡ true))
-IsFresh forms.Comment before after source at end = (Each IsOnLine source at end × (after ≡ before)) ⊎ ((Each IsOnLine source at end → ⊥) × (after ≡ false))
+IsFresh forms.Comment before after source at end = after ≡ before
 IsFresh form before after source at end = after ≡ false
 
 -- the longest piece at its place, of its kind

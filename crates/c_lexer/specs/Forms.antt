@@ -2,10 +2,11 @@
 use Rattle.std.specs.Prelude.{◌≡◌, ◌≢◌, ◌==◌, ◌&&◌, not, Bool, true, false, ℕ, zero, suc, ◌+◌, ◌-◌, ◌<◌, ◌≤◌, ◌⊎◌, List, [], ◌∷◌, length, take, codes, slice_index, Option, Some, None, if◌then◌else◌}
 use Rattle.std.specs.Str.{bytes_eq}
 use Rattle.c_tree.specs.Bytes.{IsDigit, IsLetter, IsNameByte, IsBlankByte, Each, Stands, Spans, SpansOne}
+use Rattle.c_tree.specs.Pragmas.{IsOperator}
 use Rattle.c_lexer.specs.declared.pieces.Form.{Form}
 use Rattle.c_lexer.specs.declared.pieces.Form.TheVariants as forms
 use Rattle.c_lexer.specs.Bytes.{IsSign, IsExponent, IsOnLine, EndsBefore}
-use Rattle.c_lexer.specs.Spacing.{IsComment, IsGap}
+use Rattle.c_lexer.specs.Comments.{IsComment}
 
 -- a whole word (C11 6.4.2.1), which isn't the pragma operator
 pub record IsWord (source : List ℕ) (at end : ℕ) : Type 0 where
@@ -80,21 +81,6 @@ pub record IsLine (fresh : Bool) (source : List ℕ) (at end : ℕ) : Type 0 whe
   pub hash : slice_index source at ≡ 35
   pub line : Each IsOnLine source at end
   pub whole : EndsBefore IsOnLine source end
-
--- a pragma operator with a string in brackets (C11 6.10.9), whose string goes from `from` up to `to`
-pub record IsOperator (source : List ℕ) (at end : ℕ) : Type 0 where
-  pub word : Stands source at (codes "_Pragma")
-  pub open_at : ℕ
-  pub before_open : IsGap source (at + 7) open_at
-  pub opens : slice_index source open_at ≡ 40
-  pub from : ℕ
-  pub before_string : IsGap source (open_at + 1) from
-  pub to : ℕ
-  pub string : IsQuoted 34 source from to
-  pub close_at : ℕ
-  pub before_close : IsGap source to close_at
-  pub closes : slice_index source close_at ≡ 41
-  pub ends : end ≡ close_at + 1
 
 -- the bytes of a piece have its form; `fresh` where nothing but blanks and comments stands before them on their line
 abbrev pub HasForm : Form → (fresh : Bool) → List ℕ → (at end : ℕ) → Type 0

@@ -1,19 +1,16 @@
 -- What a piece counts as: white space, a comment, a dropped line or pragma, a token, or a token outside the language (C11 6.4, 6.10.4, 6.10.6).
-use Rattle.std.specs.Prelude.{◌≡◌, ℕ, ◌+◌, ◌-◌, ◌⊎◌, Bool, true, false, if◌then◌else◌, Option, Some, None, List, [], ◌∷◌, map, length, take, codes, slice_index, slice_range}
+use Rattle.std.specs.Prelude.{◌≡◌, ℕ, ◌-◌, ◌⊎◌, Bool, true, false, if◌then◌else◌, Option, Some, None, List, [], ◌∷◌, map, drop, codes, slice_index, slice_range}
 use Rattle.std.specs.Str.{bytes_eq}
 use Rattle.c_tree.specs.declared.token.TokenKind.{TokenKind}
 use Rattle.c_tree.specs.declared.token.TokenKind.TheVariants as tokens
-use Rattle.c_tree.specs.Bytes.{IsDigit, IsNameByte, Stands}
+use Rattle.c_tree.specs.Bytes.{IsDigit, Stands}
 use Rattle.c_tree.specs.Words.{text, keywords, outside_words}
 use Rattle.c_tree.specs.Constants.{IsInteger, IsCharacter}
-use Rattle.c_tree.specs.Pragmas.{first_word, without_return}
+use Rattle.c_tree.specs.Pragmas.{behind_hash, first_word, string_text, without_return, IsPragmaWord}
 use Rattle.c_lexer.specs.declared.pieces.Form.{Form}
 use Rattle.c_lexer.specs.declared.pieces.Form.TheVariants as forms
 use Rattle.c_lexer.specs.declared.pieces.Kind.{Kind}
 use Rattle.c_lexer.specs.declared.pieces.Kind.TheVariants as kinds
-use Rattle.c_lexer.specs.Bytes.{EndsBefore}
-use Rattle.c_lexer.specs.Spacing.{IsGap}
-use Rattle.c_lexer.specs.Forms.{IsOperator}
 
 -- texts and the kinds that they spell
 abbrev pub Spellings : Type 0
@@ -63,27 +60,23 @@ pragma_kind bytes =
     else (if bytes_eq word (codes "marker") then kinds.Token tokens.Marker
     else (if bytes_eq word (codes "flowrestriction") then kinds.Token tokens.FlowRestriction else kinds.Dropped))
 
--- `pragma` stands there as a whole word
-abbrev pub IsPragmaWord : List ℕ → ℕ → Type 0
-IsPragmaWord line word = Stands line word (codes "pragma") × EndsBefore IsNameByte line (word + 6)
+-- an empty directive or a line marker: nothing stands behind its number sign and blanks, or a digit or `line`
+abbrev pub IsMarker : List ℕ → Type 0
+IsMarker line = (line ≡ []) ⊎ (IsDigit (slice_index line 0) ⊎ Stands line 0 (codes "line"))
 
--- an empty directive or a line marker: nothing, a digit or `line` stands there on the line
-abbrev pub IsMarker : List ℕ → ℕ → Type 0
-IsMarker line word = (word ≡ length line) ⊎ (IsDigit (slice_index line word) ⊎ Stands line word (codes "line"))
+-- what a directive is by the line behind its number sign and blanks
+abbrev pub IsLineKind : Kind → List ℕ → Type 0
+IsLineKind kind line =
+    (IsPragmaWord line × (kind ≡ pragma_kind (without_return (drop 6 line))))
+    ⊎ ((IsMarker line × (kind ≡ kinds.Dropped))
+    ⊎ ((IsPragmaWord line → ⊥) × (IsMarker line → ⊥) × (kind ≡ kinds.Outside)))
 
--- what a directive line is by what stands behind its number sign and blanks
-abbrev pub IsLineKind : Kind → List ℕ → (word : ℕ) → Type 0
-IsLineKind kind line word =
-    (IsPragmaWord line word × (kind ≡ pragma_kind (without_return (slice_range line (word + 6) (length line)))))
-    ⊎ ((IsMarker line word × (kind ≡ kinds.Dropped))
-    ⊎ ((IsPragmaWord line word → ⊥) × (IsMarker line word → ⊥) × (kind ≡ kinds.Outside)))
-
--- the kind of a piece of this form; a directive line is a source of its own, so that no comment behind its number sign passes its end
+-- the kind of a piece of this form
 abbrev pub IsKind : Form → Kind → List ℕ → (at end : ℕ) → Type 0
 IsKind forms.Blank kind source at end = kind ≡ kinds.Blank
 IsKind forms.Comment kind source at end = kind ≡ kinds.Comment
-IsKind forms.Directive kind source at end = (word : ℕ) × IsGap (take end source) (at + 1) word × IsLineKind kind (take end source) word
-IsKind forms.Operator kind source at end = (o : IsOperator source at end) × (kind ≡ pragma_kind (slice_range source (o.from + 1) (o.to - 1)))
+IsKind forms.Directive kind source at end = IsLineKind kind (behind_hash source at end)
+IsKind forms.Operator kind source at end = kind ≡ pragma_kind (string_text source at)
 IsKind forms.Word kind source at end = kind ≡ word_kind (slice_range source at end)
 IsKind forms.Number kind source at end = (IsInteger source at end × (kind ≡ kinds.Token tokens.Number)) ⊎ ((IsInteger source at end → ⊥) × (kind ≡ kinds.Outside))
 IsKind forms.Character kind source at end = (IsCharacter source at (end - 1) × (kind ≡ kinds.Token tokens.Character)) ⊎ ((IsCharacter source at (end - 1) → ⊥) × (kind ≡ kinds.Outside))

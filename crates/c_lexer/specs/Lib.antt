@@ -1,5 +1,5 @@
 pub mod Bytes
-pub mod Spacing
+pub mod Comments
 pub mod Forms
 pub mod Kinds
 pub mod Cut

@@ -1,20 +1,21 @@
 // The longest piece at a place, form by form.
 ghost use Rattle.std.specs.Prelude.{◌≡◌, ◌≢◌, ◌↔◌, IsTrue, ◌<◌, ◌≤◌, ◌+◌, ◌-◌, ◌⊎◌, ℕ, true, IfSome, IfNone, length, slice_index, codes};
 ghost use Rattle.c_tree.specs.Bytes.{IsBlankByte, IsDigit, IsLetter, IsNameByte, Spans, SpansOne, Stands};
+ghost use Rattle.c_tree.specs.Pragmas.{IsPragmaWord};
 ghost use Rattle.c_lexer.specs.Bytes.{EndsBefore};
-ghost use Rattle.c_lexer.specs.Spacing.{IsComment};
-ghost use Rattle.c_lexer.specs.Forms.{first_size, BeginsNumber, IsOperator, IsPrefixed, IsQuoted, NoPiece, prefixes, punctuators};
-ghost use Rattle.c_lexer.specs.Kinds.{IsKind, IsLineKind, IsMarker, IsPragmaWord};
+ghost use Rattle.c_lexer.specs.Comments.{IsComment};
+ghost use Rattle.c_lexer.specs.Forms.{first_size, BeginsNumber, IsPrefixed, NoPiece, prefixes, punctuators};
+ghost use Rattle.c_lexer.specs.Kinds.{IsKind, IsLineKind, IsMarker};
 ghost use Rattle.c_lexer.specs.Cut.{IsFresh, StandsAt};
 
 use crate::bytes::{is_blank, is_digit, is_letter, is_name_byte};
 use crate::pieces::{Form, Kind, Piece};
-use crate::pragmas::{pragma_kind, without_return};
-use crate::scan::{blanks_end, line_end, number_end, quoted_end, word_end};
-use crate::spacing::{comment_end, gap_end};
+use crate::pragmas::pragma_kind;
+use crate::scan::{blanks_end, comment_end, line_end, number_end, quoted_end, word_end};
 use crate::texts::{first_size, has, is_on_line, is_one, is_span, stands};
-use crate::words::{PREFIXES, PUNCTUATORS, sign_kind, word_kind};
+use crate::words::{PREFIXES, PUNCTUATORS, lone_sign, sign_kind, word_kind};
 use c_constant::{is_character, is_integer};
+use c_pragma::{behind_blanks, directive_text, read_operator};
 use c_tree::token::TokenKind;
 
 /// Whether a line begins behind blanks.
@@ -23,14 +24,6 @@ fn fresh_behind_blanks(source: &[u8], at: usize, end: usize, fresh: bool) -> boo
     ensures { IsFresh Form.Blank fresh result source.now at end }
 {
     !is_on_line(source, at, end) || fresh
-}
-
-/// Whether a line begins behind a comment.
-fn fresh_behind_comment(source: &[u8], at: usize, end: usize, fresh: bool) -> bool
-    requires { end ≤ length source.now }
-    ensures { IsFresh Form.Comment fresh result source.now at end }
-{
-    is_on_line(source, at, end) && fresh
 }
 
 /// The blanks that stand there.
@@ -57,7 +50,7 @@ fn comment(source: &[u8], at: usize, end: usize, fresh: bool) -> Piece
         form: Form::Comment,
         kind: Kind::Comment,
         end,
-        fresh: fresh_behind_comment(source, at, end, fresh),
+        fresh,
     }
 }
 
@@ -142,35 +135,32 @@ fn number(source: &[u8], at: usize, fresh: bool) -> Piece
 }
 
 fn ends_word(line: &[u8], end: usize) -> bool
-    ensures { IsTrue result ↔ EndsBefore IsNameByte line.now end }
+    ensures { IsTrue result ↔ (IsNameByte (slice_index line.now end) → ⊥) }
 {
     end >= line.len() || !is_name_byte(line[end])
 }
 
-/// Whether `pragma` stands there as a whole word.
-fn is_pragma_word(line: &[u8], word: usize) -> bool
-    requires { word ≤ length line.now }
-    ensures { IsTrue result ↔ IsPragmaWord line.now word }
+/// Whether the line goes on with `pragma` as a whole word.
+fn is_pragma_word(line: &[u8]) -> bool
+    ensures { IsTrue result ↔ IsPragmaWord line.now }
 {
-    stands(line, word, b"pragma") && ends_word(line, word + 6)
+    stands(line, 0, b"pragma") && ends_word(line, 6)
 }
 
-/// Whether an empty directive or a line marker stands behind a number sign.
-fn is_marker(line: &[u8], word: usize) -> bool
-    requires { word ≤ length line.now }
-    ensures { IsTrue result ↔ IsMarker line.now word }
+/// Whether an empty directive or a line marker goes on so.
+fn is_marker(line: &[u8]) -> bool
+    ensures { IsTrue result ↔ IsMarker line.now }
 {
-    word == line.len() || is_digit(line[word]) || stands(line, word, b"line")
+    line.is_empty() || is_digit(line[0]) || stands(line, 0, b"line")
 }
 
-/// What a directive line is by the word behind its number sign.
-fn line_kind(line: &[u8], word: usize) -> Kind
-    requires { word ≤ length line.now }
-    ensures { IsLineKind result line.now word }
+/// What a directive is by the line behind its number sign and blanks.
+fn line_kind(line: &[u8]) -> Kind
+    ensures { IsLineKind result line.now }
 {
-    if is_pragma_word(line, word) {
-        pragma_kind(without_return(&line[word + 6..]))
-    } else if is_marker(line, word) {
+    if is_pragma_word(line) {
+        pragma_kind(directive_text(line))
+    } else if is_marker(line) {
         Kind::Dropped
     } else {
         Kind::Outside
@@ -183,12 +173,10 @@ fn directive(source: &[u8], at: usize) -> Piece
     requires first { slice_index source.now at ≡ 35 }
     ensures { StandsAt result true source.now at }
 {
-    let end = line_end(source, at);
-    let line = &source[..end];
-    let word = gap_end(line, at + 1);
+    let end = line_end(source, at + 1);
     Piece {
         form: Form::Directive,
-        kind: line_kind(line, word),
+        kind: line_kind(behind_blanks(&source[at + 1..end])),
         end,
         fresh: false,
     }
@@ -202,25 +190,13 @@ fn operator(source: &[u8], at: usize, fresh: bool) -> Option<Piece>
     ensures found { IfSome result (λ piece. StandsAt piece fresh source.now at) }
     ensures none { IfNone result (NoPiece fresh source.now at) }
 {
-    let open_at = gap_end(source, at + 7);
-    if !has(source, open_at, b'(') {
-        return None;
-    }
-    let from = gap_end(source, open_at + 1);
-    if !has(source, from, b'"') {
-        return None;
-    }
-    let Some(to) = quoted_end(source, from, b'"') else {
+    let Some(found) = read_operator(source, at) else {
         return None;
     };
-    let close_at = gap_end(source, to);
-    if !has(source, close_at, b')') {
-        return None;
-    }
     Some(Piece {
         form: Form::Operator,
-        kind: pragma_kind(&source[from + 1..to - 1]),
-        end: close_at + 1,
+        kind: pragma_kind(found.text),
+        end: found.end,
         fresh: false,
     })
 }
@@ -270,9 +246,13 @@ fn word(source: &[u8], at: usize, fresh: bool) -> Option<Piece>
     })
 }
 
+/// The size of the longest punctuator with which the bytes begin.
 fn punctuator_size(rest: &[u8]) -> Option<usize>
     ensures { result ≡ first_size rest.now punctuators }
 {
+    if !rest.is_empty() && lone_sign(rest[0]).is_some() {
+        return Some(1);
+    }
     first_size(rest, &PUNCTUATORS)
 }
 

@@ -24,7 +24,6 @@ mod cut;
 pub mod pieces;
 mod pragmas;
 mod scan;
-mod spacing;
 mod texts;
 mod words;
 

@@ -2,7 +2,7 @@
 ghost use Rattle.std.specs.Prelude.{◌≡◌, ◌≢◌, ◌↔◌, ◌<◌, ◌≤◌, ◌+◌, ℕ, IsTrue, length, slice_index, IfSome, IfNone};
 ghost use Rattle.c_tree.specs.Bytes.{Each, IsBlankByte, IsNameByte};
 ghost use Rattle.c_lexer.specs.Bytes.{EndsBefore, IsOnLine};
-ghost use Rattle.c_lexer.specs.Spacing.{EndsComment};
+ghost use Rattle.c_lexer.specs.Comments.{EndsComment, IsComment};
 ghost use Rattle.c_lexer.specs.Forms.{GoesOn, IsQuoted};
 
 use crate::bytes::{is_blank, is_exponent, is_name_byte, is_sign};
@@ -69,6 +69,26 @@ pub fn comment_last(source: &[u8], from: usize) -> Option<usize>
         }
     }
     None
+}
+
+/// Where the comment ends that begins there, if one does.
+#[tactic(auto, using(crate::proofs::Comments::line_comment))]
+pub fn comment_end(source: &[u8], at: usize) -> Option<usize>
+    requires { at < length source.now }
+    ensures found { IfSome result (λ end. IsComment source.now at end) }
+    ensures none { IfNone result ((end : ℕ) → IsComment source.now at end → ⊥) }
+{
+    if source[at] != b'/' || at + 1 >= source.len() {
+        return None;
+    }
+    match source[at + 1] {
+        b'/' => Some(line_end(source, at)),
+        b'*' => {
+            let last = comment_last(source, at + 2)?;
+            Some(last + 2)
+        }
+        _ => None,
+    }
 }
 
 fn goes_on(source: &[u8], i: usize) -> bool

@@ -158,7 +158,7 @@ const SINGLE: [(&[u8], TokenKind); 139] = [
 ];
 
 /// Sources and the kinds and spans of their tokens.
-const SEQUENCES: [(&[u8], &[(TokenKind, u32, u32)]); 68] = [
+const SEQUENCES: [(&[u8], &[(TokenKind, u32, u32)]); 70] = [
     (b"", &[]),
     (b" \t\n\x0b\x0c\r", &[]),
     (b"// c", &[]),
@@ -175,6 +175,8 @@ const SEQUENCES: [(&[u8], &[(TokenKind, u32, u32)]); 68] = [
     (b"# /* c */ 3", &[]),
     (b"# // c", &[]),
     (b"/* c */ # 1", &[]),
+    (b"/*\n*/#1", &[]),
+    (b"/*\n*/ #", &[]),
     (b"#pragma", &[]),
     (b"#pragma GCC optimize (\"O2\")", &[]),
     (b"#pragma marker; x", &[]),
@@ -587,7 +589,7 @@ const OUTSIDE: [(&[u8], u32); 97] = [
     (b"# \"f\"", 0),
     (b"x #", 2),
     (b"x##y", 1),
-    (b"/*\n*/ #", 6),
+    (b"x/*\n*/#1", 6),
     (b"_Pragma(\"x\")#", 12),
     (b"int main(void){return 2147483648;}", 22),
     (b"int main(void){goto a;}", 15),

@@ -1,5 +1,6 @@
 // Keywords and punctuators (C11 6.4.1, 6.4.6).
-ghost use Rattle.std.specs.Prelude.{◌≡◌};
+ghost use Rattle.std.specs.Prelude.{◌≡◌, ℕ, List, [], ◌∷◌, Some, IfSome};
+ghost use Rattle.c_lexer.specs.Forms.{first_size, punctuators};
 ghost use Rattle.c_lexer.specs.Kinds.{sign_kind, word_kind};
 
 use crate::pieces::Kind;
@@ -129,10 +130,35 @@ pub fn word_kind(bytes: &[u8]) -> Kind
     Kind::Token(TokenKind::Name)
 }
 
+/// What a punctuator of one byte is with which no longer one begins.
+pub fn lone_sign(b: u8) -> Option<TokenKind>
+    ensures size { IfSome result (λ kind. (rest : List ℕ) → first_size (b ∷ rest) punctuators ≡ Some 1) }
+    ensures kind { IfSome result (λ kind. sign_kind (b ∷ []) ≡ Kind.Token kind) }
+{
+    match b {
+        b'[' => Some(TokenKind::LeftBracket),
+        b']' => Some(TokenKind::RightBracket),
+        b'(' => Some(TokenKind::LeftParen),
+        b')' => Some(TokenKind::RightParen),
+        b'{' => Some(TokenKind::LeftBrace),
+        b'}' => Some(TokenKind::RightBrace),
+        b'~' => Some(TokenKind::Tilde),
+        b'?' => Some(TokenKind::Question),
+        b';' => Some(TokenKind::Semicolon),
+        b',' => Some(TokenKind::Comma),
+        _ => None,
+    }
+}
+
 /// What a punctuator is.
 pub fn sign_kind(bytes: &[u8]) -> Kind
     ensures { result ≡ sign_kind bytes.now }
 {
+    if bytes.len() == 1 {
+        if let Some(kind) = lone_sign(bytes[0]) {
+            return Kind::Token(kind);
+        }
+    }
     match find_kind(bytes, &SIGNS) {
         Some(kind) => Kind::Token(kind),
         None => Kind::Outside,

@@ -11,9 +11,9 @@ fn limit_of(purpose: &Purpose) -> u8
 {
     match purpose {
         Purpose::Sizes(_) => 13,
-        Purpose::Labels(_, _, _) => 13,
-        Purpose::Initialises(_, _, _, _) => 14,
-        Purpose::Lists(_, _, _, _, _) => 14,
+        Purpose::Labels { .. } => 13,
+        Purpose::Initialises(_) => 14,
+        Purpose::Lists(_, _) => 14,
         _ => 15,
     }
 }
@@ -24,12 +24,12 @@ pub fn demand_of(under: &Stack) -> u8
 {
     match under {
         Stack::Base(purpose) => limit_of(purpose),
-        Stack::AfterPrefix(_, _, _) => 2,
-        Stack::AfterCast(_, _, _) => 2,
-        Stack::AfterJoin(operator, _, _) => operator_level(*operator) - 1,
-        Stack::AfterColon(_, _, _) => 13,
-        Stack::AfterAssign(_, _, _) => 14,
-        Stack::InCall(_, _, _, _) => 14,
+        Stack::AfterPrefix { .. } => 2,
+        Stack::AfterCast { .. } => 2,
+        Stack::AfterJoin { operator, .. } => operator_level(*operator) - 1,
+        Stack::AfterColon { .. } => 13,
+        Stack::AfterAssign { .. } => 14,
+        Stack::InCall(_, _, _) => 14,
         _ => 15,
     }
 }

@@ -18,16 +18,16 @@ pub enum Role {
     Assigns(AssignOperator),
     Steps(PostfixOperator),
     Asks,
-    Parts,
+    Separates,
     OpensParen,
     ClosesParen,
     OpensBracket,
     ClosesBracket,
-    Other,
+    Other(TokenKind),
 }
 
 pub fn role_of(kind: TokenKind) -> Role
-    ensures { role_view result kind ≡ role (Plain kind) }
+    ensures { role_view result ≡ role (Plain kind) }
 {
     match kind {
         TokenKind::Star => Role::Joins(BinaryOperator::Multiply),
@@ -63,12 +63,12 @@ pub fn role_of(kind: TokenKind) -> Role
         TokenKind::PlusPlus => Role::Steps(PostfixOperator::Increment),
         TokenKind::MinusMinus => Role::Steps(PostfixOperator::Decrement),
         TokenKind::Question => Role::Asks,
-        TokenKind::Colon => Role::Parts,
+        TokenKind::Colon => Role::Separates,
         TokenKind::LeftParen => Role::OpensParen,
         TokenKind::RightParen => Role::ClosesParen,
         TokenKind::LeftBracket => Role::OpensBracket,
         TokenKind::RightBracket => Role::ClosesBracket,
-        _ => Role::Other,
+        _ => Role::Other(kind),
     }
 }
 
@@ -112,8 +112,8 @@ pub fn tree_level(tree: &Expr) -> u8
 }
 
 /// The level at which a token goes on with an operand.
-pub fn reach_of(role: Role, kind: TokenKind) -> u8
-    ensures { result ≡ reach (role_view role kind) }
+pub fn reach_of(role: Role) -> u8
+    ensures { result ≡ reach (role_view role) }
 {
     match role {
         Role::Joins(operator) => operator_level(operator),

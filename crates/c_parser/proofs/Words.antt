@@ -6,8 +6,8 @@ use Rattle.c_begun.specs.View.{Names, state_of}
 use Rattle.c_grammar.specs.Begun.{State}
 use Rattle.c_grammar.specs.Law.{run}
 use Rattle.c_grammar.specs.Machine.{Goes, step}
-use Rattle.c_words.specs.declared.word.Word.{Word}
-use Rattle.c_words.specs.Words.{word_said}
+use Rattle.c_lexeme.specs.declared.lexeme.Word.{Word}
+use Rattle.c_lexeme.specs.Lexemes.{word_said}
 use Rattle.c_parser.proofs.Reading.{run_push, stopped}
 use Rattle.c_parser.specs.declared.fault.ParseFault.{ParseFault}
 use Rattle.c_parser.specs.Refused.{Halts, Stops}

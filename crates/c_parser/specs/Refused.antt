@@ -1,13 +1,9 @@
 -- What the parser promises of its answer (C11 6.4 to 6.9).
 use Rattle.std.specs.Prelude.{◌≡◌, ℕ, ◌+◌, ◌<◌, ◌≤◌, List, length, take}
-use Rattle.c_tree.specs.declared.external.External.{External}
-use Rattle.c_tree.specs.Said.{TokenList}
 use Rattle.c_tree.specs.Formed.{IsFormedUnit}
-use Rattle.c_tree.specs.Named.{name_of, named_unit}
 use Rattle.c_tree.specs.Size.{size_unit}
-use Rattle.c_tree.specs.Spelling.{Spoken, Agree, IsSpelling, spell_unit}
+use Rattle.c_tree.specs.Spelling.{Spoken, Agree, spell_unit}
 use Rattle.c_tree.specs.Tree.{Nothing, TranslationUnit}
-use Rattle.c_tree.specs.View.{unit_of}
 use Rattle.c_grammar.specs.Begun.{Bytes, State, File}
 use Rattle.c_grammar.specs.Machine.{Moved, Goes, Stuck}
 use Rattle.c_grammar.specs.Depth.{deep}
@@ -15,13 +11,9 @@ use Rattle.c_grammar.specs.Law.{BeginsWith, run}
 use Rattle.c_parser.specs.declared.fault.ParseFault.{ParseFault}
 use Rattle.c_parser.specs.declared.fault.ParseFault.TheVariants.{Syntax, Deep, Memory}
 
--- the tokens are the spelling of these items with these names
-abbrev pub IsParsed : List External → List Bytes → ℕ → TokenList → Type 0
-IsParsed items names at tokens = IsSpelling (named_unit (name_of names) (unit_of items at)) tokens
-
--- a well-formed unit that the tokens are the spelling of
-abbrev pub IsSpelledBy : TranslationUnit Bytes → List Spoken → Type 0
-IsSpelledBy unit tokens = IsFormedUnit unit × Agree (spell_unit unit) tokens
+-- a well-formed tree, and these tokens are its spelling
+abbrev pub IsTreeOf : TranslationUnit Bytes → List Spoken → Type 0
+IsTreeOf unit tokens = IsFormedUnit unit × Agree (spell_unit unit) tokens
 
 -- some well-formed unit's spelling begins with these tokens
 abbrev pub SomeBegins : List Spoken → Type 0
@@ -33,7 +25,7 @@ NoneBegins front = (unit : TranslationUnit Bytes) → BeginsWith unit front → 
 -- no unit is spelled so, all before the place begins some spelling, and with the token at it nothing does;
 -- or what the tokens begin is too deep
 abbrev pub IsRefused : ParseFault → List Spoken → Type 0
-IsRefused (Syntax token) tokens = (token ≤ length tokens) × ((unit : TranslationUnit Bytes) → IsSpelledBy unit tokens → ⊥) × SomeBegins (take token tokens) × (token < length tokens → NoneBegins (take (token + 1) tokens))
+IsRefused (Syntax token) tokens = (token ≤ length tokens) × ((unit : TranslationUnit Bytes) → IsTreeOf unit tokens → ⊥) × SomeBegins (take token tokens) × (token < length tokens → NoneBegins (take (token + 1) tokens))
 IsRefused (Deep token) tokens = (token < length tokens) × SomeBegins (take (token + 1) tokens) × ((unit : TranslationUnit Bytes) → BeginsWith unit (take (token + 1) tokens) → 256 < (size_unit unit).depth)
 IsRefused Memory tokens = Unit {0}
 

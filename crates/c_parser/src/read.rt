@@ -1,10 +1,10 @@
 ghost use Rattle.std.specs.Prelude.{◌≡◌, ◌<◌, ◌≤◌, ◌^◌, length, map, IfErr, IfOk};
+ghost use Rattle.c_begun.specs.Depths.{state_depth};
 ghost use Rattle.c_begun.specs.View.{Names, state_of};
-ghost use Rattle.c_grammar.specs.Depth.{deep};
 ghost use Rattle.c_grammar.specs.Law.{run};
 ghost use Rattle.c_grammar.specs.Machine.{Goes, step};
 ghost use Rattle.c_parser.specs.Refused.{Halts, Stops};
-ghost use Rattle.c_words.specs.Words.{word_said};
+ghost use Rattle.c_lexeme.specs.Lexemes.{word_said};
 
 use super::fault::ParseFault;
 use super::step::step;
@@ -12,13 +12,14 @@ use c_begun::begun::State;
 use c_begun::list::no_externals;
 use c_begun::refusal::Refusal;
 use c_depth::is_shallow;
-use c_words::Word;
+use c_lexeme::Word;
 use std::alloc::Global;
 
 /// The state behind one word more.
 fn advance(alloc: Global, state: State, word: Word, token: u32) -> Result<State, ParseFault>
-    requires { (f : Names) → deep (state_of f state) ≤ 256 }
-    ensures ok { (f : Names) → IfOk result (λ next. (step (state_of f state) (word_said f word) ≡ Goes (state_of f next)) × (deep (state_of f next) ≤ 256)) }
+    requires { state_depth state ≤ 256 }
+    ensures ok { (f : Names) → IfOk result (λ next. step (state_of f state) (word_said f word) ≡ Goes (state_of f next)) }
+    ensures shallow { IfOk result (λ next. state_depth next ≤ 256) }
     ensures err { (f : Names) → IfErr result (λ fault. Halts fault token (step (state_of f state) (word_said f word))) }
 {
     match step(alloc, state, word) {
@@ -26,19 +27,20 @@ fn advance(alloc: Global, state: State, word: Word, token: u32) -> Result<State,
             if is_shallow(&next) {
                 Ok(next)
             } else {
+                drop(next);
                 Err(ParseFault::Deep { token })
             }
         }
         Err(Refusal::Memory) => Err(ParseFault::Memory),
         Err(Refusal::Syntax) => Err(ParseFault::Syntax { token }),
-        Err(Refusal::Deep) => Err(ParseFault::Deep { token }),
     }
 }
 
 /// The state behind these words.
 pub fn read(alloc: Global, words: Vec<Word>) -> Result<State, ParseFault>
     requires { length words.items < 2 ^ 32 }
-    ensures ok { (f : Names) → IfOk result (λ state. (run (map (word_said f) words.items) ≡ Goes (state_of f state)) × (deep (state_of f state) ≤ 256)) }
+    ensures ok { (f : Names) → IfOk result (λ state. run (map (word_said f) words.items) ≡ Goes (state_of f state)) }
+    ensures shallow { IfOk result (λ state. state_depth state ≤ 256) }
     ensures err { (f : Names) → IfErr result (λ fault. Stops fault (map (word_said f) words.items)) }
 {
     let mut state = State::File(no_externals(alloc));

@@ -1,7 +1,8 @@
+ghost use Rattle.std.specs.Prelude.{◌≤◌};
+ghost use Rattle.c_begun.specs.Depths.{state_depth};
 ghost use Rattle.c_begun.specs.View.{Gives, Names, state_of};
-ghost use Rattle.c_grammar.specs.Depth.{deep};
 ghost use Rattle.c_grammar.specs.Machine.{step};
-ghost use Rattle.c_words.specs.Words.{word_said};
+ghost use Rattle.c_lexeme.specs.Lexemes.{word_said};
 
 use c_begun::begun::State;
 use c_begun::refusal::Refusal;
@@ -12,6 +13,7 @@ use c_declaration::object::{
 use c_declaration::parameter::{begin_param, begin_params, end_params, go_on_param};
 use c_declaration::specifiers::{begin_further, go_on_specified};
 use c_ending::behind::{begin_arguments, begin_bracket, behind_operand, go_on_type};
+use c_lexeme::Word;
 use c_operand::operand::begin_operand;
 use c_statement::begins::{begin_any_statement, begin_bounded_loop};
 use c_statement::heads::{
@@ -20,65 +22,60 @@ use c_statement::heads::{
 };
 use c_statement::items::{end_default, go_on_among, go_on_at_file_level, open_choice};
 use c_statement::settle::settle_statement;
-use c_words::Word;
 use std::alloc::Global;
 
 /// One step of the machine: what a token does there.
-#[tactic(auto, using(c_begun::proofs::Passing::gives_any))]
 pub fn step(alloc: Global, state: State, word: Word) -> Result<State, Refusal>
-    ensures { (f : Names) → Gives f result (step (state_of f state) (word_said f word)) (deep (state_of f state)) }
+    requires { state_depth state ≤ 256 }
+    ensures { (f : Names) → Gives f result (step (state_of f state) (word_said f word)) }
 {
-    let Word { lexeme, at: here } = word;
     match state {
-        State::Wants(under) => begin_operand(alloc, lexeme, here, under),
-        State::Has(tree, under) => behind_operand(alloc, lexeme, tree, under),
-        State::Opened(at, under) => begin_bracket(alloc, lexeme, here, at, under),
-        State::Typed(specifiers, at, under) => go_on_type(alloc, lexeme, specifiers, at, under),
-        State::Called(function, at, under) => {
-            begin_arguments(alloc, lexeme, here, function, at, under)
-        }
-        State::File(front) => go_on_at_file_level(alloc, lexeme, here, front),
-        State::Among(front, braces) => go_on_among(alloc, lexeme, here, front, braces),
-        State::Begins(under) => begin_any_statement(alloc, lexeme, here, under),
+        State::Wants(under) => begin_operand(alloc, word, under),
+        State::Has(tree, under) => behind_operand(alloc, word.lexeme, tree, under),
+        State::Opened { at, under } => begin_bracket(alloc, word, at, under),
+        State::Typed {
+            specifiers,
+            at,
+            under,
+        } => go_on_type(alloc, word.lexeme, specifiers, at, under),
+        State::Called(function, under) => begin_arguments(alloc, word, function, under),
+        State::File(front) => go_on_at_file_level(alloc, word, front),
+        State::Among(front, braces) => go_on_among(alloc, word, front, braces),
+        State::Begins(under) => begin_any_statement(alloc, word, under),
         State::Stands(statement, under) => {
-            settle_statement(alloc, Box::into_inner(under), lexeme, here, statement)
+            settle_statement(alloc, Box::into_inner(under), word, statement)
         }
-        State::Closes(statement, under) => close_statement(lexeme, statement, under),
-        State::Bounded(bound, under) => begin_bounded_loop(alloc, lexeme, here, bound, under),
-        State::Opens(test) => open_test(lexeme, test),
-        State::Chooses(test, at, under) => open_choice(alloc, lexeme, test, at, under),
-        State::Answers(at, under) => begin_answer(alloc, lexeme, here, at, under),
-        State::Defaults(front, braces, at) => end_default(lexeme, front, braces, at),
-        State::Loops(bound, at, under) => open_for(lexeme, bound, at, under),
-        State::LoopStarts(bound, at, under) => {
-            begin_loop_start(alloc, lexeme, here, bound, at, under)
-        }
-        State::LoopTests(bound, start, at, under) => {
-            begin_loop_test(alloc, lexeme, here, bound, start, at, under)
-        }
-        State::LoopSteps(bound, start, test, at, under) => {
-            begin_loop_step(alloc, lexeme, here, bound, start, test, at, under)
-        }
-        State::Specified(specifiers, at, scope) => {
-            go_on_specified(lexeme, here, specifiers, at, scope)
-        }
-        State::Named(proto) => go_on_named(alloc, lexeme, proto),
-        State::Further(head) => begin_further(lexeme, here, head),
-        State::Declares(declarator) => go_on_declared(lexeme, declarator),
-        State::Sizing(declarator) => begin_size(alloc, lexeme, here, declarator),
-        State::Shaped(declarator, shape) => go_on_shaped(lexeme, declarator, shape),
-        State::Initial(head, name, shape, at) => {
-            begin_initial(alloc, lexeme, here, head, name, shape, at)
-        }
-        State::Listed(head, name, shape, front, at) => {
-            go_on_listed(alloc, lexeme, here, head, name, shape, front, at)
-        }
-        State::Ended(head, object) => end_object_by(lexeme, head, object),
-        State::ParamsOpen(proto) => begin_params(alloc, lexeme, here, proto),
-        State::ParamNext(proto, front) => begin_param(alloc, lexeme, here, proto, front),
-        State::ParamSpecified(proto, front, specifiers, at) => {
-            go_on_param(lexeme, proto, front, specifiers, at)
-        }
-        State::ParamsDone(proto, params) => end_params(alloc, lexeme, here, proto, params),
+        State::Closes(statement, under) => close_statement(word.lexeme, statement, under),
+        State::Bounded(bound, under) => begin_bounded_loop(alloc, word, bound, under),
+        State::Opens(test) => open_test(word.lexeme, test),
+        State::Chooses { test, at, under } => open_choice(alloc, word.lexeme, test, at, under),
+        State::Answers { at, under } => begin_answer(alloc, word, at, under),
+        State::Defaults { front, braces, at } => end_default(word.lexeme, front, braces, at),
+        State::Loops(head, under) => open_for(word.lexeme, head, under),
+        State::LoopStarts(head, under) => begin_loop_start(alloc, word, head, under),
+        State::LoopTests(head, under) => begin_loop_test(alloc, word, head, under),
+        State::LoopSteps(head, under) => begin_loop_step(alloc, word, head, under),
+        State::Specified {
+            specifiers,
+            at,
+            scope,
+        } => go_on_specified(word, specifiers, at, scope),
+        State::Named(proto) => go_on_named(alloc, word.lexeme, proto),
+        State::Further(head) => begin_further(word, head),
+        State::Declares(declarator) => go_on_declared(word.lexeme, declarator),
+        State::Sizing(declarator) => begin_size(alloc, word, declarator),
+        State::Shaped(declarator, shape) => go_on_shaped(word.lexeme, declarator, shape),
+        State::Initial(object) => begin_initial(alloc, word, object),
+        State::Listed(object, front) => go_on_listed(alloc, word, object, front),
+        State::Ended(head, object) => end_object_by(word.lexeme, head, object),
+        State::ParamsOpen(proto) => begin_params(alloc, word, proto),
+        State::ParamNext(proto, front) => begin_param(alloc, word, proto, front),
+        State::ParamSpecified {
+            proto,
+            front,
+            specifiers,
+            at,
+        } => go_on_param(word.lexeme, proto, front, specifiers, at),
+        State::ParamsDone(proto, params) => end_params(alloc, word, proto, params),
     }
 }

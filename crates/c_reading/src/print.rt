@@ -1,5 +1,6 @@
 // What is printed of any node: its brackets, its words and, where they are asked for, its place.
 use c_tree::expression::{NameId, Specifier};
+use c_tree::pragma::Pragma;
 use std::alloc::{AllocError, Global};
 use wcc_base::Text;
 
@@ -128,10 +129,10 @@ impl<'a> Printer<'a> {
     }
 
     /// A pragma and its text.
-    pub fn pragma(&mut self, word: &str, text: &Text, at: u32) -> Result<(), AllocError> {
-        self.open(word, at)?;
+    pub fn pragma(&mut self, word: &str, pragma: &Pragma) -> Result<(), AllocError> {
+        self.open(word, pragma.at)?;
         self.line.push_str(" \"")?;
-        self.bytes(text.as_bytes())?;
+        self.bytes(pragma.text.as_bytes())?;
         self.line.push('"')?;
         self.close()
     }

@@ -5,7 +5,8 @@ use c_tree::Unit;
 use c_tree::declaration::{Declaration, Initial, Object, Param, Shape};
 use c_tree::expression::Expr;
 use c_tree::external::{External, Function};
-use c_tree::statement::{ForStart, Item, Label, LoopBound, Restriction, Statement};
+use c_tree::pragma::Pragma;
+use c_tree::statement::{ForStart, Item, Label, Statement};
 use std::alloc::{AllocError, Global};
 
 fn optional(printer: &mut Printer, value: &Option<Expr>) -> Result<(), AllocError> {
@@ -93,8 +94,8 @@ fn declaration(printer: &mut Printer, declaration: &Declaration) -> Result<(), A
     }
 }
 
-fn restriction(printer: &mut Printer, restriction: &Restriction) -> Result<(), AllocError> {
-    printer.pragma("restriction", &restriction.text, restriction.at)
+fn restriction(printer: &mut Printer, restriction: &Pragma) -> Result<(), AllocError> {
+    printer.pragma("restriction", restriction)
 }
 
 fn label(printer: &mut Printer, label: &Label) -> Result<(), AllocError> {
@@ -109,10 +110,10 @@ fn label(printer: &mut Printer, label: &Label) -> Result<(), AllocError> {
 }
 
 /// The bound of a loop, where it has one.
-fn bound(printer: &mut Printer, bound: &Option<LoopBound>) -> Result<(), AllocError> {
+fn bound(printer: &mut Printer, bound: &Option<Pragma>) -> Result<(), AllocError> {
     match bound {
         None => Ok(()),
-        Some(bound) => printer.pragma("bound", &bound.text, bound.at),
+        Some(bound) => printer.pragma("bound", bound),
     }
 }
 
@@ -140,7 +141,7 @@ fn statement(printer: &mut Printer, one: &Statement) -> Result<(), AllocError> {
             expression(printer, value)?;
             printer.close()
         }
-        Statement::Marker { text, at } => printer.pragma("marker", text, *at),
+        Statement::Marker(pragma) => printer.pragma("marker", pragma),
         Statement::If { test, then, at } => {
             printer.open("if", *at)?;
             expression(printer, test)?;

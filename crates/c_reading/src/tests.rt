@@ -12,6 +12,7 @@ mod depths;
 mod examples;
 mod expressions;
 mod kinds;
+mod names;
 mod places;
 mod refusals;
 mod sizes;

@@ -4,10 +4,9 @@ use Rattle.c_tree.specs.declared.token.TokenKind.{TokenKind}
 use Rattle.c_tree.specs.declared.token.TokenKind.TheVariants as kinds
 use Rattle.c_tree.specs.Said as lexemes
 use Rattle.c_tree.specs.Said.{Lexeme, Plain}
-use Rattle.c_tree.specs.Size.{size_statement}
-use Rattle.c_tree.specs.Tree.{Expr, ForStart, If, Items, Noted, Statement}
-use Rattle.c_grammar.specs.Begun.{Bytes, Frames, InItems, InThen, Braces, Base, Evaluates, Returns, Starts, Bounds, Repeats}
-use Rattle.c_grammar.specs.Depth.{frames_deep}
+use Rattle.c_tree.specs.Tree.{Expr, ForStart, If, Items, Statement}
+use Rattle.c_tree.specs.declared.pragma.Pragma.{Pragma}
+use Rattle.c_grammar.specs.Begun.{Bytes, Frames, InItems, InThen, Braces, Base, Evaluates, Returns, Starts, Guards, Repeats}
 use Rattle.c_grammar.specs.Machine.{begin, begin_statement, item, settle, answers, loop_starts, loop_tests, loop_steps}
 use Rattle.c_begun.specs.declared.begun.State.{State}
 use Rattle.c_begun.specs.declared.refusal.Refusal.{Refusal}
@@ -43,15 +42,15 @@ pub answers_other : (said : Lexeme) (here at : ℕ) (under : Frames) → (said �
 answers_other (Plain kinds.Semicolon) here at under h = absurd (h refl)
 answers_other _ here at under h = refl
 
-pub starts_other : (said : Lexeme) (here : ℕ) (bound : Option Noted) (at : ℕ) (under : Frames) → (said ≡ Plain kinds.Semicolon → ⊥) → loop_starts None said here bound at under ≡ begin said here (Base (Starts bound at under))
+pub starts_other : (said : Lexeme) (here : ℕ) (bound : Option Pragma) (at : ℕ) (under : Frames) → (said ≡ Plain kinds.Semicolon → ⊥) → loop_starts None said here bound at under ≡ begin said here (Base (Starts bound at under))
 starts_other (Plain kinds.Semicolon) here bound at under h = absurd (h refl)
 starts_other _ here bound at under h = refl
 
-pub tests_other : (said : Lexeme) (here : ℕ) (bound : Option Noted) (start : ForStart Bytes) (at : ℕ) (under : Frames) → (said ≡ Plain kinds.Semicolon → ⊥) → loop_tests said here bound start at under ≡ begin said here (Base (Bounds bound start at under))
+pub tests_other : (said : Lexeme) (here : ℕ) (bound : Option Pragma) (start : ForStart Bytes) (at : ℕ) (under : Frames) → (said ≡ Plain kinds.Semicolon → ⊥) → loop_tests said here bound start at under ≡ begin said here (Base (Guards bound start at under))
 tests_other (Plain kinds.Semicolon) here bound start at under h = absurd (h refl)
 tests_other _ here bound start at under h = refl
 
-pub steps_other : (said : Lexeme) (here : ℕ) (bound : Option Noted) (start : ForStart Bytes) (test : Option (Expr Bytes)) (at : ℕ) (under : Frames) → (said ≡ Plain kinds.RightParen → ⊥) → loop_steps said here bound start test at under ≡ begin said here (Base (Repeats bound start test at under))
+pub steps_other : (said : Lexeme) (here : ℕ) (bound : Option Pragma) (start : ForStart Bytes) (test : Option (Expr Bytes)) (at : ℕ) (under : Frames) → (said ≡ Plain kinds.RightParen → ⊥) → loop_steps said here bound start test at under ≡ begin said here (Base (Repeats bound start test at under))
 steps_other (Plain kinds.RightParen) here bound start test at under h = absurd (h refl)
 steps_other _ here bound start test at under h = refl
 
@@ -59,5 +58,5 @@ pub then_other : (said : Lexeme) (here : ℕ) (test : Expr Bytes) (at : ℕ) (un
 then_other (Plain kinds.Else) here test at under statement h = absurd (h refl)
 then_other _ here test at under statement h = refl
 
-pub then_gives : (f : Names) (r : Result State Refusal) (said : Lexeme) (here : ℕ) (test : Expr Bytes) (at : ℕ) (under : Frames) (statement : Statement Bytes) → (said ≡ Plain kinds.Else → ⊥) → Gives f r (settle under said here (If test statement at)) (frames_deep under (size_statement (If test statement at)).depth) → Gives f r (settle (InThen test at under) said here statement) (frames_deep (InThen test at under) (size_statement statement).depth)
-then_gives f r said here test at under statement h g = subst (λ moved. Gives f r moved (frames_deep (InThen test at under) (size_statement statement).depth)) (sym (then_other said here test at under statement h)) g
+pub then_gives : (f : Names) (r : Result State Refusal) (said : Lexeme) (here : ℕ) (test : Expr Bytes) (at : ℕ) (under : Frames) (statement : Statement Bytes) → (said ≡ Plain kinds.Else → ⊥) → Gives f r (settle under said here (If test statement at)) → Gives f r (settle (InThen test at under) said here statement)
+then_gives f r said here test at under statement h g = subst (λ moved. Gives f r moved) (sym (then_other said here test at under statement h)) g

@@ -1,20 +1,19 @@
 ghost use Rattle.std.specs.Prelude.{◌≡◌, None};
-ghost use Rattle.c_tree.specs.Named.{map_option};
-ghost use Rattle.c_tree.specs.View.{bound_of};
 ghost use Rattle.c_grammar.specs.Begun.{Base, LoopStarts, Stands, Tests, Wants};
 ghost use Rattle.c_grammar.specs.Machine.{answers, loop_starts, loop_steps, loop_tests, paren, semicolon, specifier_of};
 ghost use Rattle.c_lexeme.specs.Lexemes.{lexeme_of};
 ghost use Rattle.c_begun.specs.View.{Gives, Names, frames_of, maybe_of, start_part_of, statement_part_of, test_of};
 
 use super::said::says;
-use c_begun::begun::{Frames, Purpose, Scope, Stack, State, Test};
+use c_begun::begun::{Frames, Loop, Purpose, Scope, Stack, StartedFor, State, Test, TestedFor};
+use c_begun::list::one_specifier;
 use c_begun::part::{MaybePart, StartPart, StatementPart};
 use c_begun::refusal::Refusal;
 use c_begun::statement::leaf;
-use c_lexeme::Lexeme;
+use c_lexeme::{Lexeme, Word};
 use c_operand::operand::begin_operand;
 use c_operand::role::specifier_said;
-use c_tree::statement::{ForStart, LoopBound, Statement};
+use c_tree::statement::{ForStart, Statement};
 use c_tree::token::TokenKind;
 use std::alloc::Global;
 
@@ -24,13 +23,12 @@ pub fn close_statement(
     statement: StatementPart,
     under: Box<Frames>,
 ) -> Result<State, Refusal>
-    ensures { (f : Names) → Gives f result (semicolon (lexeme_of f lexeme) (Stands (statement_part_of f statement) (frames_of f under.value))) 0 }
+    ensures { (f : Names) → Gives f result (semicolon (lexeme_of f lexeme) (Stands (statement_part_of f statement) (frames_of f under.value))) }
 {
     match lexeme {
         Lexeme::Plain(TokenKind::Semicolon) => Ok(State::Stands(statement, under)),
         _ => {
-            // Let go here, since nothing may be left to drop where the arms meet.
-            drop(statement);
+            statement.let_go();
             Err(Refusal::Syntax)
         }
     }
@@ -38,47 +36,36 @@ pub fn close_statement(
 
 /// The bracket of a test opens.
 pub fn open_test(lexeme: Lexeme, test: Test) -> Result<State, Refusal>
-    ensures { (f : Names) → Gives f result (paren (lexeme_of f lexeme) (Wants (Base (Tests (test_of f test))))) 0 }
+    ensures { (f : Names) → Gives f result (paren (lexeme_of f lexeme) (Wants (Base (Tests (test_of f test))))) }
 {
     match lexeme {
         Lexeme::Plain(TokenKind::LeftParen) => Ok(State::Wants(Stack::Base(Purpose::Tests(test)))),
-        _ => Err(Refusal::Syntax),
+        _ => Err(test.refuse()),
     }
 }
 
 /// Behind `return`.
 pub fn begin_answer(
     alloc: Global,
-    lexeme: Lexeme,
-    here: u32,
+    word: Word,
     at: u32,
     under: Box<Frames>,
 ) -> Result<State, Refusal>
-    ensures { (f : Names) → Gives f result (answers (lexeme_of f lexeme) here at (frames_of f under.value)) 0 }
+    ensures { (f : Names) → Gives f result (answers (lexeme_of f word.lexeme) word.at at (frames_of f under.value)) }
 {
-    if says(&lexeme, TokenKind::Semicolon) {
+    if says(&word.lexeme, TokenKind::Semicolon) {
         let answer = leaf(Statement::Return { value: None, at });
         return Ok(State::Stands(answer, under));
     }
-    begin_operand(
-        alloc,
-        lexeme,
-        here,
-        Stack::Base(Purpose::Returns(at, under)),
-    )
+    begin_operand(alloc, word, Stack::Base(Purpose::Returns { at, under }))
 }
 
 /// The bracket of a `for` opens.
-pub fn open_for(
-    lexeme: Lexeme,
-    bound: Option<LoopBound>,
-    at: u32,
-    under: Box<Frames>,
-) -> Result<State, Refusal>
-    ensures { (f : Names) → Gives f result (paren (lexeme_of f lexeme) (LoopStarts (map_option bound_of bound) at (frames_of f under.value))) 0 }
+pub fn open_for(lexeme: Lexeme, head: Loop, under: Box<Frames>) -> Result<State, Refusal>
+    ensures { (f : Names) → Gives f result (paren (lexeme_of f lexeme) (LoopStarts head.bound head.at (frames_of f under.value))) }
 {
     match lexeme {
-        Lexeme::Plain(TokenKind::LeftParen) => Ok(State::LoopStarts(bound, at, under)),
+        Lexeme::Plain(TokenKind::LeftParen) => Ok(State::LoopStarts(head, under)),
         _ => Err(Refusal::Syntax),
     }
 }
@@ -86,47 +73,41 @@ pub fn open_for(
 /// Behind the bracket of a `for`, where no declaration begins.
 fn begin_loop_value(
     alloc: Global,
-    lexeme: Lexeme,
-    here: u32,
-    bound: Option<LoopBound>,
-    at: u32,
+    word: Word,
+    head: Loop,
     under: Box<Frames>,
 ) -> Result<State, Refusal>
-    ensures { (f : Names) → Gives f result (loop_starts None (lexeme_of f lexeme) here (map_option bound_of bound) at (frames_of f under.value)) 0 }
+    ensures { (f : Names) → Gives f result (loop_starts None (lexeme_of f word.lexeme) word.at head.bound head.at (frames_of f under.value)) }
 {
-    if says(&lexeme, TokenKind::Semicolon) {
+    if says(&word.lexeme, TokenKind::Semicolon) {
         let start = StartPart {
             start: ForStart::Absent,
             depth: 0,
         };
-        return Ok(State::LoopTests(bound, start, at, under));
+        return Ok(State::LoopTests(head.started(start), under));
     }
-    begin_operand(
-        alloc,
-        lexeme,
-        here,
-        Stack::Base(Purpose::Starts(bound, at, under)),
-    )
+    begin_operand(alloc, word, Stack::Base(Purpose::Starts(head, under)))
 }
 
 /// Behind the bracket of a `for`.
 pub fn begin_loop_start(
     alloc: Global,
-    lexeme: Lexeme,
-    here: u32,
-    bound: Option<LoopBound>,
-    at: u32,
+    word: Word,
+    head: Loop,
     under: Box<Frames>,
 ) -> Result<State, Refusal>
-    ensures { (f : Names) → Gives f result (loop_starts (specifier_of (lexeme_of f lexeme)) (lexeme_of f lexeme) here (map_option bound_of bound) at (frames_of f under.value)) 0 }
+    ensures { (f : Names) → Gives f result (loop_starts (specifier_of (lexeme_of f word.lexeme)) (lexeme_of f word.lexeme) word.at head.bound head.at (frames_of f under.value)) }
 {
-    match specifier_said(&lexeme) {
+    match specifier_said(&word.lexeme) {
         Some(first) => {
-            let mut specifiers = Vec::new(alloc);
-            specifiers.push(first)?;
-            Ok(State::Specified(specifiers, here, Scope::AtFor(bound, at, under)))
+            let specifiers = one_specifier(alloc, first)?;
+            Ok(State::Specified {
+                specifiers,
+                at: word.at,
+                scope: Scope::AtFor(head, under),
+            })
         }
-        None => begin_loop_value(alloc, lexeme, here, bound, at, under),
+        None => begin_loop_value(alloc, word, head, under),
     }
 }
 
@@ -143,47 +124,30 @@ fn no_expression() -> MaybePart
 /// Behind the first semicolon of a `for`.
 pub fn begin_loop_test(
     alloc: Global,
-    lexeme: Lexeme,
-    here: u32,
-    bound: Option<LoopBound>,
-    start: StartPart,
-    at: u32,
+    word: Word,
+    head: StartedFor,
     under: Box<Frames>,
 ) -> Result<State, Refusal>
-    ensures { (f : Names) → Gives f result (loop_tests (lexeme_of f lexeme) here (map_option bound_of bound) (start_part_of f start) at (frames_of f under.value)) 0 }
+    ensures { (f : Names) → Gives f result (loop_tests (lexeme_of f word.lexeme) word.at head.bound (start_part_of f head.start) head.at (frames_of f under.value)) }
 {
-    if says(&lexeme, TokenKind::Semicolon) {
-        return Ok(State::LoopSteps(bound, start, no_expression(), at, under));
+    if says(&word.lexeme, TokenKind::Semicolon) {
+        return Ok(State::LoopSteps(head.tested(no_expression()), under));
     }
-    begin_operand(
-        alloc,
-        lexeme,
-        here,
-        Stack::Base(Purpose::Bounds(bound, start, at, under)),
-    )
+    begin_operand(alloc, word, Stack::Base(Purpose::Guards(head, under)))
 }
 
 /// Behind the second semicolon of a `for`.
 pub fn begin_loop_step(
     alloc: Global,
-    lexeme: Lexeme,
-    here: u32,
-    bound: Option<LoopBound>,
-    start: StartPart,
-    test: MaybePart,
-    at: u32,
+    word: Word,
+    head: TestedFor,
     under: Box<Frames>,
 ) -> Result<State, Refusal>
-    ensures { (f : Names) → Gives f result (loop_steps (lexeme_of f lexeme) here (map_option bound_of bound) (start_part_of f start) (maybe_of f test) at (frames_of f under.value)) 0 }
+    ensures { (f : Names) → Gives f result (loop_steps (lexeme_of f word.lexeme) word.at head.bound (start_part_of f head.start) (maybe_of f head.test) head.at (frames_of f under.value)) }
 {
-    if says(&lexeme, TokenKind::RightParen) {
-        let frame = Frames::InFor(bound, start, test, no_expression(), at, under);
-        return Ok(State::Begins(Box::new(alloc, frame)?));
+    if says(&word.lexeme, TokenKind::RightParen) {
+        let frame = Frames::InFor(head.headed(no_expression()), under);
+        return Ok(State::Begins(frame.boxed(alloc)?));
     }
-    begin_operand(
-        alloc,
-        lexeme,
-        here,
-        Stack::Base(Purpose::Repeats(bound, start, test, at, under)),
-    )
+    begin_operand(alloc, word, Stack::Base(Purpose::Repeats(head, under)))
 }

@@ -1,24 +1,25 @@
-ghost use Rattle.c_tree.specs.Said.{Plain, Pragma};
+ghost use Rattle.std.specs.Prelude.{◌≤◌};
+ghost use Rattle.c_tree.specs.Said as said;
+ghost use Rattle.c_tree.specs.Said.{Plain};
 ghost use Rattle.c_tree.specs.Tree.{AndLabel, Default, NoItem};
 ghost use Rattle.c_grammar.specs.Begun.{Among, Base, Defaults, InItems, Labels, OfSwitch, Wants};
-ghost use Rattle.c_grammar.specs.Depth.{braces_deep};
 ghost use Rattle.c_grammar.specs.Machine.{Goes, among, begin_statement, brace, close, colon, file_item, item, label, specifier_of};
 ghost use Rattle.c_lexeme.specs.Lexemes.{lexeme_of};
-ghost use Rattle.c_begun.specs.View.{Gives, Names, braces_of, externals_of, frames_of, item_parts_of, items_depth, part_of};
+ghost use Rattle.c_begun.specs.Depths.{braces_depth};
+ghost use Rattle.c_begun.specs.View.{Gives, Names, braces_of, externals_of, frames_of, item_parts_of, part_of};
 
 use super::begins::begin_any_statement;
 use c_begun::begun::{Braces, Frames, Purpose, Scope, Stack, State};
 use c_begun::function::and_function;
-use c_begun::list::{and_default, and_restricting, and_restriction, no_items};
+use c_begun::list::{and_default, and_restricting, and_restriction, no_items, one_specifier};
 use c_begun::part::{ExternalParts, ItemParts, Part};
 use c_begun::refusal::Refusal;
 use c_begun::statement::{block, switch};
-use c_lexeme::Lexeme;
+use c_lexeme::{Lexeme, Word};
 use c_operand::role::specifier_said;
-use c_tree::statement::Restriction;
+use c_tree::pragma::Pragma;
 use c_tree::token::TokenKind;
 use std::alloc::Global;
-use wcc_base::Text;
 
 /// The braces of a `switch` open.
 pub fn open_choice(
@@ -28,47 +29,54 @@ pub fn open_choice(
     at: u32,
     under: Box<Frames>,
 ) -> Result<State, Refusal>
-    ensures { (f : Names) → Gives f result (brace (lexeme_of f lexeme) (Among NoItem (OfSwitch (part_of f test) at (frames_of f under.value)))) 0 }
+    ensures { (f : Names) → Gives f result (brace (lexeme_of f lexeme) (Among NoItem (OfSwitch (part_of f test) at (frames_of f under.value)))) }
 {
     match lexeme {
-        Lexeme::Plain(TokenKind::LeftBrace) => Ok(State::Among(
-            no_items(alloc),
-            Box::new(alloc, Braces::OfSwitch(test, at, under))?,
-        )),
+        Lexeme::Plain(TokenKind::LeftBrace) => {
+            let braces = Braces::OfSwitch { test, at, under }.boxed(alloc)?;
+            Ok(State::Among(no_items(alloc), braces))
+        }
         _ => Err(Refusal::Syntax),
     }
 }
 
 /// The braces close.
-#[tactic(auto, using(c_begun::proofs::Overs::frames_keep))]
+#[tactic(auto, using(c_begun::proofs::Deeper::frames_deeper))]
 fn close_braces(braces: Braces, front: ItemParts) -> Result<State, Refusal>
-    ensures { (f : Names) → Gives f result (Goes (close (braces_of f braces) (item_parts_of f front))) (braces_deep (braces_of f braces) (items_depth f front)) }
+    requires { braces_depth braces front.depth ≤ 256 }
+    ensures { (f : Names) → Gives f result (Goes (close (braces_of f braces) (item_parts_of f front))) }
 {
     match braces {
-        Braces::OfBlock(at, under) => Ok(State::Stands(block(front, at)?, under)),
-        Braces::OfSwitch(test, at, under) => Ok(State::Stands(switch(test, front, at)?, under)),
-        Braces::OfFunction(header) => Ok(State::File(and_function(header, front)?)),
+        Braces::OfBlock { at, under } => Ok(State::Stands(block(front, at), under)),
+        Braces::OfSwitch { test, at, under } => {
+            Ok(State::Stands(switch(test, front, at), under))
+        }
+        Braces::OfFunction(header) => {
+            let front = and_function(header, front)?;
+            Ok(State::File(front))
+        }
     }
 }
 
 /// A label with a value begins.
 fn begin_case(braces: Box<Braces>, front: ItemParts, at: u32) -> Result<State, Refusal>
-    ensures { (f : Names) → Gives f result (label (braces_of f braces.value) (Wants (Base (Labels (item_parts_of f front) (braces_of f braces.value) at)))) 0 }
+    ensures { (f : Names) → Gives f result (label (braces_of f braces.value) (Wants (Base (Labels (item_parts_of f front) (braces_of f braces.value) at)))) }
 {
     match &*braces {
-        Braces::OfSwitch(_, _, _) => Ok(State::Wants(Stack::Base(Purpose::Labels(
-            front, braces, at,
-        )))),
+        Braces::OfSwitch { .. } => {
+            let label = Purpose::Labels { front, braces, at };
+            Ok(State::Wants(Stack::Base(label)))
+        }
         _ => Err(Refusal::Syntax),
     }
 }
 
 /// A `default` begins.
 fn begin_default(braces: Box<Braces>, front: ItemParts, at: u32) -> Result<State, Refusal>
-    ensures { (f : Names) → Gives f result (label (braces_of f braces.value) (Defaults (item_parts_of f front) (braces_of f braces.value) at)) 0 }
+    ensures { (f : Names) → Gives f result (label (braces_of f braces.value) (Defaults (item_parts_of f front) (braces_of f braces.value) at)) }
 {
     match &*braces {
-        Braces::OfSwitch(_, _, _) => Ok(State::Defaults(front, braces, at)),
+        Braces::OfSwitch { .. } => Ok(State::Defaults { front, braces, at }),
         _ => Err(Refusal::Syntax),
     }
 }
@@ -80,10 +88,13 @@ pub fn end_default(
     braces: Box<Braces>,
     at: u32,
 ) -> Result<State, Refusal>
-    ensures { (f : Names) → Gives f result (colon (lexeme_of f lexeme) (Among (AndLabel (item_parts_of f front) (Default at)) (braces_of f braces.value))) 0 }
+    ensures { (f : Names) → Gives f result (colon (lexeme_of f lexeme) (Among (AndLabel (item_parts_of f front) (Default at)) (braces_of f braces.value))) }
 {
     match lexeme {
-        Lexeme::Plain(TokenKind::Colon) => Ok(State::Among(and_default(front, at)?, braces)),
+        Lexeme::Plain(TokenKind::Colon) => {
+            let front = and_default(front, at)?;
+            Ok(State::Among(front, braces))
+        }
         _ => Err(Refusal::Syntax),
     }
 }
@@ -91,15 +102,14 @@ pub fn end_default(
 /// A statement begins between braces.
 fn begin_statement_item(
     alloc: Global,
-    lexeme: Lexeme,
-    at: u32,
+    word: Word,
     front: ItemParts,
     braces: Box<Braces>,
 ) -> Result<State, Refusal>
-    ensures { (f : Names) → Gives f result (begin_statement (lexeme_of f lexeme) at (InItems (item_parts_of f front) (braces_of f braces.value))) 0 }
+    ensures { (f : Names) → Gives f result (begin_statement (lexeme_of f word.lexeme) word.at (InItems (item_parts_of f front) (braces_of f braces.value))) }
 {
-    let under = Box::new(alloc, Frames::InItems(front, braces))?;
-    begin_any_statement(alloc, lexeme, at, under)
+    let under = Frames::InItems(front, braces).boxed(alloc)?;
+    begin_any_statement(alloc, word, under)
 }
 
 /// A keyword or punctuator between braces, where no declaration begins.
@@ -110,13 +120,17 @@ fn begin_plain_item(
     front: ItemParts,
     braces: Box<Braces>,
 ) -> Result<State, Refusal>
-    ensures { (f : Names) → Gives f result (item (Plain kind) at (item_parts_of f front) (braces_of f braces.value)) (braces_deep (braces_of f braces.value) (items_depth f front)) }
+    requires { braces_depth braces.value front.depth ≤ 256 }
+    ensures { (f : Names) → Gives f result (item (Plain kind) at (item_parts_of f front) (braces_of f braces.value)) }
 {
     match kind {
         TokenKind::RightBrace => close_braces(Box::into_inner(braces), front),
         TokenKind::Case => begin_case(braces, front, at),
         TokenKind::Default => begin_default(braces, front, at),
-        _ => begin_statement_item(alloc, Lexeme::Plain(kind), at, front, braces),
+        _ => {
+            let lexeme = Lexeme::Plain(kind);
+            begin_statement_item(alloc, Word { lexeme, at }, front, braces)
+        }
     }
 }
 
@@ -124,68 +138,78 @@ fn begin_plain_item(
 fn begin_noted_item(
     alloc: Global,
     kind: TokenKind,
-    text: Text,
-    at: u32,
+    pragma: Pragma,
     front: ItemParts,
     braces: Box<Braces>,
 ) -> Result<State, Refusal>
-    ensures { (f : Names) → Gives f result (item (Pragma kind text) at (item_parts_of f front) (braces_of f braces.value)) 0 }
+    ensures { (f : Names) → Gives f result (item (said.Pragma kind pragma.text) pragma.at (item_parts_of f front) (braces_of f braces.value)) }
 {
     match kind {
-        TokenKind::FlowRestriction => Ok(State::Among(
-            and_restriction(front, Restriction { text, at })?,
-            braces,
-        )),
-        _ => begin_statement_item(alloc, Lexeme::Pragma(kind, text), at, front, braces),
+        TokenKind::FlowRestriction => {
+            let front = and_restriction(front, pragma)?;
+            Ok(State::Among(front, braces))
+        }
+        _ => {
+            let Pragma { text, at } = pragma;
+            let lexeme = Lexeme::Pragma(kind, text);
+            begin_statement_item(alloc, Word { lexeme, at }, front, braces)
+        }
     }
 }
 
 /// Between braces, where no declaration begins.
 fn begin_item(
     alloc: Global,
-    lexeme: Lexeme,
-    at: u32,
+    word: Word,
     front: ItemParts,
     braces: Box<Braces>,
 ) -> Result<State, Refusal>
-    ensures { (f : Names) → Gives f result (item (lexeme_of f lexeme) at (item_parts_of f front) (braces_of f braces.value)) (braces_deep (braces_of f braces.value) (items_depth f front)) }
+    requires { braces_depth braces.value front.depth ≤ 256 }
+    ensures { (f : Names) → Gives f result (item (lexeme_of f word.lexeme) word.at (item_parts_of f front) (braces_of f braces.value)) }
 {
+    let Word { lexeme, at } = word;
     match lexeme {
         Lexeme::Plain(kind) => begin_plain_item(alloc, kind, at, front, braces),
-        Lexeme::Pragma(kind, text) => begin_noted_item(alloc, kind, text, at, front, braces),
-        _ => begin_statement_item(alloc, lexeme, at, front, braces),
+        Lexeme::Pragma(kind, text) => {
+            begin_noted_item(alloc, kind, Pragma { text, at }, front, braces)
+        }
+        _ => begin_statement_item(alloc, Word { lexeme, at }, front, braces),
     }
 }
 
 /// Between braces.
 pub fn go_on_among(
     alloc: Global,
-    lexeme: Lexeme,
-    here: u32,
+    word: Word,
     front: ItemParts,
     braces: Box<Braces>,
 ) -> Result<State, Refusal>
-    ensures { (f : Names) → Gives f result (among (specifier_of (lexeme_of f lexeme)) (lexeme_of f lexeme) here (item_parts_of f front) (braces_of f braces.value)) (braces_deep (braces_of f braces.value) (items_depth f front)) }
+    requires { braces_depth braces.value front.depth ≤ 256 }
+    ensures { (f : Names) → Gives f result (among (specifier_of (lexeme_of f word.lexeme)) (lexeme_of f word.lexeme) word.at (item_parts_of f front) (braces_of f braces.value)) }
 {
-    match specifier_said(&lexeme) {
+    match specifier_said(&word.lexeme) {
         Some(first) => {
-            let mut specifiers = Vec::new(alloc);
-            specifiers.push(first)?;
-            Ok(State::Specified(specifiers, here, Scope::AmongItems(front, braces)))
+            let specifiers = one_specifier(alloc, first)?;
+            Ok(State::Specified {
+                specifiers,
+                at: word.at,
+                scope: Scope::AmongItems(front, braces),
+            })
         }
-        None => begin_item(alloc, lexeme, here, front, braces),
+        None => begin_item(alloc, word, front, braces),
     }
 }
 
 /// A restriction at file level.
-fn begin_restriction(lexeme: Lexeme, here: u32, front: ExternalParts) -> Result<State, Refusal>
-    ensures { (f : Names) → Gives f result (file_item None (lexeme_of f lexeme) here (externals_of f front)) 0 }
+fn begin_restriction(word: Word, front: ExternalParts) -> Result<State, Refusal>
+    ensures { (f : Names) → Gives f result (file_item None (lexeme_of f word.lexeme) word.at (externals_of f front)) }
 {
+    let Word { lexeme, at } = word;
     match lexeme {
-        Lexeme::Pragma(TokenKind::FlowRestriction, text) => Ok(State::File(and_restricting(
-            front,
-            Restriction { text, at: here },
-        )?)),
+        Lexeme::Pragma(TokenKind::FlowRestriction, text) => {
+            let front = and_restricting(front, Pragma { text, at })?;
+            Ok(State::File(front))
+        }
         _ => Err(Refusal::Syntax),
     }
 }
@@ -193,18 +217,20 @@ fn begin_restriction(lexeme: Lexeme, here: u32, front: ExternalParts) -> Result<
 /// At file level.
 pub fn go_on_at_file_level(
     alloc: Global,
-    lexeme: Lexeme,
-    here: u32,
+    word: Word,
     front: ExternalParts,
 ) -> Result<State, Refusal>
-    ensures { (f : Names) → Gives f result (file_item (specifier_of (lexeme_of f lexeme)) (lexeme_of f lexeme) here (externals_of f front)) 0 }
+    ensures { (f : Names) → Gives f result (file_item (specifier_of (lexeme_of f word.lexeme)) (lexeme_of f word.lexeme) word.at (externals_of f front)) }
 {
-    match specifier_said(&lexeme) {
+    match specifier_said(&word.lexeme) {
         Some(first) => {
-            let mut specifiers = Vec::new(alloc);
-            specifiers.push(first)?;
-            Ok(State::Specified(specifiers, here, Scope::AtFile(front)))
+            let specifiers = one_specifier(alloc, first)?;
+            Ok(State::Specified {
+                specifiers,
+                at: word.at,
+                scope: Scope::AtFile(front),
+            })
         }
-        None => begin_restriction(lexeme, here, front),
+        None => begin_restriction(word, front),
     }
 }

@@ -1,3 +1,9 @@
 pub mod TokenLists
 pub mod Rows
 pub mod Sizes
+pub mod NamedTrees
+pub mod NamedSizes
+pub mod NamedForms
+pub mod FirstPlaces
+pub mod Holding
+pub mod Names

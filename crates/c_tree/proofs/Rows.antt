@@ -1,5 +1,5 @@
--- Lists of trees within a tree, as the code keeps them and as the views have them.
-use Rattle.std.proofs.Common.{◌≡◌, ℕ, refl, ap, ◌∙◌}
+-- Lists of trees within a tree, as the code keeps them and as the views have them; one more at the end.
+use Rattle.std.proofs.Common.{◌≡◌, ℕ, List, [], ◌∷◌, ◌++◌, refl, ap, ◌∙◌}
 use Rattle.std.specs.Prelude.{Vec}
 use Rattle.std.specs.Global.{Global}
 use mathlib.Core.Former.{Count}
@@ -7,8 +7,20 @@ use Rattle.c_tree.specs.declared.expression.NameId.{NameId}
 use Rattle.c_tree.specs.declared.expression.Expr as exprs
 use Rattle.c_tree.specs.declared.statement.Item as items
 use Rattle.c_tree.specs.declared.statement.Statement as statements
-use Rattle.c_tree.specs.Tree.{Call, Exprs, NoExpr, AndExpr, Items, NoItem, Block, Switch}
-use Rattle.c_tree.specs.View.{expr_of, exprs_row, exprs_of, and_item, items_row, items_of, statement_of}
+use Rattle.c_tree.specs.Tree.{Call, Exprs, NoExpr, AndExpr, Items, NoItem, Block, Switch, Row, Then}
+use Rattle.c_tree.specs.View.{expr_of, exprs_row, exprs_of, row_of, and_item, items_row, items_of, statement_of}
+
+pub exprs_push : (front : Exprs ℕ) (es : List exprs.Expr) (e : exprs.Expr) → exprs_of front (es ++ e ∷ []) ≡ AndExpr (exprs_of front es) (expr_of e)
+exprs_push front [] e = refl
+exprs_push front (x ∷ es) e = exprs_push (AndExpr front (expr_of x)) es e
+
+pub row_push : {A B : Type 0} (g : A → B) (front : Row B) (xs : List A) (x : A) → row_of g front (xs ++ x ∷ []) ≡ Then (row_of g front xs) (g x)
+row_push g front [] x = refl
+row_push g front (y ∷ xs) x = row_push g (Then front (g y)) xs x
+
+pub items_push : (front : Items ℕ) (xs : List items.Item) (x : items.Item) → items_of front (xs ++ x ∷ []) ≡ and_item (items_of front xs) x
+items_push front [] x = refl
+items_push front (y ∷ xs) x = items_push (and_item front y) xs x
 
 exprs_row-items : (m : _) (k : exprs.Row_of-Expr m) (front : Exprs ℕ) → exprs_row front k ≡ exprs_of front (exprs.items-the_row-Expr m k)
 exprs_row-items m exprs.end_of-Expr front = refl

@@ -12,7 +12,7 @@ use Rattle.c_tree.specs.declared.expression.NameId.{NameId}
 use Rattle.c_tree.specs.declared.statement.Item as items
 use Rattle.c_tree.specs.declared.statement.Statement as statements
 use Rattle.c_tree.proofs.Rows.{call_view, block_view, switch_view}
-use Rattle.c_tree.specs.View.{declaration_of, expr_of, exprs_of, item_size, items_of, label_of, restriction_of, row_of, statement_of}
+use Rattle.c_tree.specs.View.{declaration_of, expr_of, exprs_of, item_size, items_of, label_of, row_of, statement_of}
 
 -- the size of a list, behind what comes before
 abbrev pub sizes : {A : Type 0} → (A → Size) → Size → List A → Size
@@ -78,7 +78,7 @@ pub size_items-items_of : (front : Items ℕ) (xs : List items.Item) → size_it
 size_items-items_of front [] = refl
 size_items-items_of front (items.Declaration declaration ∷ xs) = size_items-items_of (AndDeclaration front (declaration_of declaration)) xs
 size_items-items_of front (items.Statement statement ∷ xs) = size_items-items_of (AndStatement front (statement_of statement)) xs
-size_items-items_of front (items.Restriction restriction ∷ xs) = size_items-items_of (AndRestriction front (restriction_of restriction)) xs
+size_items-items_of front (items.Restriction pragma ∷ xs) = size_items-items_of (AndRestriction front pragma) xs
 size_items-items_of front (items.Label label ∷ xs) = size_items-items_of (AndLabel front (label_of label)) xs
 
 pub block_size : (s : statements.Statement) (v : Vec items.Item Global) (at : ℕ) → s ≡ statements.Block v at → size_statement (statement_of s) ≡ over (size_items (items_of NoItem v.items))

@@ -2,7 +2,7 @@
 use Rattle.std.specs.Prelude.{◌≡◌, ℕ, ◌-◌, ◌≤◌, List, [], ◌∷◌, Option, Some, None, Bool, true, false}
 use Rattle.c_tree.specs.declared.expression.BinaryOperator.{BinaryOperator}
 use Rattle.c_tree.specs.declared.expression.BinaryOperator.TheVariants as binary
-use Rattle.c_tree.specs.Tree.{Row, Nothing, Then, Expr, Number, Character, Name, Paren, Index, Call, Postfix, Prefix, Cast, Binary, Conditional, Assign, Exprs, NoExpr, AndExpr, Shape, Scalar, Unsized, Sized, Initial, Absent, Value, Listed, Object, Declared, Param, Parameter, Declaration, Objects, Prototype, Noted, Note, Label, Case, Default, ForStart, NoStart, StartValue, StartDeclaration, Statement, Block, Empty, Evaluate, Marker, If, IfElse, While, Do, For, Switch, Break, Continue, Return, Items, NoItem, AndDeclaration, AndStatement, AndRestriction, AndLabel, External, Restriction, Declaring, Function, TranslationUnit, Whole}
+use Rattle.c_tree.specs.Tree.{Row, Nothing, Then, Expr, Number, Character, Name, Paren, Index, Call, Postfix, Prefix, Cast, Binary, Conditional, Assign, Exprs, NoExpr, AndExpr, Shape, Scalar, Unsized, Sized, Initial, Absent, Value, Listed, Object, Declared, Param, Parameter, Declaration, Objects, Prototype, Label, Case, Default, ForStart, NoStart, StartValue, StartDeclaration, Statement, Block, Empty, Evaluate, Marker, If, IfElse, While, Do, For, Switch, Break, Continue, Return, Items, NoItem, AndDeclaration, AndStatement, AndRestriction, AndLabel, External, Restriction, Declaring, Function, TranslationUnit, Whole}
 
 -- how tightly an operator binds: the least level binds the most
 abbrev pub level_of : BinaryOperator → ℕ
@@ -132,7 +132,7 @@ abbrev mutual
   IsFormedStatement (Block items at) = AreFormedItems false items
   IsFormedStatement (Empty at) = Unit {0}
   IsFormedStatement (Evaluate value at) = (at ≡ place value) × IsFormed value
-  IsFormedStatement (Marker bytes at) = Unit {0}
+  IsFormedStatement (Marker pragma) = Unit {0}
   IsFormedStatement (If test first at) = IsFormed test × IsFormedStatement first
   IsFormedStatement (IfElse test first second at) = (ends_open first ≡ false) × IsFormed test × IsFormedStatement first × IsFormedStatement second
   IsFormedStatement (While bound test body at) = IsFormed test × IsFormedStatement body
@@ -148,23 +148,20 @@ abbrev mutual
   AreFormedItems labels NoItem = Unit {0}
   AreFormedItems labels (AndDeclaration front declaration) = AreFormedItems labels front × IsFormedDeclaration declaration
   AreFormedItems labels (AndStatement front statement) = AreFormedItems labels front × IsFormedStatement statement
-  AreFormedItems labels (AndRestriction front restriction) = AreFormedItems labels front
+  AreFormedItems labels (AndRestriction front pragma) = AreFormedItems labels front
   AreFormedItems labels (AndLabel front label) = AreFormedItems labels front × (labels ≡ true) × IsFormedLabel label
 
 abbrev pub IsFormedExternal : {N : Type 0} → External N → Type 0
-IsFormedExternal (Restriction restriction) = Unit {0}
+IsFormedExternal (Restriction pragma) = Unit {0}
 IsFormedExternal (Declaring declaration) = IsFormedDeclaration declaration
 IsFormedExternal (Function specifiers name name_at params body body_at at) = IsSome specifiers × EachOf IsFormedParam params × AreFormedItems false body
-
-abbrev pub note_place : Noted → ℕ
-note_place (Note bytes at) = at
 
 abbrev pub declaration_place : {N : Type 0} → Declaration N → ℕ
 declaration_place (Objects specifiers objects at) = at
 declaration_place (Prototype specifiers name params at) = at
 
 abbrev pub external_place : {N : Type 0} → External N → ℕ
-external_place (Restriction restriction) = note_place restriction
+external_place (Restriction pragma) = pragma.at
 external_place (Declaring declaration) = declaration_place declaration
 external_place (Function specifiers name name_at params body body_at at) = at
 

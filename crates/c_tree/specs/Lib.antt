@@ -8,4 +8,7 @@ pub mod Spelling
 pub mod Formed
 pub mod Size
 pub mod Named
+pub mod Holding
+pub mod Names
 pub mod View
+pub mod Units

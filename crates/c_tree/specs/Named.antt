@@ -1,5 +1,5 @@
 -- A tree with other names in the same places.
-use Rattle.std.specs.Prelude.{ℕ, ◌<◌, ◌≢◌, List, [], length, Option, Some, None, slice_index_or}
+use Rattle.std.specs.Prelude.{Option, Some, None}
 use Rattle.c_tree.specs.Tree.{Row, Nothing, Then, Expr, Number, Character, Name, Paren, Index, Call, Postfix, Prefix, Cast, Binary, Conditional, Assign, Exprs, NoExpr, AndExpr, Shape, Scalar, Unsized, Sized, Initial, Absent, Value, Listed, Object, Declared, Param, Parameter, Declaration, Objects, Prototype, Label, Case, Default, ForStart, NoStart, StartValue, StartDeclaration, Statement, Block, Empty, Evaluate, Marker, If, IfElse, While, Do, For, Switch, Break, Continue, Return, Items, NoItem, AndDeclaration, AndStatement, AndRestriction, AndLabel, External, Restriction, Declaring, Function, TranslationUnit, Whole}
 
 abbrev mutual
@@ -63,7 +63,7 @@ abbrev mutual
   named_statement f (Block items at) = Block (named_items f items) at
   named_statement f (Empty at) = Empty at
   named_statement f (Evaluate value at) = Evaluate (named f value) at
-  named_statement f (Marker bytes at) = Marker bytes at
+  named_statement f (Marker pragma) = Marker pragma
   named_statement f (If test first at) = If (named f test) (named_statement f first) at
   named_statement f (IfElse test first second at) = IfElse (named f test) (named_statement f first) (named_statement f second) at
   named_statement f (While bound test body at) = While bound (named f test) (named_statement f body) at
@@ -78,21 +78,13 @@ abbrev mutual
   named_items f NoItem = NoItem
   named_items f (AndDeclaration front declaration) = AndDeclaration (named_items f front) (named_declaration f declaration)
   named_items f (AndStatement front statement) = AndStatement (named_items f front) (named_statement f statement)
-  named_items f (AndRestriction front restriction) = AndRestriction (named_items f front) restriction
+  named_items f (AndRestriction front pragma) = AndRestriction (named_items f front) pragma
   named_items f (AndLabel front label) = AndLabel (named_items f front) (named_label f label)
 
 abbrev pub named_external : {M N : Type 0} → (M → N) → External M → External N
-named_external f (Restriction restriction) = Restriction restriction
+named_external f (Restriction pragma) = Restriction pragma
 named_external f (Declaring declaration) = Declaring (named_declaration f declaration)
 named_external f (Function specifiers name name_at params body body_at at) = Function specifiers (f name) name_at (map_row (named_param f) params) (named_items f body) body_at at
 
 abbrev pub named_unit : {M N : Type 0} → (M → N) → TranslationUnit M → TranslationUnit N
 named_unit f (Whole items at) = Whole (map_row (named_external f) items) at
-
--- the name of this number in a list of names
-abbrev pub name_of : List (List ℕ) → ℕ → List ℕ
-name_of names id = slice_index_or names id []
-
--- no name stands there twice
-abbrev pub AreDistinct : List (List ℕ) → Type 0
-AreDistinct names = (i j : ℕ) → i < j → j < length names → name_of names i ≢ name_of names j

@@ -85,7 +85,7 @@ abbrev mutual
   size_statement (Block items at) = over (size_items items)
   size_statement (Empty at) = leaf
   size_statement (Evaluate value at) = over (size value)
-  size_statement (Marker bytes at) = leaf
+  size_statement (Marker pragma) = leaf
   size_statement (If test first at) = over (beside (size test) (size_statement first))
   size_statement (IfElse test first second at) = over (beside (beside (size test) (size_statement first)) (size_statement second))
   size_statement (While bound test body at) = over (beside (size test) (size_statement body))
@@ -100,11 +100,11 @@ abbrev mutual
   size_items NoItem = empty
   size_items (AndDeclaration front declaration) = beside (size_items front) (size_declaration declaration)
   size_items (AndStatement front statement) = beside (size_items front) (size_statement statement)
-  size_items (AndRestriction front restriction) = beside (size_items front) leaf
+  size_items (AndRestriction front pragma) = beside (size_items front) leaf
   size_items (AndLabel front label) = beside (size_items front) (size_label label)
 
 abbrev pub size_external : {N : Type 0} → External N → Size
-size_external (Restriction restriction) = leaf
+size_external (Restriction pragma) = leaf
 size_external (Declaring declaration) = size_declaration declaration
 size_external (Function specifiers name name_at params body body_at at) = over (beside (size_row size_param params) (over (size_items body)))
 

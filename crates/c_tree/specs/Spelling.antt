@@ -2,6 +2,7 @@
 use Rattle.std.specs.Prelude.{◌≡◌, ℕ, List, [], ◌∷◌, ◌++◌, map, Option, Some, None, Bool, true, false}
 use Rattle.c_tree.specs.declared.token.TokenKind.{TokenKind}
 use Rattle.c_tree.specs.declared.token.TokenKind.TheVariants as kinds
+use Rattle.c_tree.specs.declared.pragma.Pragma.{Pragma}
 use Rattle.c_tree.specs.declared.expression.Specifier.{Specifier}
 use Rattle.c_tree.specs.declared.expression.Specifier.TheVariants as specifiers
 use Rattle.c_tree.specs.declared.expression.PostfixOperator.{PostfixOperator}
@@ -14,7 +15,7 @@ use Rattle.c_tree.specs.declared.expression.AssignOperator.{AssignOperator}
 use Rattle.c_tree.specs.declared.expression.AssignOperator.TheVariants as assign
 use Rattle.c_tree.specs.Said as lexemes
 use Rattle.c_tree.specs.Said.{Lexeme, Plain, TokenList, said}
-use Rattle.c_tree.specs.Tree.{Row, Nothing, Then, Expr, Number, Character, Name, Paren, Index, Call, Postfix, Prefix, Cast, Binary, Conditional, Assign, Exprs, NoExpr, AndExpr, Shape, Scalar, Unsized, Sized, Initial, Absent, Value, Listed, Object, Declared, Param, Parameter, Declaration, Objects, Prototype, Noted, Note, Label, Case, Default, ForStart, NoStart, StartValue, StartDeclaration, Statement, Block, Empty, Evaluate, Marker, If, IfElse, While, Do, For, Switch, Break, Continue, Return, Items, NoItem, AndDeclaration, AndStatement, AndRestriction, AndLabel, External, Restriction, Declaring, Function, TranslationUnit, Whole}
+use Rattle.c_tree.specs.Tree.{Row, Nothing, Then, Expr, Number, Character, Name, Paren, Index, Call, Postfix, Prefix, Cast, Binary, Conditional, Assign, Exprs, NoExpr, AndExpr, Shape, Scalar, Unsized, Sized, Initial, Absent, Value, Listed, Object, Declared, Param, Parameter, Declaration, Objects, Prototype, Label, Case, Default, ForStart, NoStart, StartValue, StartDeclaration, Statement, Block, Empty, Evaluate, Marker, If, IfElse, While, Do, For, Switch, Break, Continue, Return, Items, NoItem, AndDeclaration, AndStatement, AndRestriction, AndLabel, External, Restriction, Declaring, Function, TranslationUnit, Whole}
 
 -- what a token says, and where
 pub record Spoken : Type 0 where
@@ -28,6 +29,10 @@ spoken tokens = map (λ token. record { said = said tokens.source token; at = to
 pub data Mark : Type 0 where
   Kept : (said : Lexeme) (at : ℕ) → Mark
   Free : (said : Lexeme) → Mark
+
+abbrev pub mark_said : Mark → Lexeme
+mark_said (Kept said at) = said
+mark_said (Free said) = said
 
 abbrev pub Fits : Mark → Spoken → Type 0
 Fits (Kept said at) token = token ≡ record { said = said; at = at }
@@ -173,12 +178,12 @@ abbrev pub spell_declaration : Declaration (List ℕ) → List Mark
 spell_declaration (Objects specifiers objects at) = spell_specifiers specifiers at ++ (spell_row spell_object objects ++ free kinds.Semicolon ∷ [])
 spell_declaration (Prototype specifiers name params at) = spell_specifiers specifiers at ++ Free (lexemes.Name name) ∷ free kinds.LeftParen ∷ (spell_row spell_param params ++ free kinds.RightParen ∷ free kinds.Semicolon ∷ [])
 
-abbrev pub spell_note : TokenKind → Noted → List Mark
-spell_note kind (Note bytes at) = Kept (lexemes.Pragma kind bytes) at ∷ []
+abbrev pub spell_pragma : TokenKind → Pragma → List Mark
+spell_pragma kind pragma = Kept (lexemes.Pragma kind pragma.text) pragma.at ∷ []
 
-abbrev pub spell_bound : Option Noted → List Mark
+abbrev pub spell_bound : Option Pragma → List Mark
 spell_bound None = []
-spell_bound (Some bound) = spell_note kinds.LoopBound bound
+spell_bound (Some bound) = spell_pragma kinds.LoopBound bound
 
 abbrev pub spell_label : Label (List ℕ) → List Mark
 spell_label (Case value at) = kept kinds.Case at ∷ (spell value ++ free kinds.Colon ∷ [])
@@ -198,7 +203,7 @@ abbrev mutual
   spell_statement (Block items at) = kept kinds.LeftBrace at ∷ (spell_items items ++ free kinds.RightBrace ∷ [])
   spell_statement (Empty at) = kept kinds.Semicolon at ∷ []
   spell_statement (Evaluate value at) = spell value ++ free kinds.Semicolon ∷ []
-  spell_statement (Marker bytes at) = Kept (lexemes.Pragma kinds.Marker bytes) at ∷ []
+  spell_statement (Marker pragma) = spell_pragma kinds.Marker pragma
   spell_statement (If test first at) = kept kinds.If at ∷ spell_test test (spell_statement first)
   spell_statement (IfElse test first second at) = kept kinds.If at ∷ spell_test test (spell_statement first ++ free kinds.Else ∷ spell_statement second)
   spell_statement (While bound test body at) = spell_bound bound ++ kept kinds.While at ∷ spell_test test (spell_statement body)
@@ -213,11 +218,11 @@ abbrev mutual
   spell_items NoItem = []
   spell_items (AndDeclaration front declaration) = spell_items front ++ spell_declaration declaration
   spell_items (AndStatement front statement) = spell_items front ++ spell_statement statement
-  spell_items (AndRestriction front restriction) = spell_items front ++ spell_note kinds.FlowRestriction restriction
+  spell_items (AndRestriction front pragma) = spell_items front ++ spell_pragma kinds.FlowRestriction pragma
   spell_items (AndLabel front label) = spell_items front ++ spell_label label
 
 abbrev pub spell_external : External (List ℕ) → List Mark
-spell_external (Restriction restriction) = spell_note kinds.FlowRestriction restriction
+spell_external (Restriction pragma) = spell_pragma kinds.FlowRestriction pragma
 spell_external (Declaring declaration) = spell_declaration declaration
 spell_external (Function specifiers name name_at params body body_at at) = spell_specifiers specifiers at ++ Kept (lexemes.Name name) name_at ∷ free kinds.LeftParen ∷ (spell_row spell_param params ++ free kinds.RightParen ∷ spell_statement (Block body body_at))
 

@@ -1,6 +1,7 @@
 -- Syntax trees, over any kind of name (C11 6.5 to 6.9).
 use Rattle.std.specs.Prelude.{ℕ, List, Option, Bool}
 use Rattle.c_tree.specs.declared.token.Constant.{Constant}
+use Rattle.c_tree.specs.declared.pragma.Pragma.{Pragma}
 use Rattle.c_tree.specs.declared.expression.Specifier.{Specifier}
 use Rattle.c_tree.specs.declared.expression.PostfixOperator.{PostfixOperator}
 use Rattle.c_tree.specs.declared.expression.PrefixOperator.{PrefixOperator}
@@ -54,10 +55,6 @@ pub data Declaration (N : Type 0) : Type 0 where
   Objects : (specifiers : List Specifier) (objects : Row (Object N)) (at : ℕ) → Declaration N
   Prototype : (specifiers : List Specifier) (name : N) (params : Row (Param N)) (at : ℕ) → Declaration N
 
--- the text of a pragma, and its place
-pub data Noted : Type 0 where
-  Note : (bytes : List ℕ) (at : ℕ) → Noted
-
 pub data Label (N : Type 0) : Type 0 where
   Case : (value : Expr N) (at : ℕ) → Label N
   Default : (at : ℕ) → Label N
@@ -74,12 +71,12 @@ mutual
     Block : (items : Items N) (at : ℕ) → Statement N
     Empty : (at : ℕ) → Statement N
     Evaluate : (value : Expr N) (at : ℕ) → Statement N
-    Marker : (bytes : List ℕ) (at : ℕ) → Statement N
+    Marker : (pragma : Pragma) → Statement N
     If : (test : Expr N) (first : Statement N) (at : ℕ) → Statement N
     IfElse : (test : Expr N) (first second : Statement N) (at : ℕ) → Statement N
-    While : (bound : Option Noted) (test : Expr N) (body : Statement N) (at : ℕ) → Statement N
-    Do : (bound : Option Noted) (body : Statement N) (test : Expr N) (at : ℕ) → Statement N
-    For : (bound : Option Noted) (start : ForStart N) (test step : Option (Expr N)) (body : Statement N) (at : ℕ) → Statement N
+    While : (bound : Option Pragma) (test : Expr N) (body : Statement N) (at : ℕ) → Statement N
+    Do : (bound : Option Pragma) (body : Statement N) (test : Expr N) (at : ℕ) → Statement N
+    For : (bound : Option Pragma) (start : ForStart N) (test step : Option (Expr N)) (body : Statement N) (at : ℕ) → Statement N
     Switch : (test : Expr N) (items : Items N) (at : ℕ) → Statement N
     Break : (at : ℕ) → Statement N
     Continue : (at : ℕ) → Statement N
@@ -90,12 +87,12 @@ mutual
     NoItem : Items N
     AndDeclaration : (front : Items N) (declaration : Declaration N) → Items N
     AndStatement : (front : Items N) (statement : Statement N) → Items N
-    AndRestriction : (front : Items N) (restriction : Noted) → Items N
+    AndRestriction : (front : Items N) (pragma : Pragma) → Items N
     AndLabel : (front : Items N) (label : Label N) → Items N
 
 -- what stands at file level
 pub data External (N : Type 0) : Type 0 where
-  Restriction : (restriction : Noted) → External N
+  Restriction : (pragma : Pragma) → External N
   Declaring : (declaration : Declaration N) → External N
   Function : (specifiers : List Specifier) (name : N) (name_at : ℕ) (params : Row (Param N)) (body : Items N) (body_at at : ℕ) → External N
 

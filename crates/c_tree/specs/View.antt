@@ -10,8 +10,6 @@ use Rattle.c_tree.specs.declared.declaration.Param as params
 use Rattle.c_tree.specs.declared.declaration.Declaration as declarations
 use Rattle.c_tree.specs.declared.declaration.Declaration.TheVariants as declaration
 use Rattle.c_tree.specs.declared.expression.NameId.{NameId}
-use Rattle.c_tree.specs.declared.statement.Restriction as restrictions
-use Rattle.c_tree.specs.declared.statement.LoopBound as bounds
 use Rattle.c_tree.specs.declared.statement.Label as labels
 use Rattle.c_tree.specs.declared.statement.Label.TheVariants as label
 use Rattle.c_tree.specs.declared.statement.ForStart as starts
@@ -21,7 +19,7 @@ use Rattle.c_tree.specs.declared.statement.Statement as statements
 use Rattle.c_tree.specs.declared.external.Function as functions
 use Rattle.c_tree.specs.declared.external.External as externals
 use Rattle.c_tree.specs.declared.external.External.TheVariants as external
-use Rattle.c_tree.specs.Tree.{Row, Nothing, Then, Expr, Number, Character, Name, Paren, Index, Call, Postfix, Prefix, Cast, Binary, Conditional, Assign, Exprs, NoExpr, AndExpr, Shape, Scalar, Unsized, Sized, Initial, Absent, Value, Listed, Object, Declared, Param, Parameter, Declaration, Objects, Prototype, Noted, Note, Label, Case, Default, ForStart, NoStart, StartValue, StartDeclaration, Statement, Block, Empty, Evaluate, Marker, If, IfElse, While, Do, For, Switch, Break, Continue, Return, Items, NoItem, AndDeclaration, AndStatement, AndRestriction, AndLabel, External, Restriction, Declaring, Function, TranslationUnit, Whole}
+use Rattle.c_tree.specs.Tree.{Row, Nothing, Then, Expr, Number, Character, Name, Paren, Index, Call, Postfix, Prefix, Cast, Binary, Conditional, Assign, Exprs, NoExpr, AndExpr, Shape, Scalar, Unsized, Sized, Initial, Absent, Value, Listed, Object, Declared, Param, Parameter, Declaration, Objects, Prototype, Label, Case, Default, ForStart, NoStart, StartValue, StartDeclaration, Statement, Block, Empty, Evaluate, Marker, If, IfElse, While, Do, For, Switch, Break, Continue, Return, Items, NoItem, AndDeclaration, AndStatement, AndRestriction, AndLabel, External, Restriction, Declaring, Function, TranslationUnit, Whole}
 use Rattle.c_tree.specs.Named.{map_option}
 use Rattle.c_tree.specs.Size.{leaf, size_declaration, size_label, size_statement}
 use Rattle.c_tree.specs.declared.size.Size.{Size}
@@ -77,12 +75,6 @@ abbrev pub declaration_of : declarations.Declaration → Declaration ℕ
 declaration_of (declaration.Objects specifiers objects at) = Objects specifiers.items (row_of object_of Nothing objects.items) at
 declaration_of (declaration.Prototype specifiers name params at) = Prototype specifiers.items name.0 (row_of param_of Nothing params.items) at
 
-abbrev pub restriction_of : restrictions.Restriction → Noted
-restriction_of restriction = Note restriction.text restriction.at
-
-abbrev pub bound_of : bounds.LoopBound → Noted
-bound_of bound = Note bound.text bound.at
-
 abbrev pub label_of : labels.Label → Label ℕ
 label_of (label.Case value at) = Case (expr_of value) at
 label_of (label.Default at) = Default at
@@ -97,12 +89,12 @@ abbrev mutual
   statement_of (statements.Block' shape items at) = Block (items_row NoItem items) at
   statement_of (statements.Empty at) = Empty at
   statement_of (statements.Expression value at) = Evaluate (expr_of value) at
-  statement_of (statements.Marker text at) = Marker text at
+  statement_of (statements.Marker pragma) = Marker pragma
   statement_of (statements.If' test p first at) = If (expr_of test) (statement_of first) at
   statement_of (statements.IfElse' test p first q second at) = IfElse (expr_of test) (statement_of first) (statement_of second) at
-  statement_of (statements.While' bound test p body at) = While (map_option bound_of bound) (expr_of test) (statement_of body) at
-  statement_of (statements.Do' bound p body test at) = Do (map_option bound_of bound) (statement_of body) (expr_of test) at
-  statement_of (statements.For' bound start test step p body at) = For (map_option bound_of bound) (start_of start) (map_option expr_of test) (map_option expr_of step) (statement_of body) at
+  statement_of (statements.While' bound test p body at) = While bound (expr_of test) (statement_of body) at
+  statement_of (statements.Do' bound p body test at) = Do bound (statement_of body) (expr_of test) at
+  statement_of (statements.For' bound start test step p body at) = For bound (start_of start) (map_option expr_of test) (map_option expr_of step) (statement_of body) at
   statement_of (statements.Switch' test shape items at) = Switch (expr_of test) (items_row NoItem items) at
   statement_of (statements.Break at) = Break at
   statement_of (statements.Continue at) = Continue at
@@ -112,7 +104,7 @@ abbrev mutual
   pub and_item : Items ℕ → items.Item → Items ℕ
   and_item front (items.Declaration declaration) = AndDeclaration front (declaration_of declaration)
   and_item front (items.Statement statement) = AndStatement front (statement_of statement)
-  and_item front (items.Restriction restriction) = AndRestriction front (restriction_of restriction)
+  and_item front (items.Restriction pragma) = AndRestriction front pragma
   and_item front (items.Label label) = AndLabel front (label_of label)
 
   pub items_row : Items ℕ → {m : _} → statements.Row_of-Item m → Items ℕ
@@ -128,14 +120,14 @@ items_of front (item ∷ rest) = items_of (and_item front item) rest
 abbrev pub item_size : items.Item → Size
 item_size (items.Declaration declaration) = size_declaration (declaration_of declaration)
 item_size (items.Statement statement) = size_statement (statement_of statement)
-item_size (items.Restriction restriction) = leaf
+item_size (items.Restriction pragma) = leaf
 item_size (items.Label label) = size_label (label_of label)
 
 abbrev pub function_of : functions.Function → External ℕ
 function_of function = Function function.specifiers.items function.name.0 function.name_at (row_of param_of Nothing function.params.items) (items_of NoItem function.body.items) function.body_at function.at
 
 abbrev pub external_of : externals.External → External ℕ
-external_of (external.Restriction restriction) = Restriction (restriction_of restriction)
+external_of (external.Restriction pragma) = Restriction pragma
 external_of (external.Declaration declaration) = Declaring (declaration_of declaration)
 external_of (external.Function function) = function_of function
 

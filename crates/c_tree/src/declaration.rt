@@ -54,3 +54,19 @@ pub enum Declaration {
         at: u32,
     },
 }
+
+impl Declaration {
+    ghost use Rattle.std.specs.Prelude.{◌≡◌};
+    ghost use Rattle.c_tree.specs.Formed.{declaration_place};
+    ghost use Rattle.c_tree.specs.View.{declaration_of};
+
+    /// The place of a declaration: that of its first specifier.
+    pub fn place(&self) -> u32
+        ensures { result ≡ declaration_place (declaration_of self.now) }
+    {
+        match self {
+            Declaration::Objects { at, .. } => *at,
+            Declaration::Prototype { at, .. } => *at,
+        }
+    }
+}

@@ -141,3 +141,41 @@ pub enum Expr {
         at: u32,
     },
 }
+
+impl Expr {
+    ghost use Rattle.std.specs.Prelude.{◌≡◌};
+    ghost use Rattle.c_tree.specs.Formed.{place};
+    ghost use Rattle.c_tree.specs.Tree.{Call, NoExpr};
+    ghost use Rattle.c_tree.specs.View.{expr_of, exprs_of};
+
+    /// A call with these arguments.
+    pub fn call(function: NameId, arguments: Vec<Expr>, at: u32) -> Expr
+        ensures { expr_of result ≡ Call function.0 (exprs_of NoExpr arguments.items) at }
+    {
+        Expr::Call {
+            function,
+            arguments,
+            at,
+        }
+    }
+
+    /// The place of an expression: that of its first token.
+    pub fn place(&self) -> u32
+        ensures { result ≡ place (expr_of self.now) }
+    {
+        match self {
+            Expr::Number { at, .. } => *at,
+            Expr::Character { at, .. } => *at,
+            Expr::Name { at, .. } => *at,
+            Expr::Paren { at, .. } => *at,
+            Expr::Index { at, .. } => *at,
+            Expr::Call { at, .. } => *at,
+            Expr::Postfix { at, .. } => *at,
+            Expr::Prefix { at, .. } => *at,
+            Expr::Cast { at, .. } => *at,
+            Expr::Binary { at, .. } => *at,
+            Expr::Conditional { at, .. } => *at,
+            Expr::Assign { at, .. } => *at,
+        }
+    }
+}

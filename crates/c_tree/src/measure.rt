@@ -164,7 +164,7 @@ fn measure_statement(statement: &Statement) -> Size
         Statement::Block { items, .. } => measure_items(items).over(),
         Statement::Empty { .. } => Size::leaf(),
         Statement::Expression { value, .. } => measure_expr(value).over(),
-        Statement::Marker { .. } => Size::leaf(),
+        Statement::Marker(_) => Size::leaf(),
         Statement::If { test, then, .. } => measure_expr(test)
             .beside(measure_statement(then))
             .over(),

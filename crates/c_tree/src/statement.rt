@@ -1,20 +1,6 @@
 use super::declaration::Declaration;
 use super::expression::Expr;
-use wcc_base::Text;
-
-/// A pragma that restricts the counts of a whole run, at the place of its `#` or `_Pragma`.
-#[derive(Drop)]
-pub struct Restriction {
-    pub text: Text,
-    pub at: u32,
-}
-
-/// The pragma that bounds a loop, at the place of its `#` or `_Pragma`.
-#[derive(Drop)]
-pub struct LoopBound {
-    pub text: Text,
-    pub at: u32,
-}
+use super::pragma::Pragma;
 
 /// A label of a `switch` (C11 6.8.1).
 #[derive(Drop)]
@@ -37,7 +23,8 @@ pub enum ForStart {
 pub enum Item {
     Declaration(Declaration),
     Statement(Statement),
-    Restriction(Restriction),
+    /// A pragma that restricts the counts of a whole run.
+    Restriction(Pragma),
     Label(Label),
 }
 
@@ -57,10 +44,7 @@ pub enum Statement {
         at: u32,
     },
     /// A pragma that counts how often it is reached.
-    Marker {
-        text: Text,
-        at: u32,
-    },
+    Marker(Pragma),
     If {
         test: Expr,
         then: Box<Statement>,
@@ -73,19 +57,19 @@ pub enum Statement {
         at: u32,
     },
     While {
-        bound: Option<LoopBound>,
+        bound: Option<Pragma>,
         test: Expr,
         body: Box<Statement>,
         at: u32,
     },
     Do {
-        bound: Option<LoopBound>,
+        bound: Option<Pragma>,
         body: Box<Statement>,
         test: Expr,
         at: u32,
     },
     For {
-        bound: Option<LoopBound>,
+        bound: Option<Pragma>,
         start: ForStart,
         test: Option<Expr>,
         step: Option<Expr>,
@@ -107,4 +91,24 @@ pub enum Statement {
         value: Option<Expr>,
         at: u32,
     },
+}
+
+impl Statement {
+    ghost use Rattle.std.specs.Prelude.{◌≡◌};
+    ghost use Rattle.c_tree.specs.Tree.{Block, NoItem, Switch};
+    ghost use Rattle.c_tree.specs.View.{expr_of, items_of, statement_of};
+
+    /// A block of these items.
+    pub fn block(items: Vec<Item>, at: u32) -> Statement
+        ensures { statement_of result ≡ Block (items_of NoItem items.items) at }
+    {
+        Statement::Block { items, at }
+    }
+
+    /// A choice among these items.
+    pub fn switch(test: Expr, items: Vec<Item>, at: u32) -> Statement
+        ensures { statement_of result ≡ Switch (expr_of test) (items_of NoItem items.items) at }
+    {
+        Statement::Switch { test, items, at }
+    }
 }

@@ -1,13 +1,13 @@
 -- Names that stand in a list once each, behind what carries their bytes.
-use Rattle.std.proofs.Common.{◌≡◌, ◌≢◌, ℕ, zero, suc, ◌<◌, inl, inr, Bool, true, false, ◌||◌, List, [], ◌∷◌, ◌++◌, map, length, Some, refl, sym, ap, ◌∙◌, arith, true≢false}
-use Rattle.std.specs.Prelude.{slice_get, if◌then◌else◌}
-use Rattle.std.specs.List.{AllByRecursion, IsDistinct, list_any, position_or_len}
+use Rattle.std.proofs.Common.{◌≡◌, ◌≢◌, ℕ, zero, suc, ◌<◌, Bool, true, false, ◌||◌, List, [], ◌∷◌, ◌++◌, map, length, Some, refl, sym, ap, ◌∙◌, arith, true≢false}
+use Rattle.std.specs.Prelude.{nat_eq, slice_get, if◌then◌else◌}
+use Rattle.std.specs.Cmp.Lexicographic.{pointwise}
+use Rattle.std.specs.List.{AllByRecursion, IsDistinct, list_any}
 use Rattle.std.proofs.lemmas.List.{map-append, length-map}
 use Rattle.std.proofs.lemmas.Option.{get_or_from_slice_get, slice_get_within}
 use Rattle.std.proofs.lemmas.Map.Keys.{IsDistinct-head, IsDistinct-tail}
 use Rattle.indexmap.specs.IndexSet.{insert_key}
-use Rattle.c_tree.specs.Named.{name_of, AreDistinct}
-use Rattle.c_words.specs.Numbering.{Adds}
+use Rattle.c_tree.specs.Names.{name_of, with_name, AreDistinct}
 
 module _ {K : Type 0} (bytes : K → List ℕ) where
   -- what stands at a place, with more behind the list
@@ -28,19 +28,15 @@ module _ {K : Type 0} (bytes : K → List ℕ) where
     distinct (first ∷ keys) is zero (suc j) lt within = differs_from first keys j (IsDistinct-head eq first keys is) (omega (arith, within, length-map keys bytes))
     distinct (first ∷ keys) is (suc i) (suc j) lt within = distinct keys (IsDistinct-tail eq first keys is) i j (omega (arith, lt)) (omega (arith, within))
 
-  module _ (test : K → Bool) where
-    last_behind : (key : K) (keys : List K) (passes : Bool) → test key ≡ passes → (list_any test keys ≡ false → position_or_len test keys ≡ length keys) → (test key || list_any test keys) ≡ false → position_or_len test (key ∷ keys) ≡ suc (length keys)
-    last_behind key keys true e behind none = absurd (true≢false (sym (ap (λ t. t || list_any test keys) e) ∙ none))
-    last_behind key keys false e behind none = rw e (omega (arith, behind (sym (ap (λ t. t || list_any test keys) e) ∙ none)))
+  -- a key that a set takes in is a name that the list of names takes in
+  module _ (keys : List K) (key : K) where
+    any_name : (keys : List K) → list_any (λ other. pointwise nat_eq (bytes key) (bytes other)) keys ≡ list_any (pointwise nat_eq (bytes key)) (map bytes keys)
+    any_name [] = refl
+    any_name (first ∷ rest) = ap (λ any. pointwise nat_eq (bytes key) (bytes first) || any) (any_name rest)
 
-    last_place : (keys : List K) → list_any test keys ≡ false → position_or_len test keys ≡ length keys
-    last_place [] none = refl
-    last_place (key ∷ keys) none = last_behind key keys (test key) refl (last_place keys) none
-
-  -- a name that a set takes in stands behind the others, unless it is among them
-  pub adds_key : (eq : K → K → Bool) (keys : List K) (key : K) → Adds (map bytes keys) (map bytes (insert_key eq keys key)) (position_or_len (eq key) keys ≡ length (map bytes keys))
-  adds_key eq keys key = by (list_any (eq key) keys) refl
-    where
-      by : (b : Bool) → list_any (eq key) keys ≡ b → Adds (map bytes keys) (map bytes (if b then keys else keys ++ key ∷ [])) (position_or_len (eq key) keys ≡ length (map bytes keys))
-      by true e = inl refl
-      by false e = inr (bytes key, map-append bytes keys (key ∷ []), last_place (eq key) keys e ∙ sym (length-map keys bytes))
+    pub with_key : map bytes (insert_key (λ x y. pointwise nat_eq (bytes x) (bytes y)) keys key) ≡ with_name (map bytes keys) (bytes key)
+    with_key = by (list_any (λ other. pointwise nat_eq (bytes key) (bytes other)) keys) ∙ ap (λ among. if among then map bytes keys else map bytes keys ++ bytes key ∷ []) (any_name keys)
+      where
+        by : (among : Bool) → map bytes (if among then keys else keys ++ key ∷ []) ≡ (if among then map bytes keys else map bytes keys ++ bytes key ∷ [])
+        by true = refl
+        by false = map-append bytes keys (key ∷ [])

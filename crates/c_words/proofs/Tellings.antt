@@ -1,28 +1,38 @@
 -- Words that say what tokens say, one more at a time.
-use Rattle.std.proofs.Common.{◌≡◌, ℕ, zero, suc, ◌+◌, ◌<◌, ◌≤◌, ◌⊎◌, inl, inr, List, [], ◌∷◌, ◌++◌, map, length, take, sym, ap, subst, ◌∙◌, arith, append_assoc, length-append}
+use Rattle.std.proofs.Common.{◌≡◌, ℕ, zero, suc, ◌+◌, ◌<◌, ◌≤◌, List, [], ◌∷◌, ◌++◌, map, length, take, sym, ap, subst, ◌∙◌, arith, append_assoc, length-append}
 use Rattle.std.specs.Prelude.{slice_index_or}
 use Rattle.std.proofs.lemmas.List.{map-append, take_more, take_all, append-nil, length-map}
 use Rattle.c_tree.specs.declared.token.Token.{Token}
-use Rattle.c_tree.specs.Named.{name_of}
+use Rattle.c_tree.specs.Names.{AreNames, name_of, names_among, names_of_tokens, names_said, with_names}
 use Rattle.c_tree.specs.Said.{said, AreTokens, IsToken, TokenList}
 use Rattle.c_tree.specs.Spelling.{Spoken, spoken}
 use Rattle.c_tree.specs.Said as lexemes
+use Rattle.c_tree.proofs.Names.{names_among-append, tokens_named, with_names-append, with_names-extends}
 use Rattle.c_lexeme.specs.declared.lexeme.Lexeme.{Lexeme}
-use Rattle.c_lexeme.specs.Lexemes.{lexeme_of}
-use Rattle.c_words.specs.declared.word.Word.{Word}
-use Rattle.c_words.specs.Numbering.{Adds}
-use Rattle.c_words.specs.Words.{word_said, IsNumber, IsSaid, AreSaid, Tell}
+use Rattle.c_lexeme.specs.declared.lexeme.Lexeme.TheVariants as variants
+use Rattle.c_lexeme.specs.declared.lexeme.Word.{Word}
+use Rattle.c_lexeme.specs.Lexemes.{lexeme_of, word_said}
+use Rattle.c_words.specs.Words.{AreNumbered, IsNumbered, Tell}
 
-IsSaid-front : (number : ℕ) (words : List Word) (word : Word) → IsSaid number words → IsSaid number (words ++ word ∷ [])
-IsSaid-front number [] word h = absurd h
-IsSaid-front number (first ∷ words) word (inl h) = inl h
-IsSaid-front number (first ∷ words) word (inr h) = inr (IsSaid-front number words word h)
+more_numbers : (n m : ℕ) → n ≤ m → (lexeme : Lexeme) → IsNumbered n lexeme → IsNumbered m lexeme
+more_numbers n m le (variants.Name name) h = omega (arith, le, h)
+more_numbers n m le (variants.Plain kind) h = tt
+more_numbers n m le (variants.Integer constant) h = tt
+more_numbers n m le (variants.Character value) h = tt
+more_numbers n m le (variants.Pragma kind text) h = tt
 
-IsSaid-last : (number : ℕ) (words : List Word) (word : Word) → IsNumber number word.lexeme → IsSaid number (words ++ word ∷ [])
-IsSaid-last number [] word h = inl h
-IsSaid-last number (first ∷ words) word h = inr (IsSaid-last number words word h)
+numbered_push : (n m : ℕ) → n ≤ m → (words : List Word) (word : Word) → AreNumbered n words → IsNumbered m word.lexeme → AreNumbered m (words ++ word ∷ [])
+numbered_push n m le [] word h k = (k, tt)
+numbered_push n m le (first ∷ words) word h k = (more_numbers n m le first.lexeme h.0, numbered_push n m le words word h.1 k)
 
--- the word after these, whose lexeme may be a name more
+names_push : (front : List Spoken) (next : Spoken) → names_of_tokens (front ++ next ∷ []) ≡ with_names (names_of_tokens front) (names_said next.said)
+names_push front next =
+    let says : Spoken → lexemes.Lexeme = λ token. token.said in
+    let all : names_among (map says (front ++ next ∷ [])) ≡ names_among (map says front) ++ names_said next.said =
+    ap names_among (map-append says front (next ∷ [])) ∙ names_among-append (map says front) (next.said ∷ []) ∙ ap (λ names. names_among (map says front) ++ names) (append-nil (names_said next.said)) in
+    ap (with_names []) all ∙ with_names-append [] (names_among (map says front)) (names_said next.said)
+
+-- the word after these, whose lexeme may say names more
 module _ (words : List Word) (names after : List (List ℕ)) (front : List Spoken) (lexeme : Lexeme) (at : ℕ) (says : lexemes.Lexeme) where
   abbrev word : Word
   word = record { lexeme = lexeme; at = at }
@@ -37,29 +47,15 @@ module _ (words : List Word) (names after : List (List ℕ)) (front : List Spoke
       let spoken_so : lexemes.Lexeme → Spoken = λ said. record { said = said; at = at } in
       map-append (word_said (name_of (after ++ more))) words (word ∷ []) ∙ ap (λ said. said ++ word_said (name_of (after ++ more)) word ∷ []) before ∙ ap (λ said. front ++ spoken_so said ∷ []) (same more)
 
-  few_more : (extra : List (List ℕ)) → after ≡ names ++ extra → length extra ≤ 1 → Tell words names front → length after ≤ length (front ++ next ∷ [])
-  few_more extra grown one told = omega (arith, ap length grown, length-append names extra, length-append front (next ∷ []), told.few, one)
-
-  pub tell_more : ((more : List (List ℕ)) → lexeme_of (name_of (after ++ more)) lexeme ≡ says) → Adds names after (IsNumber (length names) lexeme) → Tell words names front → Tell (words ++ record { lexeme = lexeme; at = at } ∷ []) after (front ++ record { said = says; at = at } ∷ [])
-  tell_more named (inl same) told =
-      let grown : after ≡ names ++ [] = same ∙ sym (append-nil names) in
+  pub tell_more : ((more : List (List ℕ)) → lexeme_of (name_of (after ++ more)) lexeme ≡ says) → after ≡ with_names names (names_said says) → IsNumbered (length after) lexeme → Tell words names front → Tell (words ++ record { lexeme = lexeme; at = at } ∷ []) after (front ++ record { said = says; at = at } ∷ [])
+  tell_more named grown numbered told =
+      let extends = with_names-extends names (names_said says) in
+      let longer : after ≡ names ++ extends.0 = grown ∙ extends.1 in
       record {
-        said = said_more [] grown named told;
-        used = λ number lt. IsSaid-front number words word (told.used number (omega (arith, lt, ap length same)));
-        few = few_more [] grown (omega arith) told;
+        said = said_more extends.0 longer named told;
+        numbered = numbered_push (length names) (length after) (omega (arith, ap length longer, length-append names extends.0)) words word told.numbered numbered;
+        named = grown ∙ ap (λ names. with_names names (names_said says)) told.named ∙ sym (names_push front next);
       }
-  tell_more named (inr (name, grown, new)) told = record {
-    said = said_more (name ∷ []) grown named told;
-    used = λ number lt. used number (order number (omega (arith, lt, ap length grown, length-append names (name ∷ []))));
-    few = few_more (name ∷ []) grown (omega arith) told;
-  }
-    where
-      order : (number : ℕ) → number < length names + 1 → (number < length names) ⊎ (length names ≡ number)
-      order number lt = grind arith
-
-      used : (number : ℕ) → (number < length names) ⊎ (length names ≡ number) → IsSaid number (words ++ word ∷ [])
-      used number (inl lt) = IsSaid-front number words word (told.used number lt)
-      used number (inr e) = IsSaid-last number words word (subst (λ number. IsNumber number lexeme) e new)
 
 pub token_at : (source : List ℕ) (tokens : List Token) (place : ℕ) (other : Token) → AreTokens source tokens → place < length tokens → IsToken (slice_index_or tokens place other).kind source (slice_index_or tokens place other).at (slice_index_or tokens place other).end
 token_at source [] place other are lt = absurd (omega (arith, lt))
@@ -73,16 +69,23 @@ spoken_more source tokens place other lt =
     ap (map says) (take_more tokens place other lt) ∙ map-append says (take place tokens) (slice_index_or tokens place other ∷ [])
 
 -- what the words say once the tokens are at their end, with all names in a list of their own
-module _ (words : List Word) (names all : List (List ℕ)) (source : List ℕ) (tokens : List Token) (place : ℕ) (whole : TokenList) (same : all ≡ names) (told : Tell words names (spoken (record { source = source; list = take place tokens }))) where
-  pub told_all : length tokens ≤ place → source ≡ whole.source → tokens ≡ whole.list → map (word_said (name_of all)) words ≡ spoken whole
-  told_all end same_source same_list =
-      ap (λ names. map (word_said (name_of names)) words) (same ∙ sym (append-nil names))
-      ∙ told.said []
-      ∙ ap (λ tokens. spoken (record { source = source; list = tokens })) (take_all place tokens end)
-      ∙ (λ j. spoken (record { source = same_source j; list = same_list j }))
+module _ (words : List Word) (names all : List (List ℕ)) (source : List ℕ) (tokens : List Token) (place : ℕ) (whole : TokenList) (same : all ≡ names) (told : Tell words names (spoken (record { source = source; list = take place tokens }))) (end : length tokens ≤ place) (same_source : source ≡ whole.source) (same_list : tokens ≡ whole.list) where
+  all_spoken : spoken (record { source = source; list = take place tokens }) ≡ spoken whole
+  all_spoken = ap (λ tokens. spoken (record { source = source; list = tokens })) (take_all place tokens end) ∙ (λ j. spoken (record { source = same_source j; list = same_list j }))
 
-  pub all_used : AreSaid (length all) words
-  all_used number lt = told.used number (subst (λ names. number < length names) same lt)
+  pub told_all : map (word_said (name_of all)) words ≡ spoken whole
+  told_all = ap (λ names. map (word_said (name_of names)) words) (same ∙ sym (append-nil names)) ∙ told.said [] ∙ all_spoken
+
+  pub all_numbered : AreNumbered (length all) words
+  all_numbered = subst (λ names. AreNumbered (length names) words) (sym same) told.numbered
+
+  pub all_named : all ≡ names_of_tokens (spoken whole)
+  all_named = same ∙ told.named ∙ ap names_of_tokens all_spoken
+
+  pub all_formed : AreTokens source tokens → AreNames all
+  all_formed are =
+      let from_source : names_of_tokens (spoken (record { source = source; list = tokens })) ≡ names_of_tokens (spoken whole) = (λ j. names_of_tokens (spoken (record { source = same_source j; list = same_list j }))) in
+      subst AreNames (from_source ∙ sym all_named) (tokens_named source tokens are)
 
 -- there are as many words as tokens
 pub few_words : (words : List Word) (f : ℕ → List ℕ) (tokens : TokenList) → map (word_said f) words ≡ spoken tokens → (list : List Token) → list ≡ tokens.list → length list ≤ 1048576 → length words ≤ 1048576

@@ -1,3 +1,1 @@
-pub mod Blanks
-pub mod Numbering
 pub mod Words

@@ -1,8 +1,10 @@
 // The names of a source, each by a number.
-ghost use Rattle.std.specs.Prelude.{◌≡◌, ◌<◌, ℕ, List, [], ◌++◌, length, IfOk};
-ghost use Rattle.c_tree.specs.Named.{name_of, AreDistinct};
-ghost use Rattle.c_words.specs.Numbering.{Adds};
+ghost use Rattle.std.specs.Prelude.{◌≡◌, ◌<◌, ◌↔◌, ℕ, List, [], ◌++◌, length, IfOk, OnOk};
+ghost use Rattle.c_tree.specs.Bytes.{is_letter, is_name_byte};
+ghost use Rattle.c_tree.specs.Names.{name_of, with_name, with_names, AreDistinct};
+ghost use Rattle.c_tree.specs.Pragmas.{names_in, with_run};
 
+use c_pragma::behind_first_word;
 use c_tree::expression::NameId;
 use indexmap::IndexSet;
 use std::alloc::{AllocError, Global};
@@ -23,6 +25,17 @@ impl<'a> Model for Numbering<'a> {
     ghost view = { λ names. map (λ name. name.now) names.set.keys };
 }
 
+/// The number of the name at this place. That it has none counts as want of memory, since so many
+/// names are more than memory holds.
+fn id_of(index: usize) -> Result<NameId, AllocError>
+    ensures { IfOk result (λ id. id.0 ≡ index) }
+{
+    match u32::try_from(index) {
+        Ok(number) => Ok(NameId(number)),
+        Err(_) => Err(AllocError),
+    }
+}
+
 impl<'a> Numbering<'a> {
     /// No name yet.
     pub fn new(alloc: Global) -> Numbering<'a>
@@ -35,12 +48,13 @@ impl<'a> Numbering<'a> {
 
     /// The number of a name, which it keeps whatever names come behind it.
     pub fn number(&mut self, name: &'a [u8]) -> Result<NameId, AllocError>
-        requires room { length self.old < 1048576 }
+        ensures names { OnOk result (self.new ≡ with_name self.old name.now) }
         ensures named { IfOk result (λ id. (more : List (List ℕ)) → name_of (self.new ++ more) id.0 ≡ name.now) }
-        ensures adds { IfOk result (λ id. Adds self.old self.new (id.0 ≡ length self.old)) }
+        ensures within { IfOk result (λ id. id.0 < length self.new) }
     {
         let (index, _) = self.set.insert_full(name)?;
-        Ok(NameId(index as u32))
+        let id = id_of(index)?;
+        Ok(id)
     }
 
     /// The names, in the order of their numbers.
@@ -55,4 +69,41 @@ impl<'a> Numbering<'a> {
         }
         Ok(names)
     }
+}
+
+fn is_letter(b: u8) -> bool
+    ensures { result ≡ is_letter b }
+{
+    matches!(b, b'A'..=b'Z' | b'a'..=b'z' | b'_')
+}
+
+fn is_name_byte(b: u8) -> bool
+    ensures { result ≡ is_name_byte b }
+{
+    is_letter(b) || b.is_ascii_digit()
+}
+
+/// Numbers a run of letters and digits, where it is a name.
+fn number_run<'a>(names: &mut Numbering<'a>, run: &'a [u8]) -> Result<(), AllocError>
+    ensures { OnOk result (names.new ≡ with_names names.old (with_run run.now [])) }
+{
+    if !run.is_empty() && is_letter(run[0]) {
+        names.number(run)?;
+    }
+    Ok(())
+}
+
+/// Numbers the names in the text of a marker or of a restriction.
+pub fn number_text<'a>(names: &mut Numbering<'a>, text: &'a [u8]) -> Result<(), AllocError>
+    ensures { OnOk result (names.new ≡ with_names names.old (names_in text.now)) }
+{
+    let rest = behind_first_word(text);
+    let mut from = 0;
+    for at in 0..rest.len() {
+        if !is_name_byte(rest[at]) {
+            number_run(names, &rest[from..at])?;
+            from = at + 1;
+        }
+    }
+    number_run(names, &rest[from..])
 }

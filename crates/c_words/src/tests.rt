@@ -1,9 +1,9 @@
 // Sources and what C says of their tokens.
 ghost use Rattle.std.specs.Prelude.{◌≡◌};
 
-use super::pragma::text;
 use super::read_words;
 use c_lexeme::Lexeme;
+use c_pragma::text;
 use c_tree::token::{Token, TokenKind};
 use c_tree::tokens::Tokens;
 use std::test::Fail;

@@ -1,29 +1,21 @@
 // The words of a source.
 ghost use Rattle.std.specs.Prelude.{◌≡◌, ◌<◌, ◌≤◌, ℕ, List, [], ◌∷◌, ◌++◌, map, length, IfOk, OnOk};
-ghost use Rattle.c_tree.specs.Named.{name_of, AreDistinct};
-ghost use Rattle.c_tree.specs.Pragmas.{pragma_text};
+ghost use Rattle.c_tree.specs.Names.{name_of, names_of_tokens, names_said, with_names, AreDistinct, AreNames};
+ghost use Rattle.c_tree.specs.Pragmas.{names_in, pragma_text};
 ghost use Rattle.c_tree.specs.Said as lexemes;
 ghost use Rattle.c_tree.specs.Said.{said, IsToken};
 ghost use Rattle.c_tree.specs.Spelling.{spoken, Spoken};
-ghost use Rattle.c_lexeme.specs.Lexemes.{lexeme_of};
-ghost use Rattle.c_words.specs.Numbering.{Adds};
-ghost use Rattle.c_words.specs.Words.{word_said, AreSaid, IsNumber, Tell};
+ghost use Rattle.c_lexeme.specs.Lexemes.{lexeme_of, word_said};
+ghost use Rattle.c_words.specs.Words.{AreNumbered, IsNumbered, Tell};
 
-use crate::numbering::Numbering;
-use crate::pragma::text;
+use crate::numbering::{Numbering, number_text};
 use c_constant::{character, integer};
-use c_lexeme::Lexeme;
+use c_lexeme::{Lexeme, Word};
+use c_pragma::text;
 use c_tree::token::{Token, TokenKind};
 use c_tree::tokens::Tokens;
 use std::alloc::{AllocError, Global};
 use wcc_base::Text;
-
-/// What a token says, and its place.
-#[derive(Drop)]
-pub struct Word {
-    pub lexeme: Lexeme,
-    pub at: u32,
-}
 
 /// What the tokens of a source say, in order, and the names that stand in them, each once.
 #[derive(Drop)]
@@ -32,14 +24,25 @@ pub struct Words {
     pub names: Vec<Text>,
 }
 
-/// A pragma of this kind.
-fn pragma(alloc: Global, source: &[u8], token: Token) -> Result<Lexeme, AllocError>
-    requires some { token.at < token.end }
-    requires within { token.end ≤ length source.now }
-    ensures { IfOk result (λ lexeme. (f : ℕ → List ℕ) → lexeme_of f lexeme ≡ lexemes.Pragma token.kind (pragma_text source.now token.at token.end)) }
+/// A pragma of this kind and text.
+fn pragma(alloc: Global, kind: TokenKind, text: &[u8]) -> Result<Lexeme, AllocError>
+    ensures { IfOk result (λ lexeme. lexeme ≡ Lexeme.Pragma kind text.now) }
 {
-    let bytes = text(source, token.at as usize, token.end as usize).to_vec(alloc)?;
-    Ok(Lexeme::Pragma(token.kind, Text::new(bytes)))
+    Ok(Lexeme::Pragma(kind, Text::new(text.to_vec(alloc)?)))
+}
+
+/// A marker or a restriction, whose names are numbered too.
+fn naming_pragma<'a>(
+    alloc: Global,
+    kind: TokenKind,
+    text: &'a [u8],
+    names: &mut Numbering<'a>,
+) -> Result<Lexeme, AllocError>
+    ensures names { OnOk result (names.new ≡ with_names names.old (names_in text.now)) }
+    ensures said { IfOk result (λ lexeme. lexeme ≡ Lexeme.Pragma kind text.now) }
+{
+    number_text(names, text)?;
+    pragma(alloc, kind, text)
 }
 
 /// What a token says.
@@ -49,10 +52,10 @@ fn lexeme<'a>(
     token: Token,
     names: &mut Numbering<'a>,
 ) -> Result<Lexeme, AllocError>
-    requires formed { IsToken token.kind source.now token.at token.end }
-    requires room { length names.old < 1048576 }
+    requires { IsToken token.kind source.now token.at token.end }
     ensures said { IfOk result (λ lexeme. (more : List (List ℕ)) → lexeme_of (name_of (names.new ++ more)) lexeme ≡ said source.now token) }
-    ensures adds { IfOk result (λ lexeme. Adds names.old names.new (IsNumber (length names.old) lexeme)) }
+    ensures names { OnOk result (names.new ≡ with_names names.old (names_said (said source.now token))) }
+    ensures numbered { IfOk result (λ lexeme. IsNumbered (length names.new) lexeme) }
 {
     let at = token.at as usize;
     let end = token.end as usize;
@@ -63,8 +66,9 @@ fn lexeme<'a>(
         }
         TokenKind::Number => Ok(Lexeme::Integer(integer(source, at, end))),
         TokenKind::Character => Ok(Lexeme::Character(character(source, at, end - 1))),
-        TokenKind::LoopBound | TokenKind::Marker | TokenKind::FlowRestriction => {
-            pragma(alloc, source, token)
+        TokenKind::LoopBound => pragma(alloc, token.kind, text(source, at, end)),
+        TokenKind::Marker | TokenKind::FlowRestriction => {
+            naming_pragma(alloc, token.kind, text(source, at, end), names)
         }
         kind => Ok(Lexeme::Plain(kind)),
     }
@@ -78,8 +82,7 @@ fn say<'a>(
     names: &mut Numbering<'a>,
     list: &mut Vec<Word>,
 ) -> Result<(), AllocError>
-    requires formed { IsToken token.kind source.now token.at token.end }
-    requires room { length names.old < 1048576 }
+    requires { IsToken token.kind source.now token.at token.end }
     ensures { OnOk result ((front : List Spoken) → Tell list.old.items names.old front → Tell list.new.items names.new (front ++ record { said = said source.now token; at = token.at } ∷ [])) }
 {
     let lexeme = lexeme(alloc, source, token, names)?;
@@ -92,10 +95,12 @@ fn say<'a>(
 
 /// What the tokens say. The only error is want of memory.
 pub fn read_words(alloc: Global, tokens: &Tokens) -> Result<Words, AllocError>
-    ensures ok { IfOk result (λ w. map (word_said (name_of w.names.items)) w.list.items ≡ spoken tokens.now) }
-    ensures distinct { IfOk result (λ w. AreDistinct w.names.items) }
-    ensures used { IfOk result (λ w. AreSaid (length w.names.items) w.list.items) }
+    ensures said { IfOk result (λ w. map (word_said (name_of w.names.items)) w.list.items ≡ spoken tokens.now) }
     ensures few { IfOk result (λ w. length w.list.items ≤ 1048576) }
+    ensures numbered { IfOk result (λ w. AreNumbered (length w.names.items) w.list.items) }
+    ensures names { IfOk result (λ w. w.names.items ≡ names_of_tokens (spoken tokens.now)) }
+    ensures distinct { IfOk result (λ w. AreDistinct w.names.items) }
+    ensures formed { IfOk result (λ w. AreNames w.names.items) }
 {
     let source = tokens.source();
     let spans = tokens.list();

@@ -121,7 +121,7 @@ const UNITS: [(&str, &str); 35] = [
 const NAMES: [(&str, usize); 6] = [
     ("int x;", 1),
     ("int x,y,x;", 2),
-    ("_Pragma(\"flowrestriction 1*a <= 1*b\")", 0),
+    ("_Pragma(\"flowrestriction 1*a <= 1*b\")", 2),
     ("int f(int x){return g(x)+f(y[x]);}", 4),
     ("int a[2]={a,b};int b;", 2),
     ("void f(void);void f(int f){f=F;}", 2),

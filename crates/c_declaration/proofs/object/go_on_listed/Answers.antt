@@ -1,8 +1,7 @@
 use Rattle.std.proofs.Common.{rules, subst}
 use Rattle.c_begun.specs.View.{Gives}
-use Rattle.c_begun.proofs.Passing.{gives_any}
 use Rattle.c_declaration.proofs.Begins.{next_begins}
 use Rattle.c_declaration.proofs.object.go_on_listed.Goals as goal
 
 pub returns-in_default : goal.returns-in_default
-returns-in_default c f = gives_any f _ _ _ (subst (λ moved. Gives f c.begin_operand.result moved 0) (next_begins _ _ _ _ _ _ _ (search rules)) (c.begin_operand.ensures f))
+returns-in_default c f = subst (λ moved. Gives f c.begin_operand.result moved) (next_begins _ _ _ _ _ _ _ (search rules)) (c.begin_operand.ensures f)

@@ -7,4 +7,7 @@ use Rattle.c_declaration.proofs.Begins.{param_opens}
 use Rattle.c_declaration.proofs.parameter.begin_params.Goals as goal
 
 pub returns-in_default : goal.returns-in_default
-returns-in_default c f = subst (λ moved. Gives f c.begin_param.result moved 0) (param_opens _ _ _ (search rules)) (subst (λ row. Gives f c.begin_param.result (param_begins (specifier_of (lexeme_of f c.args.lexeme)) c.args.here (proto_of f c.args.proto) (map_row (named_param f) row)) 0) c.no_params-in_default.ensures (c.begin_param.ensures f))
+returns-in_default c f =
+    let word = c.args.word in
+    let begun = subst (λ row. Gives f c.begin_param.result (param_begins (specifier_of (lexeme_of f word.lexeme)) word.at (proto_of f c.args.proto) (map_row (named_param f) row))) c.no_params-in_default.ensures (c.begin_param.ensures f) in
+    subst (λ moved. Gives f c.begin_param.result moved) (param_opens _ _ _ (search rules)) begun

@@ -3,4 +3,4 @@ use Rattle.c_lexer.proofs.Longest.{longest_comment}
 use Rattle.c_lexer.proofs.cut.comment.Goals as goal
 
 pub returns : goal.returns
-returns c = record { longest = longest_comment _ _ _ _ c.requires; kind = refl; line = c.fresh_behind_comment.ensures }
+returns c = record { longest = longest_comment _ _ _ _ c.requires; kind = refl; line = refl }

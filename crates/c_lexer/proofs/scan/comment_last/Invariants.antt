@@ -1,5 +1,5 @@
 use Rattle.std.proofs.Common.{ℕ, ◌<◌, ◌≤◌}
-use Rattle.c_lexer.specs.Spacing.{EndsComment}
+use Rattle.c_lexer.specs.Comments.{EndsComment}
 use Rattle.c_lexer.proofs.scan.comment_last.Given as goal
 
 abbrev pub invariant-loop-last : goal.invariant-loop-last

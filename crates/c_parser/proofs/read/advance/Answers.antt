@@ -1,10 +1,12 @@
-use Rattle.std.proofs.Common.{arith, refl}
+use Rattle.std.proofs.Common.{refl}
 use Rattle.c_begun.specs.View.{state_of}
-use Rattle.c_parser.proofs.Giving.{deeper, too_deep}
+use Rattle.c_depth.proofs.Knowns.{nameless, known_next}
+use Rattle.c_lexeme.specs.Lexemes.{word_said}
+use Rattle.c_parser.proofs.Giving.{deeper}
 use Rattle.c_parser.proofs.read.advance.Goals as goal
 
-pub returns-else-is_shallow-clause-err : goal.returns-else-is_shallow-clause-err
-returns-else-is_shallow-clause-err c f = (refl, state_of f c.in-Ok.next, c.in-Ok.ensures f, deeper _ (c.if-is_shallow.ensures f).1)
+pub is_shallow-requires : goal.is_shallow-requires
+is_shallow-requires c = record { known = known_next nameless c.args.state c.in-Ok.next (word_said nameless c.args.word) c.requires (c.in-Ok.ensures nameless) }
 
-pub returns-in-Err-Deep-clause-err : goal.returns-in-Err-Deep-clause-err
-returns-in-Err-Deep-clause-err c f = absurd (omega (arith, c.requires f, too_deep f c.in-Err-Deep.field-0 _ _ c.in-Err-Deep.field-0-is (c.in-Err-Deep.ensures f)))
+pub returns-else-is_shallow-clause-err : goal.returns-else-is_shallow-clause-err
+returns-else-is_shallow-clause-err c f = (refl, state_of f c.in-Ok.next, c.in-Ok.ensures f, deeper _ (c.if-is_shallow.ensures.deep f).1)

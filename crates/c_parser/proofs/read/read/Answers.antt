@@ -1,6 +1,6 @@
 use Rattle.std.proofs.Common.{◌++◌, ap, map, arith, sym, ◌∙◌}
 use Rattle.c_begun.specs.View.{state_of}
-use Rattle.c_words.specs.Words.{word_said}
+use Rattle.c_lexeme.specs.Lexemes.{word_said}
 use Rattle.c_parser.proofs.Words.{append_push, halted, led_push, length_push, passed_on}
 use Rattle.c_parser.specs.Refused.{Stops}
 use Rattle.c_parser.proofs.read.read.Goals as goal
@@ -8,15 +8,16 @@ use Rattle.c_parser.proofs.read.read.Goals as goal
 pub returns-in_err-state-clause-err : goal.returns-in_err-state-clause-err
 returns-in_err-state-clause-err c f =
     let l = c.loop-word in
-    let words = l.invariant.1 ∙ ap (λ rest. l.yielded ++ rest) c.in-Some.ensures.steps.0 in
-    passed_on c.from_residual.result c.in_err-state.field-0.0 (λ fault. Stops fault (map (word_said f) c.args.words.items)) c.from_residual.ensures.1 (halted f c.args.words.items l.yielded c.in-Some.word c.next.new.self.rest.items (state_of f l.state) c.in_err-state.field-0.0 l.token words l.invariant.0 (l.invariant.2 f).0 (c.in_err-state.ensures.err f))
+    let words = l.invariant.words ∙ ap (λ rest. l.yielded ++ rest) c.in-Some.ensures.steps.0 in
+    passed_on c.from_residual.result c.in_err-state.field-0.0 (λ fault. Stops fault (map (word_said f) c.args.words.items)) c.from_residual.ensures.1 (halted f c.args.words.items l.yielded c.in-Some.word c.next.new.self.rest.items (state_of f l.state) c.in_err-state.field-0.0 l.token words l.invariant.token (l.invariant.led f) (c.in_err-state.ensures.err f))
 
 pub loop-word-preserved : goal.loop-word-preserved
 loop-word-preserved c =
     let l = c.loop-word in
     let length = length_push l.yielded c.in-Some.word in
-    let words = l.invariant.1 ∙ ap (λ rest. l.yielded ++ rest) c.in-Some.ensures.steps.0 ∙ sym (append_push l.yielded c.in-Some.word c.next.new.self.rest.items) in (
-      omega (arith, length, l.invariant.0),
-      words,
-      λ f. let ok = c.in_ok-state.ensures.ok f in (led_push f l.yielded c.in-Some.word l.state c.in_ok-state.state (l.invariant.2 f).0 ok.0, ok.1),
-    )
+    record {
+      token = omega (arith, length, l.invariant.token);
+      words = l.invariant.words ∙ ap (λ rest. l.yielded ++ rest) c.in-Some.ensures.steps.0 ∙ sym (append_push l.yielded c.in-Some.word c.next.new.self.rest.items);
+      led = λ f. led_push f l.yielded c.in-Some.word l.state c.in_ok-state.state (l.invariant.led f) (c.in_ok-state.ensures.ok f);
+      shallow = c.in_ok-state.ensures.shallow;
+    }

@@ -1,10 +1,15 @@
 use Rattle.std.proofs.Common.{◌≡◌, ◌≤◌, ◌++◌, length, map}
+use Rattle.c_begun.specs.Depths.{state_depth}
 use Rattle.c_begun.specs.View.{Names, state_of}
-use Rattle.c_grammar.specs.Depth.{deep}
 use Rattle.c_grammar.specs.Law.{run}
 use Rattle.c_grammar.specs.Machine.{Goes}
-use Rattle.c_words.specs.Words.{word_said}
+use Rattle.c_lexeme.specs.Lexemes.{word_said}
 use Rattle.c_parser.proofs.read.read.Given as goal
 
 abbrev pub invariant-loop-word : goal.invariant-loop-word
-invariant-loop-word l = (l.token ≡ length l.yielded) × (l.fn.words.items ≡ l.yielded ++ l.word-iterator.rest.items) × ((f : Names) → (run (map (word_said f) l.yielded) ≡ Goes (state_of f l.state)) × (deep (state_of f l.state) ≤ 256))
+invariant-loop-word l = record {
+  token : l.token ≡ length l.yielded;
+  words : l.fn.words.items ≡ l.yielded ++ l.word-iterator.rest.items;
+  led : (f : Names) → run (map (word_said f) l.yielded) ≡ Goes (state_of f l.state);
+  shallow : state_depth l.state ≤ 256;
+}

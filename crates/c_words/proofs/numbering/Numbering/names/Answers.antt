@@ -1,7 +1,7 @@
 use Rattle.std.proofs.Common.{◌∙◌, ap, arith, map, nat_eq, subst, sym}
 use Rattle.std.proofs.lemmas.List.{take_all}
 use Rattle.std.specs.Cmp.Lexicographic.{pointwise, bytes_decides}
-use Rattle.c_tree.specs.Named.{AreDistinct}
+use Rattle.c_tree.specs.Names.{AreDistinct}
 use Rattle.c_words.proofs.Names.{distinct}
 use Rattle.c_words.proofs.numbering.Numbering.names.Goals as goal
 
