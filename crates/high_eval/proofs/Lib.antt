@@ -1,0 +1,4 @@
+pub mod FirstElements
+pub mod Behind
+pub mod Room
+pub mod Calling

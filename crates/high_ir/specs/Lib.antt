@@ -1,0 +1,11 @@
+pub mod Words
+pub mod Tree
+pub mod View
+pub mod Meaning
+pub mod Runs
+pub mod Standing
+pub mod Size
+pub mod Splitting
+pub mod Weight
+pub mod Formed
+pub mod Programs

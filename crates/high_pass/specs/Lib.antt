@@ -1,0 +1,5 @@
+pub mod Listing
+pub mod Carries
+pub mod Law
+pub mod Composing
+pub mod Sample
