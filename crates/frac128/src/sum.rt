@@ -5,7 +5,7 @@ ghost use Rattle.std.specs.Int.{w64};
 ghost use Rattle.frac128.specs.Terms.{Terms, coefficient};
 ghost use Rattle.frac128.specs.Sum.{IsSum, AddsTerm, SetsCoefficient, IsAt, IsGapFor};
 
-use std::alloc::Global;
+use std::alloc::{AllocError, Global};
 use std::marker::Model;
 use thiserror::Error;
 
@@ -42,6 +42,15 @@ impl Sum {
         Sum {
             terms: Vec::new(alloc),
         }
+    }
+
+    /// A copy of the sum.
+    pub fn copy(&self, alloc: Global) -> Result<Sum, AllocError>
+        ensures { IfOk result (λ s. s ≡ self.now) }
+    {
+        Ok(Sum {
+            terms: Vec::from_slice(alloc, &self.terms)?,
+        })
     }
 
     /// The terms, by ascending address.

@@ -1,0 +1,15 @@
+pub mod LimitLemmas
+pub mod DualityLemmas
+pub mod TraceLemmas
+pub mod StepLemmas
+pub mod CostLemmas
+pub mod FieldLemmas
+pub mod ReachLemmas
+pub mod CourseLemmas
+pub mod OutcomeLemmas
+pub mod RunLemmas
+pub mod LooseLemmas
+pub mod IndexLemmas
+pub mod PermutedSums
+pub mod ArrivalLemmas
+pub mod MentionLemmas

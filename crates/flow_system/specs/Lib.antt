@@ -1,0 +1,14 @@
+pub mod Claims
+pub mod Moves
+pub mod Reach
+pub mod Systems
+pub mod Indexes
+pub mod Counts
+pub mod MoveCosts
+pub mod Flows
+pub mod KeptRuns
+pub mod Certificates
+pub mod Lookups
+pub mod Bounds
+pub mod Loose
+pub mod Shapes
