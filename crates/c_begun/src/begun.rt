@@ -63,6 +63,10 @@ pub struct HeadedFor {
 }
 
 impl Loop {
+    pub fn let_go(self) {
+        drop(self);
+    }
+
     /// A `for` behind the first part of its head.
     pub fn started(self, start: StartPart) -> StartedFor
         ensures bound { result.bound ≡ self.bound }
@@ -361,6 +365,18 @@ impl Frames {
     {
         Ok(Box::new(alloc, self)?)
     }
+
+    pub fn let_go(under: Box<Frames>) {
+        drop(under);
+    }
+
+    /// Nothing of it may stand there.
+    pub fn refuse(under: Box<Frames>) -> Refusal
+        ensures { result ≡ Syntax }
+    {
+        drop(under);
+        Refusal::Syntax
+    }
 }
 
 impl Braces {
@@ -369,6 +385,18 @@ impl Braces {
         ensures err { IfErr result (λ e. e ≡ Memory) }
     {
         Ok(Box::new(alloc, self)?)
+    }
+
+    pub fn let_go(braces: Box<Braces>) {
+        drop(braces);
+    }
+
+    /// Nothing of it may stand there.
+    pub fn refuse(braces: Box<Braces>) -> Refusal
+        ensures { result ≡ Syntax }
+    {
+        drop(braces);
+        Refusal::Syntax
     }
 }
 
@@ -422,6 +450,10 @@ impl Head {
 }
 
 impl Proto {
+    pub fn let_go(self) {
+        drop(self);
+    }
+
     /// Nothing of it may stand there.
     pub fn refuse(self) -> Refusal
         ensures { result ≡ Syntax }
@@ -472,5 +504,11 @@ impl Purpose {
     {
         drop(self);
         Refusal::Syntax
+    }
+}
+
+impl State {
+    pub fn let_go(self) {
+        drop(self);
     }
 }

@@ -208,3 +208,8 @@ pub fn and_restricting(front: ExternalParts, last: Pragma) -> Result<ExternalPar
     list.push(External::Restriction(last))?;
     Ok(ExternalParts { list, depth })
 }
+
+/// Nothing of a file is kept.
+pub fn let_externals_go(list: Vec<External>) {
+    drop(list);
+}

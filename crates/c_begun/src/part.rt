@@ -143,3 +143,33 @@ impl ObjectPart {
         drop(self);
     }
 }
+
+impl Parts {
+    pub fn let_go(self) {
+        drop(self);
+    }
+}
+
+impl ParamPart {
+    pub fn let_go(self) {
+        drop(self);
+    }
+}
+
+impl ParamParts {
+    pub fn let_go(self) {
+        drop(self);
+    }
+}
+
+impl ItemParts {
+    pub fn let_go(self) {
+        drop(self);
+    }
+}
+
+impl ExternalParts {
+    pub fn let_go(self) {
+        drop(self);
+    }
+}

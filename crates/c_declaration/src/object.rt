@@ -44,7 +44,10 @@ pub fn end_object_by(lexeme: Lexeme, head: Head, object: ObjectPart) -> Result<S
 {
     match lexeme {
         Lexeme::Plain(kind) => end_object(kind, head, object),
-        _ => Err(head.refuse()),
+        _ => {
+            object.let_go();
+            Err(head.refuse())
+        }
     }
 }
 
@@ -144,15 +147,26 @@ fn go_on_first(alloc: Global, lexeme: Lexeme, first: Proto) -> Result<State, Ref
             name,
             shape: scalar(),
         })),
-        Lexeme::Plain(TokenKind::Comma) => Ok(State::Further(Head {
-            specifiers: first.specifiers,
-            objects: one_object(alloc, name)?,
-            at: first.at,
-            scope: first.scope,
-        })),
+        Lexeme::Plain(TokenKind::Comma) => match one_object(alloc, name) {
+            Ok(objects) => Ok(State::Further(Head {
+                specifiers: first.specifiers,
+                objects,
+                at: first.at,
+                scope: first.scope,
+            })),
+            Err(refusal) => {
+                first.let_go();
+                Err(refusal)
+            }
+        },
         Lexeme::Plain(TokenKind::Semicolon) => {
-            let whole = one_declaration(alloc, first.specifiers, name, first.at)?;
-            end_declaration(first.scope, whole)
+            match one_declaration(alloc, first.specifiers, name, first.at) {
+                Ok(whole) => end_declaration(first.scope, whole),
+                Err(refusal) => {
+                    first.scope.let_go();
+                    Err(refusal)
+                }
+            }
         }
         _ => Err(first.refuse()),
     }

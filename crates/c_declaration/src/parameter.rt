@@ -30,15 +30,25 @@ fn end_param(
     ensures { (f : Names) → Gives f result (param_ends (lexeme_of f lexeme) (proto_of f proto) (params_of f front) (param_part_of f param)) }
 {
     match lexeme {
-        Lexeme::Plain(TokenKind::Comma) => {
-            let front = and_param(front, param)?;
-            Ok(State::ParamNext(proto, front))
+        Lexeme::Plain(TokenKind::Comma) => match and_param(front, param) {
+            Ok(front) => Ok(State::ParamNext(proto, front)),
+            Err(refusal) => {
+                proto.let_go();
+                Err(refusal)
+            }
+        },
+        Lexeme::Plain(TokenKind::RightParen) => match and_param(front, param) {
+            Ok(params) => Ok(State::ParamsDone(proto, params)),
+            Err(refusal) => {
+                proto.let_go();
+                Err(refusal)
+            }
+        },
+        _ => {
+            front.let_go();
+            param.let_go();
+            Err(proto.refuse())
         }
-        Lexeme::Plain(TokenKind::RightParen) => {
-            let params = and_param(front, param)?;
-            Ok(State::ParamsDone(proto, params))
-        }
-        _ => Err(proto.refuse()),
     }
 }
 
@@ -66,16 +76,23 @@ pub fn begin_param(
     ensures { (f : Names) → Gives f result (param_begins (specifier_of (lexeme_of f word.lexeme)) word.at (proto_of f proto) (params_of f front)) }
 {
     match specifier_said(&word.lexeme) {
-        Some(first) => {
-            let specifiers = one_specifier(alloc, first)?;
-            Ok(State::ParamSpecified {
+        Some(first) => match one_specifier(alloc, first) {
+            Ok(specifiers) => Ok(State::ParamSpecified {
                 proto,
                 front,
                 specifiers,
                 at: word.at,
-            })
+            }),
+            Err(refusal) => {
+                proto.let_go();
+                front.let_go();
+                Err(refusal)
+            }
+        },
+        None => {
+            front.let_go();
+            Err(proto.refuse())
         }
-        None => Err(proto.refuse()),
     }
 }
 
@@ -134,15 +151,19 @@ pub fn go_on_param(
     ensures { (f : Names) → Gives f result (param_specified (specifier_of (lexeme_of f lexeme)) (lexeme_of f lexeme) (proto_of f proto) (params_of f front) specifiers.items at) }
 {
     match specifier_said(&lexeme) {
-        Some(next) => {
-            let specifiers = and_specifier(specifiers, next)?;
-            Ok(State::ParamSpecified {
+        Some(next) => match and_specifier(specifiers, next) {
+            Ok(specifiers) => Ok(State::ParamSpecified {
                 proto,
                 front,
                 specifiers,
                 at,
-            })
-        }
+            }),
+            Err(refusal) => {
+                proto.let_go();
+                front.let_go();
+                Err(refusal)
+            }
+        },
         None => name_param(lexeme, proto, front, specifiers, at),
     }
 }
@@ -170,7 +191,10 @@ fn begin_body(alloc: Global, proto: Proto, params: ParamParts, here: u32) -> Res
             let braces = Braces::OfFunction(header).boxed(alloc)?;
             Ok(State::Among(no_items(alloc), braces))
         }
-        other => Err(other.refuse()),
+        other => {
+            params.let_go();
+            Err(other.refuse())
+        }
     }
 }
 
@@ -197,6 +221,9 @@ pub fn end_params(
     match word.lexeme {
         Lexeme::Plain(TokenKind::Semicolon) => end_prototype(proto, params),
         Lexeme::Plain(TokenKind::LeftBrace) => begin_body(alloc, proto, params, word.at),
-        _ => Err(proto.refuse()),
+        _ => {
+            params.let_go();
+            Err(proto.refuse())
+        }
     }
 }

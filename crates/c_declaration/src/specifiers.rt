@@ -40,14 +40,17 @@ pub fn go_on_specified(
     ensures { (f : Names) → Gives f result (specified (specifier_of (lexeme_of f word.lexeme)) (lexeme_of f word.lexeme) word.at specifiers.items at (scope_of f scope)) }
 {
     match specifier_said(&word.lexeme) {
-        Some(next) => {
-            let specifiers = and_specifier(specifiers, next)?;
-            Ok(State::Specified {
+        Some(next) => match and_specifier(specifiers, next) {
+            Ok(specifiers) => Ok(State::Specified {
                 specifiers,
                 at,
                 scope,
-            })
-        }
+            }),
+            Err(refusal) => {
+                scope.let_go();
+                Err(refusal)
+            }
+        },
         None => begin_named(word, specifiers, at, scope),
     }
 }

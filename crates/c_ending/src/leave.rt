@@ -22,6 +22,14 @@ use c_tree::expression::BinaryOperator;
 use c_tree::token::TokenKind;
 use std::alloc::Global;
 
+/// A refusal, for which what stands there is let go.
+fn without(under: Box<Stack>, refusal: Refusal) -> Refusal
+    ensures { result ≡ refusal }
+{
+    Box::into_inner(under).let_go();
+    refusal
+}
+
 /// The operand in round brackets has ended.
 fn close_paren(
     alloc: Global,
@@ -34,13 +42,13 @@ fn close_paren(
     ensures { (f : Names) (said : Lexeme) → Gives f result (leave (InParen at (stack_of f under.value)) (role_view role) said (part_of f tree)) }
 {
     match role {
-        Role::ClosesParen => {
-            let whole = paren(alloc, tree, at)?;
-            Ok(State::Has(whole, Box::into_inner(under)))
-        }
+        Role::ClosesParen => match paren(alloc, tree, at) {
+            Ok(whole) => Ok(State::Has(whole, Box::into_inner(under))),
+            Err(refusal) => Err(without(under, refusal)),
+        },
         _ => {
             tree.let_go();
-            Err(Refusal::Syntax)
+            Err(without(under, Refusal::Syntax))
         }
     }
 }
@@ -57,13 +65,13 @@ fn close_index(
     ensures { (f : Names) (said : Lexeme) → Gives f result (leave (InIndex (f array.name.0) array.at (stack_of f under.value)) (role_view role) said (part_of f tree)) }
 {
     match role {
-        Role::ClosesBracket => {
-            let whole = index(alloc, array, tree)?;
-            Ok(State::Has(whole, Box::into_inner(under)))
-        }
+        Role::ClosesBracket => match index(alloc, array, tree) {
+            Ok(whole) => Ok(State::Has(whole, Box::into_inner(under))),
+            Err(refusal) => Err(without(under, refusal)),
+        },
         _ => {
             tree.let_go();
-            Err(Refusal::Syntax)
+            Err(without(under, Refusal::Syntax))
         }
     }
 }
@@ -90,17 +98,18 @@ fn close_argument(
     ensures { (f : Names) (said : Lexeme) → Gives f result (leave (InCall (f function.name.0) function.at (parts_of f front) (stack_of f under.value)) (role_view role) said (part_of f tree)) }
 {
     match role {
-        Role::ClosesParen => {
-            let whole = call_with(function, front, tree)?;
-            Ok(State::Has(whole, Box::into_inner(under)))
-        }
-        Role::Joins(BinaryOperator::Comma) => {
-            let front = and_expr(front, tree)?;
-            Ok(State::Wants(Stack::InCall(function, front, under)))
-        }
+        Role::ClosesParen => match call_with(function, front, tree) {
+            Ok(whole) => Ok(State::Has(whole, Box::into_inner(under))),
+            Err(refusal) => Err(without(under, refusal)),
+        },
+        Role::Joins(BinaryOperator::Comma) => match and_expr(front, tree) {
+            Ok(front) => Ok(State::Wants(Stack::InCall(function, front, under))),
+            Err(refusal) => Err(without(under, refusal)),
+        },
         _ => {
+            front.let_go();
             tree.let_go();
-            Err(Refusal::Syntax)
+            Err(without(under, Refusal::Syntax))
         }
     }
 }
@@ -118,7 +127,7 @@ fn separate(under: Box<Stack>, role: Role, tree: Part, test: Part) -> Result<Sta
         _ => {
             test.let_go();
             tree.let_go();
-            Err(Refusal::Syntax)
+            Err(without(under, Refusal::Syntax))
         }
     }
 }
@@ -160,42 +169,42 @@ fn leave_part(
             operator,
             at,
             under: rest,
-        } => {
-            let whole = prefix(alloc, operator, tree, at)?;
-            go_on_with(alloc, Box::into_inner(rest), role, kind, whole)
-        }
+        } => match prefix(alloc, operator, tree, at) {
+            Ok(whole) => go_on_with(alloc, Box::into_inner(rest), role, kind, whole),
+            Err(refusal) => Err(without(rest, refusal)),
+        },
         Stack::AfterCast {
             specifiers,
             at,
             under: rest,
-        } => {
-            let whole = cast(alloc, specifiers, tree, at)?;
-            go_on_with(alloc, Box::into_inner(rest), role, kind, whole)
-        }
+        } => match cast(alloc, specifiers, tree, at) {
+            Ok(whole) => go_on_with(alloc, Box::into_inner(rest), role, kind, whole),
+            Err(refusal) => Err(without(rest, refusal)),
+        },
         Stack::AfterJoin {
             operator,
             left,
             under: rest,
-        } => {
-            let whole = binary(alloc, operator, left, tree)?;
-            go_on_with(alloc, Box::into_inner(rest), role, kind, whole)
-        }
+        } => match binary(alloc, operator, left, tree) {
+            Ok(whole) => go_on_with(alloc, Box::into_inner(rest), role, kind, whole),
+            Err(refusal) => Err(without(rest, refusal)),
+        },
         Stack::AfterColon {
             test,
             first,
             under: rest,
-        } => {
-            let whole = conditional(alloc, test, first, tree)?;
-            go_on_with(alloc, Box::into_inner(rest), role, kind, whole)
-        }
+        } => match conditional(alloc, test, first, tree) {
+            Ok(whole) => go_on_with(alloc, Box::into_inner(rest), role, kind, whole),
+            Err(refusal) => Err(without(rest, refusal)),
+        },
         Stack::AfterAssign {
             operator,
             target,
             under: rest,
-        } => {
-            let whole = assign(alloc, operator, target, tree)?;
-            go_on_with(alloc, Box::into_inner(rest), role, kind, whole)
-        }
+        } => match assign(alloc, operator, target, tree) {
+            Ok(whole) => go_on_with(alloc, Box::into_inner(rest), role, kind, whole),
+            Err(refusal) => Err(without(rest, refusal)),
+        },
         Stack::InParen { at, under: rest } => close_paren(alloc, rest, role, tree, at),
         Stack::InIndex(array, rest) => close_index(alloc, rest, role, tree, array),
         Stack::InCall(function, front, rest) => {

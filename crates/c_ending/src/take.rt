@@ -37,10 +37,13 @@ fn end_test(alloc: Global, test: Test, tree: Part) -> Result<State, Refusal>
             let frame = Frames::InWhile(head, tree, under);
             Ok(State::Begins(frame.boxed(alloc)?))
         }
-        Test::OfDo(head, body, under) => {
-            let whole = do_loop(alloc, head, body, tree)?;
-            Ok(State::Closes(whole, under))
-        }
+        Test::OfDo(head, body, under) => match do_loop(alloc, head, body, tree) {
+            Ok(whole) => Ok(State::Closes(whole, under)),
+            Err(refusal) => {
+                Frames::let_go(under);
+                Err(refusal)
+            }
+        },
         Test::OfChoice { at, under } => Ok(State::Chooses {
             test: tree,
             at,
@@ -59,7 +62,7 @@ fn take_evaluated(under: Box<Frames>, kind: TokenKind, tree: Part) -> Result<Sta
         TokenKind::Semicolon => Ok(State::Stands(evaluate(tree), under)),
         _ => {
             tree.let_go();
-            Err(Refusal::Syntax)
+            Err(Frames::refuse(under))
         }
     }
 }
@@ -73,7 +76,7 @@ fn take_returned(under: Box<Frames>, kind: TokenKind, tree: Part, at: u32) -> Re
         TokenKind::Semicolon => Ok(State::Stands(return_value(tree, at), under)),
         _ => {
             tree.let_go();
-            Err(Refusal::Syntax)
+            Err(Frames::refuse(under))
         }
     }
 }
@@ -131,7 +134,8 @@ fn take_started(
         }
         _ => {
             tree.let_go();
-            Err(Refusal::Syntax)
+            head.let_go();
+            Err(Frames::refuse(under))
         }
     }
 }
@@ -150,7 +154,7 @@ fn take_guarding(
         _ => {
             tree.let_go();
             head.let_go();
-            Err(Refusal::Syntax)
+            Err(Frames::refuse(under))
         }
     }
 }
@@ -173,7 +177,7 @@ fn take_repeated(
         _ => {
             tree.let_go();
             head.let_go();
-            Err(Refusal::Syntax)
+            Err(Frames::refuse(under))
         }
     }
 }
@@ -225,6 +229,7 @@ fn take_listed(
         },
         _ => {
             tree.let_go();
+            front.let_go();
             Err(object.refuse())
         }
     }
@@ -242,13 +247,17 @@ fn take_label(
     ensures { (f : Names) → Gives f result (took (Labels (item_parts_of f front) (braces_of f braces.value) at) (Plain kind) (part_of f tree)) }
 {
     match kind {
-        TokenKind::Colon => {
-            let front = and_case(front, tree, at)?;
-            Ok(State::Among(front, braces))
-        }
+        TokenKind::Colon => match and_case(front, tree, at) {
+            Ok(front) => Ok(State::Among(front, braces)),
+            Err(refusal) => {
+                Braces::let_go(braces);
+                Err(refusal)
+            }
+        },
         _ => {
             tree.let_go();
-            Err(Refusal::Syntax)
+            front.let_go();
+            Err(Braces::refuse(braces))
         }
     }
 }

@@ -27,7 +27,7 @@ fn advance(alloc: Global, state: State, word: Word, token: u32) -> Result<State,
             if is_shallow(&next) {
                 Ok(next)
             } else {
-                drop(next);
+                next.let_go();
                 Err(ParseFault::Deep { token })
             }
         }

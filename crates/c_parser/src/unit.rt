@@ -17,6 +17,7 @@ ghost use Rattle.c_tree.specs.View.{external_of, row_of, unit_of};
 
 use super::fault::ParseFault;
 use c_begun::begun::State;
+use c_begun::list::let_externals_go;
 use c_begun::part::ExternalParts;
 use c_tree::external::External;
 use c_tree::{Tokens, Unit};
@@ -49,7 +50,10 @@ fn unit(items: Vec<External>, names: Vec<Text>, count: u32) -> Result<Unit, Pars
 {
     match first_place(&items) {
         Some(at) => Ok(Unit { items, names, at }),
-        None => Err(ParseFault::Syntax { token: count }),
+        None => {
+            let_externals_go(items);
+            Err(ParseFault::Syntax { token: count })
+        }
     }
 }
 
@@ -60,7 +64,10 @@ fn file_level(state: State) -> Option<ExternalParts>
 {
     match state {
         State::File(front) => Some(front),
-        _ => None,
+        other => {
+            other.let_go();
+            None
+        }
     }
 }
 

@@ -71,7 +71,7 @@ fn begin_noted_statement(
     match kind {
         TokenKind::Marker => Ok(State::Stands(leaf(Statement::Marker(Pragma { text, at })), under)),
         TokenKind::LoopBound => Ok(State::Bounded(Pragma { text, at }, under)),
-        _ => Err(Refusal::Syntax),
+        _ => Err(Frames::refuse(under)),
     }
 }
 
@@ -110,6 +110,9 @@ pub fn begin_bounded_loop(
             Ok(State::Begins(frame))
         }
         Lexeme::Plain(TokenKind::For) => Ok(State::Loops(head, under)),
-        _ => Err(Refusal::Syntax),
+        _ => {
+            head.let_go();
+            Err(Frames::refuse(under))
+        }
     }
 }

@@ -29,7 +29,7 @@ pub fn close_statement(
         Lexeme::Plain(TokenKind::Semicolon) => Ok(State::Stands(statement, under)),
         _ => {
             statement.let_go();
-            Err(Refusal::Syntax)
+            Err(Frames::refuse(under))
         }
     }
 }
@@ -66,7 +66,10 @@ pub fn open_for(lexeme: Lexeme, head: Loop, under: Box<Frames>) -> Result<State,
 {
     match lexeme {
         Lexeme::Plain(TokenKind::LeftParen) => Ok(State::LoopStarts(head, under)),
-        _ => Err(Refusal::Syntax),
+        _ => {
+            head.let_go();
+            Err(Frames::refuse(under))
+        }
     }
 }
 
@@ -99,14 +102,18 @@ pub fn begin_loop_start(
     ensures { (f : Names) → Gives f result (loop_starts (specifier_of (lexeme_of f word.lexeme)) (lexeme_of f word.lexeme) word.at head.bound head.at (frames_of f under.value)) }
 {
     match specifier_said(&word.lexeme) {
-        Some(first) => {
-            let specifiers = one_specifier(alloc, first)?;
-            Ok(State::Specified {
+        Some(first) => match one_specifier(alloc, first) {
+            Ok(specifiers) => Ok(State::Specified {
                 specifiers,
                 at: word.at,
                 scope: Scope::AtFor(head, under),
-            })
-        }
+            }),
+            Err(refusal) => {
+                head.let_go();
+                Frames::let_go(under);
+                Err(refusal)
+            }
+        },
         None => begin_loop_value(alloc, word, head, under),
     }
 }

@@ -36,7 +36,10 @@ pub fn open_choice(
             let braces = Braces::OfSwitch { test, at, under }.boxed(alloc)?;
             Ok(State::Among(no_items(alloc), braces))
         }
-        _ => Err(Refusal::Syntax),
+        _ => {
+            test.let_go();
+            Err(Frames::refuse(under))
+        }
     }
 }
 
@@ -67,7 +70,10 @@ fn begin_case(braces: Box<Braces>, front: ItemParts, at: u32) -> Result<State, R
             let label = Purpose::Labels { front, braces, at };
             Ok(State::Wants(Stack::Base(label)))
         }
-        _ => Err(Refusal::Syntax),
+        _ => {
+            front.let_go();
+            Err(Braces::refuse(braces))
+        }
     }
 }
 
@@ -77,7 +83,10 @@ fn begin_default(braces: Box<Braces>, front: ItemParts, at: u32) -> Result<State
 {
     match &*braces {
         Braces::OfSwitch { .. } => Ok(State::Defaults { front, braces, at }),
-        _ => Err(Refusal::Syntax),
+        _ => {
+            front.let_go();
+            Err(Braces::refuse(braces))
+        }
     }
 }
 
@@ -91,11 +100,17 @@ pub fn end_default(
     ensures { (f : Names) → Gives f result (colon (lexeme_of f lexeme) (Among (AndLabel (item_parts_of f front) (Default at)) (braces_of f braces.value))) }
 {
     match lexeme {
-        Lexeme::Plain(TokenKind::Colon) => {
-            let front = and_default(front, at)?;
-            Ok(State::Among(front, braces))
+        Lexeme::Plain(TokenKind::Colon) => match and_default(front, at) {
+            Ok(front) => Ok(State::Among(front, braces)),
+            Err(refusal) => {
+                Braces::let_go(braces);
+                Err(refusal)
+            }
+        },
+        _ => {
+            front.let_go();
+            Err(Braces::refuse(braces))
         }
-        _ => Err(Refusal::Syntax),
     }
 }
 
@@ -145,10 +160,13 @@ fn begin_noted_item(
     ensures { (f : Names) → Gives f result (item (said.Pragma kind pragma.text) pragma.at (item_parts_of f front) (braces_of f braces.value)) }
 {
     match kind {
-        TokenKind::FlowRestriction => {
-            let front = and_restriction(front, pragma)?;
-            Ok(State::Among(front, braces))
-        }
+        TokenKind::FlowRestriction => match and_restriction(front, pragma) {
+            Ok(front) => Ok(State::Among(front, braces)),
+            Err(refusal) => {
+                Braces::let_go(braces);
+                Err(refusal)
+            }
+        },
         _ => {
             let Pragma { text, at } = pragma;
             let lexeme = Lexeme::Pragma(kind, text);
@@ -188,14 +206,18 @@ pub fn go_on_among(
     ensures { (f : Names) → Gives f result (among (specifier_of (lexeme_of f word.lexeme)) (lexeme_of f word.lexeme) word.at (item_parts_of f front) (braces_of f braces.value)) }
 {
     match specifier_said(&word.lexeme) {
-        Some(first) => {
-            let specifiers = one_specifier(alloc, first)?;
-            Ok(State::Specified {
+        Some(first) => match one_specifier(alloc, first) {
+            Ok(specifiers) => Ok(State::Specified {
                 specifiers,
                 at: word.at,
                 scope: Scope::AmongItems(front, braces),
-            })
-        }
+            }),
+            Err(refusal) => {
+                front.let_go();
+                Braces::let_go(braces);
+                Err(refusal)
+            }
+        },
         None => begin_item(alloc, word, front, braces),
     }
 }
@@ -210,7 +232,10 @@ fn begin_restriction(word: Word, front: ExternalParts) -> Result<State, Refusal>
             let front = and_restricting(front, Pragma { text, at })?;
             Ok(State::File(front))
         }
-        _ => Err(Refusal::Syntax),
+        _ => {
+            front.let_go();
+            Err(Refusal::Syntax)
+        }
     }
 }
 
@@ -223,14 +248,17 @@ pub fn go_on_at_file_level(
     ensures { (f : Names) → Gives f result (file_item (specifier_of (lexeme_of f word.lexeme)) (lexeme_of f word.lexeme) word.at (externals_of f front)) }
 {
     match specifier_said(&word.lexeme) {
-        Some(first) => {
-            let specifiers = one_specifier(alloc, first)?;
-            Ok(State::Specified {
+        Some(first) => match one_specifier(alloc, first) {
+            Ok(specifiers) => Ok(State::Specified {
                 specifiers,
                 at: word.at,
                 scope: Scope::AtFile(front),
-            })
-        }
+            }),
+            Err(refusal) => {
+                front.let_go();
+                Err(refusal)
+            }
+        },
         None => begin_restriction(word, front),
     }
 }

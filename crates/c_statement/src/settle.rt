@@ -1,4 +1,4 @@
-ghost use Rattle.std.specs.Prelude.{◌≤◌, max};
+ghost use Rattle.std.specs.Prelude.{◌≡◌, ◌≤◌, max};
 ghost use Rattle.c_tree.specs.Tree.{AndStatement};
 ghost use Rattle.c_grammar.specs.Begun.{Begins, InDo, InElse};
 ghost use Rattle.c_grammar.specs.Machine.{Goes, among, settle, specifier_of};
@@ -17,6 +17,14 @@ use c_lexeme::{Lexeme, Word};
 use c_tree::token::TokenKind;
 use std::alloc::Global;
 
+/// A refusal, for which what stands there is let go.
+fn without(under: Box<Frames>, refusal: Refusal) -> Refusal
+    ensures { result ≡ refusal }
+{
+    Frames::let_go(under);
+    refusal
+}
+
 /// Between braces, behind one statement more.
 fn go_on_among_with(
     alloc: Global,
@@ -28,8 +36,13 @@ fn go_on_among_with(
     requires { braces_depth braces.value (max front.depth statement.depth) ≤ 256 }
     ensures { (f : Names) → Gives f result (among (specifier_of (lexeme_of f word.lexeme)) (lexeme_of f word.lexeme) word.at (AndStatement (item_parts_of f front) (statement_part_of f statement)) (braces_of f braces.value)) }
 {
-    let front = and_statement(front, statement)?;
-    go_on_among(alloc, word, front, braces)
+    match and_statement(front, statement) {
+        Ok(front) => go_on_among(alloc, word, front, braces),
+        Err(refusal) => {
+            Braces::let_go(braces);
+            Err(refusal)
+        }
+    }
 }
 
 /// Behind the body of a `do` its test must come.
@@ -45,7 +58,8 @@ fn test_behind(
         Lexeme::Plain(TokenKind::While) => Ok(State::Opens(Test::OfDo(head, body, under))),
         _ => {
             body.let_go();
-            Err(Refusal::Syntax)
+            head.let_go();
+            Err(Frames::refuse(under))
         }
     }
 }
@@ -90,26 +104,28 @@ pub fn settle_statement(
             if says(&word.lexeme, TokenKind::Else) {
                 return branch_behind(alloc, rest, test, statement, at);
             }
-            let whole = if_then(alloc, test, statement, at)?;
-            settle_statement(alloc, Box::into_inner(rest), word, whole)
+            match if_then(alloc, test, statement, at) {
+                Ok(whole) => settle_statement(alloc, Box::into_inner(rest), word, whole),
+                Err(refusal) => Err(without(rest, refusal)),
+            }
         }
         Frames::InElse {
             test,
             first,
             at,
             under: rest,
-        } => {
-            let whole = if_else(alloc, test, first, statement, at)?;
-            settle_statement(alloc, Box::into_inner(rest), word, whole)
-        }
-        Frames::InWhile(head, test, rest) => {
-            let whole = while_loop(alloc, head, test, statement)?;
-            settle_statement(alloc, Box::into_inner(rest), word, whole)
-        }
+        } => match if_else(alloc, test, first, statement, at) {
+            Ok(whole) => settle_statement(alloc, Box::into_inner(rest), word, whole),
+            Err(refusal) => Err(without(rest, refusal)),
+        },
+        Frames::InWhile(head, test, rest) => match while_loop(alloc, head, test, statement) {
+            Ok(whole) => settle_statement(alloc, Box::into_inner(rest), word, whole),
+            Err(refusal) => Err(without(rest, refusal)),
+        },
         Frames::InDo(head, rest) => test_behind(word, rest, head, statement),
-        Frames::InFor(head, rest) => {
-            let whole = for_loop(alloc, head, statement)?;
-            settle_statement(alloc, Box::into_inner(rest), word, whole)
-        }
+        Frames::InFor(head, rest) => match for_loop(alloc, head, statement) {
+            Ok(whole) => settle_statement(alloc, Box::into_inner(rest), word, whole),
+            Err(refusal) => Err(without(rest, refusal)),
+        },
     }
 }

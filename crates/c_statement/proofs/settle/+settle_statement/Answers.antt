@@ -10,8 +10,8 @@ use Rattle.c_begun.specs.View.{Gives, frames_of, part_of, statement_part_of}
 use Rattle.c_statement.proofs.Others.{not_said, then_gives}
 use Rattle.c_statement.proofs.settle.+settle_statement.Goals as goal
 
-pub returns-in_ok-whole-in-InThen : goal.returns-in_ok-whole-in-InThen
-returns-in_ok-whole-in-InThen t c f =
+pub returns-in-Ok : goal.returns-in-Ok
+returns-in-Ok t c f =
     let arm = c.in-InThen in
     let word = c.args.word in
     let said = lexeme_of f word.lexeme in
@@ -19,8 +19,8 @@ returns-in_ok-whole-in-InThen t c f =
     let test = part_of f arm.test in
     let rest = frames_of f arm.rest.value in
     let Leads = λ (u : Frames) (s : Statement Bytes). Gives f c.settle_statement.result (settle u said word.at s) in
-    let inner : Leads rest (statement_part_of f c.in_ok-whole-in-InThen.whole) = subst (λ u. Leads (frames_of f u) (statement_part_of f c.in_ok-whole-in-InThen.whole)) c.into_inner.ensures (c.settle_statement.ensures f) in
-    let ended : Leads rest (If test statement arm.at) = subst (Leads rest) (ap (named_statement f) c.in_ok-whole-in-InThen.ensures.ok.0) inner in
+    let inner : Leads rest (statement_part_of f c.in-Ok.whole) = subst (λ u. Leads (frames_of f u) (statement_part_of f c.in-Ok.whole)) c.into_inner.ensures (c.settle_statement.ensures f) in
+    let ended : Leads rest (If test statement arm.at) = subst (Leads rest) (ap (named_statement f) c.in-Ok.ensures.ok.0) inner in
     subst (λ u. Leads (frames_of f u) statement) (sym arm.is) (then_gives f c.settle_statement.result said word.at test arm.at rest statement (not_said _ _ (c.says.ensures f) c.if-says.false) ended)
 
 pub returns-then-says : goal.returns-then-says

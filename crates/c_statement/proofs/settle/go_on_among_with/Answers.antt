@@ -5,8 +5,8 @@ use Rattle.c_lexeme.specs.Lexemes.{lexeme_of}
 use Rattle.c_begun.specs.View.{Gives, braces_of}
 use Rattle.c_statement.proofs.settle.go_on_among_with.Goals as goal
 
-pub returns : goal.returns
-returns c f =
+pub returns-in-Ok : goal.returns-in-Ok
+returns-in-Ok c f =
     let word = c.args.word in
     let said = lexeme_of f word.lexeme in
-    subst (λ items. Gives f c.go_on_among.result (among (specifier_of said) said word.at items (braces_of f c.args.braces.value))) (ap (named_items f) c.in_ok-front.ensures.ok.0) (c.go_on_among.ensures f)
+    subst (λ items. Gives f c.go_on_among.result (among (specifier_of said) said word.at items (braces_of f c.args.braces.value))) (ap (named_items f) c.in-Ok.ensures.ok.0) (c.go_on_among.ensures f)
