@@ -1,0 +1,7 @@
+pub mod Calls
+pub mod Chains
+pub mod PragmaTexts
+pub mod Sites
+pub mod Starts
+pub mod Most
+pub mod FlowFacts

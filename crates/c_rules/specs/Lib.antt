@@ -1,0 +1,11 @@
+pub mod Specifiers
+pub mod Scope
+pub mod Operations
+pub mod Constants
+pub mod Types
+pub mod ExpressionRules
+pub mod DeclarationRules
+pub mod StatementRules
+pub mod Sights
+pub mod Typing
+pub mod Limits

@@ -1,0 +1,4 @@
+pub mod Typed
+pub mod Outline
+pub mod Tally
+pub mod Unit

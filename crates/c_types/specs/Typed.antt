@@ -1,0 +1,56 @@
+-- The typed tree of a unit that has one, and why another has none.
+use Rattle.std.specs.Prelude.{◌≡◌, ℕ, ◌<◌, List, length, map, Option, Some, None}
+use Rattle.std.specs.List.{All}
+use Rattle.c_tree.specs.Formed.{IsFormedUnit}
+use Rattle.c_tree.specs.Names.{AreDistinct, AreListed, AreNames, name_of, names_of_unit}
+use Rattle.c_tree.specs.Named.{named_unit}
+use Rattle.c_tree.specs.Tree.{TranslationUnit}
+use Rattle.c_typed.specs.Tree.{Program}
+use Rattle.c_facts.specs.Calls.{function_calls}
+use Rattle.c_typed.specs.View.{external_of, function_of}
+use Rattle.c_rules.specs.Limits.{broken, limits_behind, unit_fault, variables_of}
+use Rattle.c_rules.specs.Scope.{Outline, or_else}
+use Rattle.c_rules.specs.Sights.{first_fault, outline_of, unit_nodes}
+use Rattle.c_rules.specs.Typing.{typed_unit}
+use Rattle.c_rules.specs.declared.fault.TypeFault.{TypeFault}
+use Rattle.c_rules.specs.declared.fault.TypeFault.TheVariants.{Limit, Rule, Memory}
+use Rattle.c_types.specs.declared.checker.Draft.{Draft}
+
+-- why a unit with these names has no typed tree
+abbrev pub fault_of : List (List ℕ) → TranslationUnit ℕ → Option TypeFault
+fault_of names unit = unit_fault (outline_of names unit) unit
+
+abbrev pub typed_of : List (List ℕ) → TranslationUnit ℕ → Program
+typed_of names unit = typed_unit (outline_of names unit) unit
+
+-- every function that a program's functions call is one of them
+abbrev pub CallsDefined : Program → Type 0
+CallsDefined program = All (λ function. All (λ number. number < length program.functions) (function_calls function)) program.functions
+
+-- a program is the typed tree of a unit that is well formed and has one
+pub record IsTypedTree (names : List (List ℕ)) (program : Program) : Type 0 where
+  pub unit : TranslationUnit ℕ
+  pub is_formed : IsFormedUnit unit
+  pub are_listed : AreListed names unit
+  pub are_names : AreNames names
+  pub are_distinct : AreDistinct names
+  pub are_in_order : names ≡ names_of_unit (named_unit (name_of names) unit)
+  pub passes : fault_of names unit ≡ None
+  pub program_is : program ≡ typed_of names unit
+
+-- the first cause from the rules on why a unit has no typed tree
+abbrev pub fault_behind : Outline → TranslationUnit ℕ → Option TypeFault
+fault_behind outline unit = or_else (broken (first_fault (unit_nodes outline unit))) (limits_behind (variables_of outline unit))
+
+-- the parts of a unit's typed form, and that cause
+pub record IsDraft (r : Draft) (names : List (List ℕ)) (unit : TranslationUnit ℕ) : Type 0 where
+  pub items : map external_of r.items.items ≡ (typed_of names unit).items
+  pub functions : map function_of r.functions.items ≡ (typed_of names unit).functions
+  pub variables : r.variables.items ≡ (typed_of names unit).variables
+  pub fault : r.fault ≡ fault_behind (outline_of names unit) unit
+
+-- a unit is refused for what it is, or for want of memory
+abbrev pub Refuses : TypeFault → List (List ℕ) → TranslationUnit ℕ → Type 0
+Refuses (Limit which found) names unit = fault_of names unit ≡ Some (Limit which found)
+Refuses (Rule rule at) names unit = fault_of names unit ≡ Some (Rule rule at)
+Refuses Memory names unit = Unit {0}

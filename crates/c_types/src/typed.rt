@@ -1,0 +1,24 @@
+ghost use Rattle.std.specs.Prelude.{◌≡◌};
+ghost use Rattle.c_types.specs.Typed.{CallsDefined, IsTypedTree};
+ghost use Rattle.c_typed.specs.View.{program_of};
+
+use c_typed::program::Program;
+
+/// A typed program. It is the typed tree of a well-formed unit that is within the limits and fails no rule,
+/// and each call is of a function that it defines.
+#[derive(Drop)]
+pub struct Typed {
+    pub program: Program,
+    ghost is_typed: { ∥ IsTypedTree program.names.items (program_of program) ∥₁ },
+    ghost calls_defined: { CallsDefined (program_of program) },
+}
+
+impl Typed {
+    pub fn program(&self) -> &Program
+        ensures program { result.now ≡ self.now.program }
+        ensures typed { ∥ IsTypedTree result.now.names.items (program_of result.now) ∥₁ }
+        ensures calls { CallsDefined (program_of result.now) }
+    {
+        &self.program
+    }
+}

@@ -1,0 +1,4 @@
+pub mod Values
+pub mod Objects
+pub mod Params
+pub mod Declarations

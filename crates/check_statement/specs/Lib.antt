@@ -1,0 +1,4 @@
+pub mod Within
+pub mod Labels
+pub mod Walk
+pub mod Checked
