@@ -1,0 +1,7 @@
+use Rattle.std.proofs.Common.{◌≡◌, ◌++◌, drop, map}
+use Rattle.c_facts.specs.FlowFacts.{function_name}
+use Rattle.c_typed.specs.View.{function_of}
+use Rattle.flow_facts.proofs.gathering.defined_ids.Given as goal
+
+abbrev pub invariant-loop-function : goal.invariant-loop-function
+invariant-loop-function l = l.ids.items ++ map function_name (map function_of (drop l.function-index l.functions)) ≡ map function_name (map function_of l.functions)

@@ -1,0 +1,4 @@
+pub mod Items
+pub mod Sums
+pub mod Making
+pub mod Translating
