@@ -1,0 +1,110 @@
+-- The typed program of a source and its facts, or why it has none, in the order of these equations.
+use Rattle.std.specs.Prelude.{◌≡◌, ℕ, ◌≤◌, ◌<◌, List, [], length, Option, None, Some, Ok, slice_get}
+use Rattle.c_tree.specs.declared.token.Token.{Token}
+use Rattle.c_tree.specs.Names.{name_of, names_of_unit}
+use Rattle.c_tree.specs.Named.{named_unit}
+use Rattle.c_tree.specs.Said.{TokenList}
+use Rattle.c_tree.specs.Size.{size_unit}
+use Rattle.c_tree.specs.Spelling.{spoken}
+use Rattle.c_tree.specs.Tree.{TranslationUnit}
+use Rattle.c_lexer.specs.Cut.{HasTokens, StopsAt}
+use Rattle.c_parser.specs.Refused.{IsTreeOf, IsRefused}
+use Rattle.c_parser.specs.declared.fault.ParseFault.{ParseFault}
+use Rattle.c_parser.specs.declared.fault.ParseFault.TheVariants as parsing
+use Rattle.c_typed.specs.Tree.{Program, Function, Defined}
+use Rattle.c_types.specs.Typed.{fault_of, typed_of, Refuses}
+use Rattle.c_rules.specs.declared.fault.TypeFault.{TypeFault}
+use Rattle.c_facts.specs.Calls.{graph_of}
+use Rattle.c_facts.specs.Chains.{AreRanks, IsCallFault}
+use Rattle.c_facts.specs.FlowFacts.{flow_facts, IsFlowFault}
+use Rattle.c_facts.specs.declared.facts.Facts.{Facts}
+use Rattle.c_facts.specs.declared.facts.FlowFault.{FlowFault}
+use Rattle.c_facts.specs.declared.ranks.CallFault.{CallFault}
+use Rattle.c_facts.specs.declared.ranks.CallFault.TheVariants as calling
+use Rattle.c_facts.specs.declared.ranks.Ranks.{Ranks}
+use Rattle.c_front.specs.declared.refusal.Refusal.{Refusal}
+use Rattle.c_front.specs.declared.refusal.Refusal.TheVariants.{TooLong, Lex, Parse, Types, Calls, Flow, Memory}
+
+-- the source's tokens are the spelling of this well-formed tree, which is at most 256 deep; its names are numbered in the order in which they first stand
+pub record HasUnit (source : List ℕ) (names : List (List ℕ)) (unit : TranslationUnit ℕ) : Type 0 where
+  pub tokens : TokenList
+  pub of_source : tokens.source ≡ source
+  pub has : HasTokens source tokens.list
+  pub tree : IsTreeOf (named_unit (name_of names) unit) (spoken tokens)
+  pub shallow : (size_unit (named_unit (name_of names) unit)).depth ≤ 256
+  pub in_order : names ≡ names_of_unit (named_unit (name_of names) unit)
+
+-- the tree fails no rule and is within the limits, and this is its typed form
+pub record HasProgram (source : List ℕ) (names : List (List ℕ)) (program : Program) : Type 0 where
+  pub unit : TranslationUnit ℕ
+  pub has : HasUnit source names unit
+  pub passes : fault_of names unit ≡ None
+  pub program_is : program ≡ typed_of names unit
+
+-- no function of the program reaches itself, each of its loops has a bound, and these are its facts
+pub record HasFacts (program : Program) (names : List (List ℕ)) (facts : Facts) : Type 0 where
+  pub ranks : Ranks
+  pub are_ranks : AreRanks (graph_of program) ranks.of_functions
+  pub facts_are : flow_facts program names ranks [] ≡ Ok facts
+
+pub record IsSource (source : List ℕ) (names : List (List ℕ)) (program : Program) (facts : Facts) : Type 0 where
+  pub has_program : HasProgram source names program
+  pub has_facts : HasFacts program names facts
+
+-- the place of a token, or the end where there is no such token
+abbrev pub place_or : Option Token → (end : ℕ) → ℕ
+place_or None end = end
+place_or (Some token) end = token.at
+
+abbrev pub fault_place : ParseFault → List Token → (end : ℕ) → ℕ
+fault_place (parsing.Syntax token) tokens end = place_or (slice_get tokens token) end
+fault_place (parsing.Deep token) tokens end = place_or (slice_get tokens token) end
+fault_place parsing.Memory tokens end = end
+
+-- the place of a function's name in its definition
+abbrev pub name_place : Option Function → ℕ
+name_place None = 0
+name_place (Some (Defined specifiers name name_at params first body body_at at)) = name_at
+
+abbrev pub cycle_place : CallFault → Program → ℕ
+cycle_place (calling.Recursion function) program = name_place (slice_get program.functions function.0)
+cycle_place calling.Memory program = 0
+
+-- why the tokens are no spelling, and the place of the token
+pub record RefusesTokens (source : List ℕ) (fault : ParseFault) (at : ℕ) : Type 0 where
+  pub tokens : TokenList
+  pub of_source : tokens.source ≡ source
+  pub has : HasTokens source tokens.list
+  pub refused : IsRefused fault (spoken tokens)
+  pub at_is : at ≡ fault_place fault tokens.list (length source)
+
+pub record RefusesUnit (source : List ℕ) (fault : TypeFault) : Type 0 where
+  pub names : List (List ℕ)
+  pub unit : TranslationUnit ℕ
+  pub has : HasUnit source names unit
+  pub refused : Refuses fault names unit
+
+pub record RefusesCalls (source : List ℕ) (fault : CallFault) (at : ℕ) : Type 0 where
+  pub names : List (List ℕ)
+  pub program : Program
+  pub has : HasProgram source names program
+  pub refused : IsCallFault fault (graph_of program)
+  pub at_is : at ≡ cycle_place fault program
+
+pub record RefusesFlow (source : List ℕ) (fault : FlowFault) : Type 0 where
+  pub names : List (List ℕ)
+  pub program : Program
+  pub has : HasProgram source names program
+  pub ranks : Ranks
+  pub are_ranks : AreRanks (graph_of program) ranks.of_functions
+  pub refused : IsFlowFault fault (flow_facts program names ranks [])
+
+-- why a source has no program with facts; want of memory says nothing
+abbrev pub RefusesSource : List ℕ → Refusal → Type 0
+RefusesSource source TooLong = 1048576 < length source
+RefusesSource source (Lex fault) = StopsAt fault source
+RefusesSource source (Parse fault at) = RefusesTokens source fault at
+RefusesSource source (Types fault) = RefusesUnit source fault
+RefusesSource source (Calls fault at) = RefusesCalls source fault at
+RefusesSource source (Flow fault) = RefusesFlow source fault
+RefusesSource source Memory = Unit {0}

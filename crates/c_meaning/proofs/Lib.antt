@@ -1,0 +1,4 @@
+pub mod Behind
+pub mod Room
+pub mod Vecs
+pub mod Calling

@@ -1,0 +1,7 @@
+use Rattle.std.proofs.Common.{◌≡◌, drop}
+use Rattle.c_typed.specs.View.{items_of}
+use Rattle.c_semantics.specs.Statements.{has_case}
+use Rattle.c_meaning.proofs.parts.has_case.Given as goal
+
+abbrev pub invariant-loop-item : goal.invariant-loop-item
+invariant-loop-item l = has_case l.word (items_of (drop l.item-index l.items)) ≡ has_case l.word (items_of l.items)

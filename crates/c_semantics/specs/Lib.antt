@@ -1,0 +1,4 @@
+pub mod State
+pub mod Values
+pub mod Statements
+pub mod Runs
