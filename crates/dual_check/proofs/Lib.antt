@@ -1,0 +1,10 @@
+mod SumLemmas
+mod LookupLemmas
+mod LeastLemmas
+mod MissingLemmas
+mod SignLemmas
+mod MoveLemmas
+mod FlowLemmas
+mod ClaimLemmas
+mod ValueLemmas
+mod VerdictLemmas

@@ -1,0 +1,7 @@
+use Rattle.flow_system.specs.Counts.{amount}
+use Rattle.flow_system.specs.Certificates.{listed}
+use Rattle.dual_check.proofs.SumLemmas.{Adds}
+use Rattle.dual_check.proofs.flows.add_moves.Given as goal
+
+abbrev pub invariant-loop-i : goal.invariant-loop-i
+invariant-loop-i l = Adds (λ m. amount (listed l.cert.flow.parts) m) l.moves l.i l.all.total l.all.size l.fn.sum.total l.fn.sum.size

@@ -1,0 +1,5 @@
+pub mod Rows
+pub mod Verdicts
+pub mod Leasts
+pub mod Multipliers
+pub mod Tests

@@ -1,0 +1,14 @@
+// The potentials of a certificate.
+ghost use Rattle.std.specs.Prelude.{◌≡◌};
+ghost use Rattle.flow_system.specs.Certificates.{potential, AddressesAscend};
+
+use flow_lookup::potential;
+use flow_system::Cert;
+
+/// The potential of an address, 0 where none is given.
+pub fn potential_of(cert: &Cert, at: u32) -> i128
+    requires { AddressesAscend cert.now.potentials }
+    ensures { result ≡ potential cert.now at }
+{
+    potential(cert.potentials.as_slice(), at)
+}
