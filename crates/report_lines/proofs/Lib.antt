@@ -1,0 +1,5 @@
+pub mod ValueLemmas
+pub mod FitLemmas
+pub mod LetterLemmas
+pub mod SumLemmas
+pub mod TermLemmas

@@ -1,0 +1,6 @@
+use Rattle.std.proofs.Common.{◌≡◌, map, drop}
+use Rattle.report_lines.specs.LineLists.{are_addresses}
+use Rattle.report_lines.proofs.lists.are_addresses.Given as goal
+
+abbrev pub invariant-loop-word : goal.invariant-loop-word
+invariant-loop-word l = are_addresses (map (λ w. w.now) (drop l.word-index l.words)) ≡ are_addresses (map (λ w. w.now) l.words)

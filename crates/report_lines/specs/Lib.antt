@@ -1,0 +1,4 @@
+pub mod LineShapes
+pub mod LineLists
+pub mod ListProgress
+pub mod Sums

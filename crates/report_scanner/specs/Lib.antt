@@ -1,0 +1,5 @@
+pub mod Numbers
+pub mod Splitting
+pub mod Scanning
+pub mod Shapes
+pub mod Testing
