@@ -49,9 +49,9 @@ purpose_more (purpose.Tests test) n d h = test_more test n d h
 purpose_more (purpose.Starts loop under) n d h = frames_more under.value n _ (omega (arith, h))
 purpose_more (purpose.Guards head under) n d h = frames_more under.value n _ (omega (arith, h))
 purpose_more (purpose.Repeats head under) n d h = frames_more under.value n _ (omega (arith, h))
-purpose_more (purpose.Sizes declarator) n d h = declarator_more declarator n d h
-purpose_more (purpose.Initialises object) n d h = scope_more object.head.scope n _ (omega (arith, h))
-purpose_more (purpose.Lists object front) n d h = scope_more object.head.scope n _ (omega (arith, h))
+purpose_more (purpose.Sizes declarator) n d h = declarator_more declarator.value n d h
+purpose_more (purpose.Initialises object) n d h = scope_more object.value.head.scope n _ (omega (arith, h))
+purpose_more (purpose.Lists object front) n d h = scope_more object.value.head.scope n _ (omega (arith, h))
 purpose_more (purpose.Labels front braces at) n d h = braces_more braces.value n _ (omega (arith, h))
 
 stack_more : (under : stacks.Stack) (n d : ℕ) → n ≤ d → n + 1 ≤ stack_depth under d

@@ -1,7 +1,8 @@
 -- The depth that stands beside a part, as that of the part with its names.
-use Rattle.std.proofs.Common.{◌≡◌, ℕ, max, ap, ◌∙◌, sym}
-use Rattle.c_tree.specs.Named.{map_option}
-use Rattle.c_tree.specs.Tree.{NoExpr, NoItem, Nothing}
+use Rattle.std.proofs.Common.{◌≡◌, ℕ, max, refl, ap, ◌∙◌, sym}
+use Rattle.c_tree.specs.Named.{map_option, named_items}
+use Rattle.c_tree.specs.Size.{size_items}
+use Rattle.c_tree.specs.Tree.{NoExpr, Items, NoItem, AndDeclaration, AndStatement, AndRestriction, AndLabel, Nothing}
 use Rattle.c_tree.specs.View.{expr_of, exprs_of, external_of, items_of, object_of, param_of, row_of, shape_of, start_of, statement_of}
 use Rattle.c_begun.specs.declared.part.Part.{Part}
 use Rattle.c_begun.specs.declared.part.Parts.{Parts}
@@ -14,7 +15,8 @@ use Rattle.c_begun.specs.declared.part.ItemParts.{ItemParts}
 use Rattle.c_begun.specs.declared.part.ObjectPart.{ObjectPart}
 use Rattle.c_begun.specs.declared.part.ParamParts.{ParamParts}
 use Rattle.c_begun.specs.declared.part.ExternalParts.{ExternalParts}
-use Rattle.c_begun.specs.View.{Names, externals_depth, items_depth, maybe_depth, object_depth, objects_depth, params_depth, part_depth, parts_depth, shape_depth, start_depth, statement_depth}
+use Rattle.c_begun.specs.BeforeLast.{before_last}
+use Rattle.c_begun.specs.View.{Names, externals_depth, items_depth, items_depth_before, maybe_depth, object_depth, objects_depth, params_depth, part_depth, parts_depth, shape_depth, start_depth, statement_depth}
 use Rattle.c_tree.proofs.NamedSizes.{size_named, size_all_named, size_externals_named, size_items_named, size_object_named, size_objects_named, size_optional_named, size_params_named, size_shape_named, size_start_named, size_statement_named}
 
 pub part_depth_is : (f : Names) (p : Part) → p.depth ≡ part_depth f p
@@ -40,6 +42,18 @@ maybe_depth_is f p = p.is_depth ∙ ap (λ s. s.depth) (sym (size_optional_named
 
 pub items_depth_is : (f : Names) (p : ItemParts) → p.depth ≡ items_depth f p
 items_depth_is f p = p.is_depth ∙ ap (λ s. s.depth) (sym (size_items_named f (items_of NoItem p.list.items)))
+
+before_last_named : (f : Names) (items : Items ℕ) → named_items f (before_last items) ≡ before_last (named_items f items)
+before_last_named f NoItem = refl
+before_last_named f (AndDeclaration front declaration) = refl
+before_last_named f (AndStatement front statement) = refl
+before_last_named f (AndRestriction front pragma) = refl
+before_last_named f (AndLabel front label) = refl
+
+pub items_depth_before_is : (f : Names) (p : ItemParts) → p.depth_before ≡ items_depth_before f p
+items_depth_before_is f p =
+    let items = items_of NoItem p.list.items in
+    p.is_depth_before ∙ ap (λ s. s.depth) (sym (size_items_named f (before_last items))) ∙ ap (λ before. (size_items before).depth) (before_last_named f items)
 
 pub params_depth_is : (f : Names) (p : ParamParts) → p.depth ≡ params_depth f p
 params_depth_is f p = p.is_depth ∙ ap (λ s. s.depth) (sym (size_params_named f (row_of param_of Nothing p.list.items)))

@@ -32,10 +32,10 @@ mutual
   pub frames_same : (f : Names) (under : frames.Frames) (d e : ℕ) → d ≡ e → frames_depth under d ≡ frames_deep (frames_of f under) e
   frames_same f (frames.InItems' items p braces) d e h = braces_same f braces _ _ (both_max _ _ _ _ (items_depth_is f items) h)
   frames_same f (frames.InThen' test at p under) d e h = frames_same f under _ _ (both_over _ _ _ _ (part_depth_is f test) h)
-  frames_same f (frames.InElse' test first at p under) d e h = frames_same f under _ _ (both_over _ _ _ _ (both_max _ _ _ _ (part_depth_is f test) (statement_depth_is f first)) h)
+  frames_same f (frames.InElse' test first at p under) d e h = frames_same f under _ _ (both_over _ _ _ _ (both_max _ _ _ _ (part_depth_is f test) (statement_depth_is f first.value)) h)
   frames_same f (frames.InWhile' loop test p under) d e h = frames_same f under _ _ (both_over _ _ _ _ (part_depth_is f test) h)
   frames_same f (frames.InDo' loop p under) d e h = frames_same f under _ _ (ap (λ n. n + 1) h)
-  frames_same f (frames.InFor' head p under) d e h = frames_same f under _ _ (both_over _ _ _ _ (both_max _ _ _ _ (both_max _ _ _ _ (start_depth_is f head.start) (maybe_depth_is f head.test)) (maybe_depth_is f head.step)) h)
+  frames_same f (frames.InFor' head p under) d e h = frames_same f under _ _ (both_over _ _ _ _ (both_max _ _ _ _ (both_max _ _ _ _ (start_depth_is f head.value.start) (maybe_depth_is f head.value.test)) (maybe_depth_is f head.value.step)) h)
 
   pub braces_same : (f : Names) (braces : braces.Braces) (d e : ℕ) → d ≡ e → braces_depth braces d ≡ braces_deep (braces_of f braces) e
   braces_same f (braces.OfBlock' at p under) d e h = frames_same f under _ _ (ap (λ n. n + 1) h)
@@ -60,7 +60,7 @@ declarator_same f (declarator.OfParam param) d e h = proto_same f param.proto _ 
 pub test_same : (f : Names) (test : tests.Test) (d e : ℕ) → d ≡ e → test_depth test d ≡ test_deep (test_of f test) e
 test_same f (test.OfIf at under) d e h = frames_same f under.value _ _ (ap (λ n. n + 1) h)
 test_same f (test.OfWhile loop under) d e h = frames_same f under.value _ _ (ap (λ n. n + 1) h)
-test_same f (test.OfDo loop body under) d e h = frames_same f under.value _ _ (both_over _ _ _ _ (statement_depth_is f body) h)
+test_same f (test.OfDo loop body under) d e h = frames_same f under.value _ _ (both_over _ _ _ _ (statement_depth_is f body.value) h)
 test_same f (test.OfChoice at under) d e h = frames_same f under.value _ _ (ap (λ n. n + 1) h)
 
 pub purpose_same : (f : Names) (purpose : purposes.Purpose) (d e : ℕ) → d ≡ e → purpose_depth purpose d ≡ purpose_deep (purpose_of f purpose) e
@@ -68,11 +68,11 @@ purpose_same f (purpose.Evaluates under) d e h = frames_same f under.value _ _ (
 purpose_same f (purpose.Returns at under) d e h = frames_same f under.value _ _ (ap (λ n. n + 1) h)
 purpose_same f (purpose.Tests test) d e h = test_same f test d e h
 purpose_same f (purpose.Starts loop under) d e h = frames_same f under.value _ _ (ap (λ n. n + 1) h)
-purpose_same f (purpose.Guards head under) d e h = frames_same f under.value _ _ (both_over _ _ _ _ (start_depth_is f head.start) h)
-purpose_same f (purpose.Repeats head under) d e h = frames_same f under.value _ _ (both_over _ _ _ _ (both_max _ _ _ _ (start_depth_is f head.start) (maybe_depth_is f head.test)) h)
-purpose_same f (purpose.Sizes declarator) d e h = declarator_same f declarator d e h
-purpose_same f (purpose.Initialises object) d e h = head_same f object.head _ _ (both_over _ _ _ _ (shape_depth_is f object.shape) h)
-purpose_same f (purpose.Lists object front) d e h = head_same f object.head _ _ (both_over _ _ _ _ (shape_depth_is f object.shape) (both_max _ _ _ _ (parts_depth_is f front) h))
+purpose_same f (purpose.Guards head under) d e h = frames_same f under.value _ _ (both_over _ _ _ _ (start_depth_is f head.value.start) h)
+purpose_same f (purpose.Repeats head under) d e h = frames_same f under.value _ _ (both_over _ _ _ _ (both_max _ _ _ _ (start_depth_is f head.value.start) (maybe_depth_is f head.value.test)) h)
+purpose_same f (purpose.Sizes declarator) d e h = declarator_same f declarator.value d e h
+purpose_same f (purpose.Initialises object) d e h = head_same f object.value.head _ _ (both_over _ _ _ _ (shape_depth_is f object.value.shape) h)
+purpose_same f (purpose.Lists object front) d e h = head_same f object.value.head _ _ (both_over _ _ _ _ (shape_depth_is f object.value.shape) (both_max _ _ _ _ (parts_depth_is f front) h))
 purpose_same f (purpose.Labels front braces at) d e h = braces_same f braces.value _ _ (both_max _ _ _ _ (items_depth_is f front) (ap (λ n. n + 1) h))
 
 pub stack_same : (f : Names) (under : stacks.Stack) (d e : ℕ) → d ≡ e → stack_depth under d ≡ stack_deep (stack_of f under) e
@@ -84,7 +84,7 @@ stack_same f (stacks.AfterPrefix' operator at p under) d e h = stack_same f unde
 stack_same f (stacks.AfterCast' all at p under) d e h = stack_same f under _ _ (ap (λ n. n + 1) h)
 stack_same f (stacks.AfterJoin' operator left p under) d e h = stack_same f under _ _ (both_over _ _ _ _ (part_depth_is f left) h)
 stack_same f (stacks.AfterQuestion' test p under) d e h = stack_same f under _ _ (both_over _ _ _ _ (part_depth_is f test) h)
-stack_same f (stacks.AfterColon' test first p under) d e h = stack_same f under _ _ (both_over _ _ _ _ (both_max _ _ _ _ (part_depth_is f test) (part_depth_is f first)) h)
+stack_same f (stacks.AfterColon' test first p under) d e h = stack_same f under _ _ (both_over _ _ _ _ (both_max _ _ _ _ (part_depth_is f test) (part_depth_is f first.value)) h)
 stack_same f (stacks.AfterAssign' operator target p under) d e h = stack_same f under _ _ (both_over _ _ _ _ (part_depth_is f target) h)
 
 pub state_same : (f : Names) (state : states.State) → state_depth state ≡ deep (state_of f state)

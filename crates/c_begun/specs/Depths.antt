@@ -24,10 +24,10 @@ abbrev mutual
   pub frames_depth : frames.Frames → ℕ → ℕ
   frames_depth (frames.InItems' items p braces) d = braces_depth braces (max items.depth d)
   frames_depth (frames.InThen' test at p under) d = frames_depth under (max test.depth d + 1)
-  frames_depth (frames.InElse' test first at p under) d = frames_depth under (max (max test.depth first.depth) d + 1)
+  frames_depth (frames.InElse' test first at p under) d = frames_depth under (max (max test.depth first.value.depth) d + 1)
   frames_depth (frames.InWhile' loop test p under) d = frames_depth under (max test.depth d + 1)
   frames_depth (frames.InDo' loop p under) d = frames_depth under (d + 1)
-  frames_depth (frames.InFor' head p under) d = frames_depth under (max (max (max head.start.depth head.test.depth) head.step.depth) d + 1)
+  frames_depth (frames.InFor' head p under) d = frames_depth under (max (max (max head.value.start.depth head.value.test.depth) head.value.step.depth) d + 1)
 
   pub braces_depth : braces.Braces → ℕ → ℕ
   braces_depth (braces.OfBlock' at p under) d = frames_depth under (d + 1)
@@ -52,7 +52,7 @@ declarator_depth (declarator.OfParam param) d = proto_depth param.proto (max par
 abbrev pub test_depth : tests.Test → ℕ → ℕ
 test_depth (test.OfIf at under) d = frames_depth under.value (d + 1)
 test_depth (test.OfWhile loop under) d = frames_depth under.value (d + 1)
-test_depth (test.OfDo loop body under) d = frames_depth under.value (max body.depth d + 1)
+test_depth (test.OfDo loop body under) d = frames_depth under.value (max body.value.depth d + 1)
 test_depth (test.OfChoice at under) d = frames_depth under.value (d + 1)
 
 abbrev pub purpose_depth : purposes.Purpose → ℕ → ℕ
@@ -60,11 +60,11 @@ purpose_depth (purpose.Evaluates under) d = frames_depth under.value (d + 1)
 purpose_depth (purpose.Returns at under) d = frames_depth under.value (d + 1)
 purpose_depth (purpose.Tests test) d = test_depth test d
 purpose_depth (purpose.Starts loop under) d = frames_depth under.value (d + 1)
-purpose_depth (purpose.Guards head under) d = frames_depth under.value (max head.start.depth d + 1)
-purpose_depth (purpose.Repeats head under) d = frames_depth under.value (max (max head.start.depth head.test.depth) d + 1)
-purpose_depth (purpose.Sizes declarator) d = declarator_depth declarator d
-purpose_depth (purpose.Initialises object) d = head_depth object.head (max object.shape.depth d + 1)
-purpose_depth (purpose.Lists object front) d = head_depth object.head (max object.shape.depth (max front.depth d) + 1)
+purpose_depth (purpose.Guards head under) d = frames_depth under.value (max head.value.start.depth d + 1)
+purpose_depth (purpose.Repeats head under) d = frames_depth under.value (max (max head.value.start.depth head.value.test.depth) d + 1)
+purpose_depth (purpose.Sizes declarator) d = declarator_depth declarator.value d
+purpose_depth (purpose.Initialises object) d = head_depth object.value.head (max object.value.shape.depth d + 1)
+purpose_depth (purpose.Lists object front) d = head_depth object.value.head (max object.value.shape.depth (max front.depth d) + 1)
 purpose_depth (purpose.Labels front braces at) d = braces_depth braces.value (max front.depth (d + 1))
 
 abbrev pub stack_depth : stacks.Stack → ℕ → ℕ
@@ -76,7 +76,7 @@ stack_depth (stacks.AfterPrefix' operator at p under) d = stack_depth under (d +
 stack_depth (stacks.AfterCast' all at p under) d = stack_depth under (d + 1)
 stack_depth (stacks.AfterJoin' operator left p under) d = stack_depth under (max left.depth d + 1)
 stack_depth (stacks.AfterQuestion' test p under) d = stack_depth under (max test.depth d + 1)
-stack_depth (stacks.AfterColon' test first p under) d = stack_depth under (max (max test.depth first.depth) d + 1)
+stack_depth (stacks.AfterColon' test first p under) d = stack_depth under (max (max test.depth first.value.depth) d + 1)
 stack_depth (stacks.AfterAssign' operator target p under) d = stack_depth under (max target.depth d + 1)
 
 abbrev pub state_depth : states.State → ℕ

@@ -1,2 +1,3 @@
+pub mod BeforeLast
 pub mod View
 pub mod Depths

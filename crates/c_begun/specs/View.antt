@@ -36,6 +36,7 @@ use Rattle.c_begun.specs.declared.begun.State.TheVariants as state
 use Rattle.c_tree.specs.declared.expression.NameId.{NameId}
 use Rattle.c_begun.specs.declared.refusal.Refusal.{Refusal}
 use Rattle.c_begun.specs.declared.refusal.Refusal.TheVariants as refusals
+use Rattle.c_begun.specs.BeforeLast.{before_last}
 use Rattle.c_grammar.specs.Machine.{Moved, Goes, Stuck}
 use Rattle.c_grammar.specs.Begun.{Bytes, Header, Heads, Frames, InItems, InThen, InElse, InWhile, InDo, InFor, Braces, OfBlock, OfSwitch, OfFunction, Scope, AtFile, AmongItems, AtFor, Head, Heading, Proto, Signs, Declarator, OfObject, OfParam, Test, OfIf, OfWhile, OfDo, OfChoice, Purpose, Evaluates, Returns, Tests, Starts, Guards, Repeats, Sizes, Initialises, Lists, Labels, Stack, Base, InParen, InIndex, InCall, AfterPrefix, AfterCast, AfterJoin, AfterQuestion, AfterColon, AfterAssign, State, Wants, Has, Opened, Typed, Called, File, Among, Begins, Stands, Closes, Bounded, Opens, Chooses, Answers, Defaults, Loops, LoopStarts, LoopTests, LoopSteps, Specified, Named, Further, Declares, Sizing, Shaped, Initial, Listed, Ended, ParamsOpen, ParamNext, ParamSpecified, ParamsDone}
 
@@ -86,10 +87,10 @@ abbrev mutual
   pub frames_of : Names → frames.Frames → Frames
   frames_of f (frames.InItems' items p braces) = InItems (item_parts_of f items) (braces_of f braces)
   frames_of f (frames.InThen' test at p under) = InThen (part_of f test) at (frames_of f under)
-  frames_of f (frames.InElse' test first at p under) = InElse (part_of f test) (statement_part_of f first) at (frames_of f under)
+  frames_of f (frames.InElse' test first at p under) = InElse (part_of f test) (statement_part_of f first.value) at (frames_of f under)
   frames_of f (frames.InWhile' loop test p under) = InWhile loop.bound (part_of f test) loop.at (frames_of f under)
   frames_of f (frames.InDo' loop p under) = InDo loop.bound loop.at (frames_of f under)
-  frames_of f (frames.InFor' head p under) = InFor head.bound (start_part_of f head.start) (maybe_of f head.test) (maybe_of f head.step) head.at (frames_of f under)
+  frames_of f (frames.InFor' head p under) = InFor head.value.bound (start_part_of f head.value.start) (maybe_of f head.value.test) (maybe_of f head.value.step) head.value.at (frames_of f under)
 
   pub braces_of : Names → braces.Braces → Braces
   braces_of f (braces.OfBlock' at p under) = OfBlock at (frames_of f under)
@@ -117,7 +118,7 @@ declarator_of f (declarator.OfParam param) = OfParam (proto_of f param.proto) (p
 abbrev pub test_of : Names → tests.Test → Test
 test_of f (test.OfIf at under) = OfIf at (frames_of f under.value)
 test_of f (test.OfWhile loop under) = OfWhile loop.bound loop.at (frames_of f under.value)
-test_of f (test.OfDo loop body under) = OfDo loop.bound (statement_part_of f body) loop.at (frames_of f under.value)
+test_of f (test.OfDo loop body under) = OfDo loop.bound (statement_part_of f body.value) loop.at (frames_of f under.value)
 test_of f (test.OfChoice at under) = OfChoice at (frames_of f under.value)
 
 abbrev pub purpose_of : Names → purposes.Purpose → Purpose
@@ -125,11 +126,11 @@ purpose_of f (purpose.Evaluates under) = Evaluates (frames_of f under.value)
 purpose_of f (purpose.Returns at under) = Returns at (frames_of f under.value)
 purpose_of f (purpose.Tests test) = Tests (test_of f test)
 purpose_of f (purpose.Starts loop under) = Starts loop.bound loop.at (frames_of f under.value)
-purpose_of f (purpose.Guards head under) = Guards head.bound (start_part_of f head.start) head.at (frames_of f under.value)
-purpose_of f (purpose.Repeats head under) = Repeats head.bound (start_part_of f head.start) (maybe_of f head.test) head.at (frames_of f under.value)
-purpose_of f (purpose.Sizes declarator) = Sizes (declarator_of f declarator)
-purpose_of f (purpose.Initialises object) = Initialises (head_of f object.head) (f object.name.name.0) (shape_part_of f object.shape) object.name.at
-purpose_of f (purpose.Lists object front) = Lists (head_of f object.head) (f object.name.name.0) (shape_part_of f object.shape) (parts_of f front) object.name.at
+purpose_of f (purpose.Guards head under) = Guards head.value.bound (start_part_of f head.value.start) head.value.at (frames_of f under.value)
+purpose_of f (purpose.Repeats head under) = Repeats head.value.bound (start_part_of f head.value.start) (maybe_of f head.value.test) head.value.at (frames_of f under.value)
+purpose_of f (purpose.Sizes declarator) = Sizes (declarator_of f declarator.value)
+purpose_of f (purpose.Initialises object) = Initialises (head_of f object.value.head) (f object.value.name.name.0) (shape_part_of f object.value.shape) object.value.name.at
+purpose_of f (purpose.Lists object front) = Lists (head_of f object.value.head) (f object.value.name.name.0) (shape_part_of f object.value.shape) (parts_of f front) object.value.name.at
 purpose_of f (purpose.Labels front braces at) = Labels (item_parts_of f front) (braces_of f braces.value) at
 
 abbrev pub stack_of : Names → stacks.Stack → Stack
@@ -141,7 +142,7 @@ stack_of f (stacks.AfterPrefix' operator at p under) = AfterPrefix operator at (
 stack_of f (stacks.AfterCast' all at p under) = AfterCast all.items at (stack_of f under)
 stack_of f (stacks.AfterJoin' operator left p under) = AfterJoin operator (part_of f left) (stack_of f under)
 stack_of f (stacks.AfterQuestion' test p under) = AfterQuestion (part_of f test) (stack_of f under)
-stack_of f (stacks.AfterColon' test first p under) = AfterColon (part_of f test) (part_of f first) (stack_of f under)
+stack_of f (stacks.AfterColon' test first p under) = AfterColon (part_of f test) (part_of f first.value) (stack_of f under)
 stack_of f (stacks.AfterAssign' operator target p under) = AfterAssign operator (part_of f target) (stack_of f under)
 
 abbrev pub state_of : Names → states.State → State
@@ -208,6 +209,10 @@ start_depth f part = (size_start (start_part_of f part)).depth
 
 abbrev pub items_depth : Names → items.ItemParts → ℕ
 items_depth f parts = (size_items (item_parts_of f parts)).depth
+
+-- of the items before the last
+abbrev pub items_depth_before : Names → items.ItemParts → ℕ
+items_depth_before f parts = (size_items (before_last (item_parts_of f parts))).depth
 
 abbrev pub externals_depth : Names → externals.ExternalParts → ℕ
 externals_depth f parts = (size_row size_external (externals_of f parts)).depth

@@ -82,6 +82,13 @@ impl Loop {
 }
 
 impl StartedFor {
+    pub fn boxed(self, alloc: Global) -> Result<Box<StartedFor>, Refusal>
+        ensures ok { IfOk result (λ b. b.value ≡ self) }
+        ensures err { IfErr result (λ e. e ≡ Memory) }
+    {
+        Ok(Box::new(alloc, self)?)
+    }
+
     pub fn let_go(self) {
         drop(self);
     }
@@ -103,6 +110,13 @@ impl StartedFor {
 }
 
 impl TestedFor {
+    pub fn boxed(self, alloc: Global) -> Result<Box<TestedFor>, Refusal>
+        ensures ok { IfOk result (λ b. b.value ≡ self) }
+        ensures err { IfErr result (λ e. e ≡ Memory) }
+    {
+        Ok(Box::new(alloc, self)?)
+    }
+
     pub fn let_go(self) {
         drop(self);
     }
@@ -126,6 +140,13 @@ impl TestedFor {
 }
 
 impl HeadedFor {
+    pub fn boxed(self, alloc: Global) -> Result<Box<HeadedFor>, Refusal>
+        ensures ok { IfOk result (λ b. b.value ≡ self) }
+        ensures err { IfErr result (λ e. e ≡ Memory) }
+    {
+        Ok(Box::new(alloc, self)?)
+    }
+
     pub fn let_go(self) {
         drop(self);
     }
@@ -143,13 +164,13 @@ pub enum Frames {
     },
     InElse {
         test: Part,
-        first: StatementPart,
+        first: Box<StatementPart>,
         at: u32,
         under: Box<Frames>,
     },
     InWhile(Loop, Part, Box<Frames>),
     InDo(Loop, Box<Frames>),
-    InFor(HeadedFor, Box<Frames>),
+    InFor(Box<HeadedFor>, Box<Frames>),
 }
 
 /// What the items between braces belong to.
@@ -224,7 +245,7 @@ pub struct Receiver {
 pub enum Test {
     OfIf { at: u32, under: Box<Frames> },
     OfWhile(Loop, Box<Frames>),
-    OfDo(Loop, StatementPart, Box<Frames>),
+    OfDo(Loop, Box<StatementPart>, Box<Frames>),
     OfChoice { at: u32, under: Box<Frames> },
 }
 
@@ -238,11 +259,11 @@ pub enum Purpose {
     },
     Tests(Test),
     Starts(Loop, Box<Frames>),
-    Guards(StartedFor, Box<Frames>),
-    Repeats(TestedFor, Box<Frames>),
-    Sizes(Declarator),
-    Initialises(Receiver),
-    Lists(Receiver, Parts),
+    Guards(Box<StartedFor>, Box<Frames>),
+    Repeats(Box<TestedFor>, Box<Frames>),
+    Sizes(Box<Declarator>),
+    Initialises(Box<Receiver>),
+    Lists(Box<Receiver>, Parts),
     Labels {
         front: ItemParts,
         braces: Box<Braces>,
@@ -281,7 +302,7 @@ pub enum Stack {
     },
     AfterColon {
         test: Part,
-        first: Part,
+        first: Box<Part>,
         under: Box<Stack>,
     },
     AfterAssign {
@@ -464,6 +485,13 @@ impl Proto {
 }
 
 impl Declarator {
+    pub fn boxed(self, alloc: Global) -> Result<Box<Declarator>, Refusal>
+        ensures ok { IfOk result (λ b. b.value ≡ self) }
+        ensures err { IfErr result (λ e. e ≡ Memory) }
+    {
+        Ok(Box::new(alloc, self)?)
+    }
+
     /// Nothing of it may stand there.
     pub fn refuse(self) -> Refusal
         ensures { result ≡ Syntax }
@@ -474,6 +502,13 @@ impl Declarator {
 }
 
 impl Receiver {
+    pub fn boxed(self, alloc: Global) -> Result<Box<Receiver>, Refusal>
+        ensures ok { IfOk result (λ b. b.value ≡ self) }
+        ensures err { IfErr result (λ e. e ≡ Memory) }
+    {
+        Ok(Box::new(alloc, self)?)
+    }
+
     pub fn let_go(self) {
         drop(self);
     }

@@ -86,6 +86,7 @@ pub fn no_items(alloc: Global) -> ItemParts
     ItemParts {
         list: Vec::new(alloc),
         depth: 0,
+        depth_before: 0,
     }
 }
 
@@ -95,10 +96,15 @@ pub fn and_statement(front: ItemParts, last: StatementPart) -> Result<ItemParts,
     ensures ok { IfOk result (λ p. (items_of NoItem p.list.items ≡ AndStatement (items_of NoItem front.list.items) (statement_of last.statement)) × (p.depth ≡ max front.depth last.depth)) }
     ensures err { IfErr result (λ e. e ≡ Memory) }
 {
+    let depth_before = front.depth;
     let depth = front.depth.max(last.depth);
     let mut list = front.list;
     list.push(Item::Statement(last.statement))?;
-    Ok(ItemParts { list, depth })
+    Ok(ItemParts {
+        list,
+        depth,
+        depth_before,
+    })
 }
 
 /// One restriction more.
@@ -107,10 +113,15 @@ pub fn and_restriction(front: ItemParts, last: Pragma) -> Result<ItemParts, Refu
     ensures ok { IfOk result (λ p. items_of NoItem p.list.items ≡ AndRestriction (items_of NoItem front.list.items) last) }
     ensures err { IfErr result (λ e. e ≡ Memory) }
 {
+    let depth_before = front.depth;
     let depth = front.depth.max(1);
     let mut list = front.list;
     list.push(Item::Restriction(last))?;
-    Ok(ItemParts { list, depth })
+    Ok(ItemParts {
+        list,
+        depth,
+        depth_before,
+    })
 }
 
 /// One declaration more, among items.
@@ -119,10 +130,15 @@ pub fn and_declaration(front: ItemParts, last: DeclarationPart) -> Result<ItemPa
     ensures ok { IfOk result (λ p. items_of NoItem p.list.items ≡ AndDeclaration (items_of NoItem front.list.items) (declaration_of last.declaration)) }
     ensures err { IfErr result (λ e. e ≡ Memory) }
 {
+    let depth_before = front.depth;
     let depth = front.depth.max(last.depth);
     let mut list = front.list;
     list.push(Item::Declaration(last.declaration))?;
-    Ok(ItemParts { list, depth })
+    Ok(ItemParts {
+        list,
+        depth,
+        depth_before,
+    })
 }
 
 /// One declaration more, at file level.
@@ -144,13 +160,18 @@ pub fn and_case(front: ItemParts, value: Part, at: u32) -> Result<ItemParts, Ref
     ensures ok { IfOk result (λ p. items_of NoItem p.list.items ≡ AndLabel (items_of NoItem front.list.items) (Case (expr_of value.tree) at)) }
     ensures err { IfErr result (λ e. e ≡ Memory) }
 {
+    let depth_before = front.depth;
     let depth = front.depth.max(value.depth + 1);
     let mut list = front.list;
     list.push(Item::Label(Label::Case {
         value: value.tree,
         at,
     }))?;
-    Ok(ItemParts { list, depth })
+    Ok(ItemParts {
+        list,
+        depth,
+        depth_before,
+    })
 }
 
 /// A `default` more.
@@ -159,10 +180,15 @@ pub fn and_default(front: ItemParts, at: u32) -> Result<ItemParts, Refusal>
     ensures ok { IfOk result (λ p. items_of NoItem p.list.items ≡ AndLabel (items_of NoItem front.list.items) (Default at)) }
     ensures err { IfErr result (λ e. e ≡ Memory) }
 {
+    let depth_before = front.depth;
     let depth = front.depth.max(1);
     let mut list = front.list;
     list.push(Item::Label(Label::Default { at }))?;
-    Ok(ItemParts { list, depth })
+    Ok(ItemParts {
+        list,
+        depth,
+        depth_before,
+    })
 }
 
 /// No parameter yet.

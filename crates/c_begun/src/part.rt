@@ -1,13 +1,17 @@
-ghost use Rattle.std.specs.Prelude.{◌≡◌, ◌≤◌};
+ghost use Rattle.std.specs.Prelude.{◌≡◌, ◌≤◌, IfErr, IfOk};
+ghost use Rattle.c_begun.specs.BeforeLast.{before_last};
+ghost use Rattle.c_begun.specs.declared.refusal.Refusal.TheVariants.{Memory};
 ghost use Rattle.c_tree.specs.Named.{map_option};
 ghost use Rattle.c_tree.specs.Size.{size, size_all, size_declaration, size_external, size_items, size_object, size_optional, size_param, size_row, size_shape, size_start, size_statement};
 ghost use Rattle.c_tree.specs.Tree.{NoExpr, NoItem, Nothing};
 ghost use Rattle.c_tree.specs.View.{declaration_of, expr_of, exprs_of, external_of, items_of, object_of, param_of, row_of, shape_of, start_of, statement_of};
 
+use super::refusal::Refusal;
 use c_tree::declaration::{Declaration, Object, Param, Shape};
 use c_tree::expression::Expr;
 use c_tree::external::External;
 use c_tree::statement::{ForStart, Item, Statement};
+use std::alloc::Global;
 
 /// An expression and its depth.
 #[derive(Drop)]
@@ -99,12 +103,14 @@ pub struct StatementPart {
     ghost is_shallow: { depth ≤ 256 },
 }
 
-/// The items between braces so far, and their greatest depth.
+/// The items between braces so far, their greatest depth, and that of those before the last.
 #[derive(Drop)]
 pub struct ItemParts {
     pub list: Vec<Item>,
     pub depth: u32,
+    pub depth_before: u32,
     ghost is_depth: { depth ≡ (size_items (items_of NoItem list.items)).depth },
+    ghost is_depth_before: { depth_before ≡ (size_items (before_last (items_of NoItem list.items))).depth },
     ghost is_shallow: { depth ≤ 256 },
 }
 
@@ -127,12 +133,26 @@ pub struct DeclarationPart {
 }
 
 impl Part {
+    pub fn boxed(self, alloc: Global) -> Result<Box<Part>, Refusal>
+        ensures ok { IfOk result (λ b. b.value ≡ self) }
+        ensures err { IfErr result (λ e. e ≡ Memory) }
+    {
+        Ok(Box::new(alloc, self)?)
+    }
+
     pub fn let_go(self) {
         drop(self);
     }
 }
 
 impl StatementPart {
+    pub fn boxed(self, alloc: Global) -> Result<Box<StatementPart>, Refusal>
+        ensures ok { IfOk result (λ b. b.value ≡ self) }
+        ensures err { IfErr result (λ e. e ≡ Memory) }
+    {
+        Ok(Box::new(alloc, self)?)
+    }
+
     pub fn let_go(self) {
         drop(self);
     }

@@ -4,12 +4,15 @@ ghost use Rattle.c_tree.specs.Named.{map_option};
 ghost use Rattle.c_tree.specs.Size.{size_statement};
 ghost use Rattle.c_tree.specs.Tree.{Block, Do, Evaluate, For, If, IfElse, NoItem, Return, Switch, While};
 ghost use Rattle.c_tree.specs.View.{expr_of, items_of, start_of, statement_of};
+ghost use Rattle.c_grammar.specs.Begun.{Begins, InFor};
+ghost use Rattle.c_grammar.specs.Machine.{Goes};
+ghost use Rattle.c_begun.specs.View.{Gives, Names, frames_of, maybe_of, start_part_of};
 ghost use Rattle.c_begun.specs.declared.refusal.Refusal.TheVariants.{Memory};
 
-use super::begun::{HeadedFor, Loop};
+use super::begun::{Frames, HeadedFor, Loop, State};
 use super::part::{ItemParts, Part, StatementPart};
 use super::refusal::Refusal;
-use c_tree::statement::Statement;
+use c_tree::statement::{ForHead, Statement};
 use std::alloc::Global;
 
 fn boxed(alloc: Global, statement: Statement) -> Result<Box<Statement>, Refusal>
@@ -161,6 +164,26 @@ pub fn leaf(statement: Statement) -> StatementPart
     }
 }
 
+fn boxed_head(alloc: Global, head: ForHead) -> Result<Box<ForHead>, Refusal>
+    ensures ok { IfOk result (λ b. b.value ≡ head) }
+    ensures err { IfErr result (λ e. e ≡ Memory) }
+{
+    Ok(Box::new(alloc, head)?)
+}
+
+/// Behind the head of a `for` its body begins.
+pub fn begin_for_body(alloc: Global, head: HeadedFor, under: Box<Frames>) -> Result<State, Refusal>
+    ensures { (f : Names) → Gives f result (Goes (Begins (InFor head.bound (start_part_of f head.start) (maybe_of f head.test) (maybe_of f head.step) head.at (frames_of f under.value)))) }
+{
+    match head.boxed(alloc) {
+        Ok(head) => Ok(State::Begins(Frames::InFor(head, under).boxed(alloc)?)),
+        Err(refusal) => {
+            Frames::let_go(under);
+            Err(refusal)
+        }
+    }
+}
+
 pub fn for_loop(
     alloc: Global,
     head: HeadedFor,
@@ -179,12 +202,15 @@ pub fn for_loop(
             return Err(refusal);
         }
     };
+    let parts = ForHead {
+        start: head.start.start,
+        test: head.test.tree,
+        step: head.step.tree,
+    };
     Ok(StatementPart {
         statement: Statement::For {
             bound: head.bound,
-            start: head.start.start,
-            test: head.test.tree,
-            step: head.step.tree,
+            head: boxed_head(alloc, parts)?,
             body,
             at: head.at,
         },

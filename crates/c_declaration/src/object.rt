@@ -204,6 +204,7 @@ pub fn begin_size(alloc: Global, word: Word, declarator: Declarator) -> Result<S
         };
         return Ok(State::Shaped(declarator, shape));
     }
+    let declarator = declarator.boxed(alloc)?;
     begin_operand(alloc, word, Stack::Base(Purpose::Sizes(declarator)))
 }
 
@@ -214,10 +215,12 @@ pub fn begin_initial(alloc: Global, word: Word, object: Receiver) -> Result<Stat
     let Word { lexeme, at } = word;
     match lexeme {
         Lexeme::Plain(TokenKind::LeftBrace) => {
+            let object = object.boxed(alloc)?;
             let list = Purpose::Lists(object, no_parts(alloc));
             Ok(State::Wants(Stack::Base(list)))
         }
         _ => {
+            let object = object.boxed(alloc)?;
             let under = Stack::Base(Purpose::Initialises(object));
             begin_operand(alloc, Word { lexeme, at }, under)
         }
@@ -241,9 +244,15 @@ pub fn go_on_listed(
             let whole = listed_object(object.name, object.shape, front, true);
             Ok(State::Ended(object.head, whole))
         }
-        _ => {
-            let under = Stack::Base(Purpose::Lists(object, front));
-            begin_operand(alloc, Word { lexeme, at }, under)
-        }
+        _ => match object.boxed(alloc) {
+            Ok(object) => {
+                let under = Stack::Base(Purpose::Lists(object, front));
+                begin_operand(alloc, Word { lexeme, at }, under)
+            }
+            Err(refusal) => {
+                front.let_go();
+                Err(refusal)
+            }
+        },
     }
 }

@@ -4,10 +4,10 @@ use Rattle.std.specs.Prelude.{nat_le}
 use Rattle.c_grammar.specs.Begun.{Frames, InItems, InThen, InElse, InWhile, InDo, InFor, Braces, OfBlock, OfSwitch, OfFunction, Scope, AtFile, AmongItems, AtFor, Head, Heading, Proto, Signs, Declarator, OfObject, OfParam, Test, OfIf, OfWhile, OfDo, OfChoice, Purpose, Evaluates, Returns, Tests, Starts, Guards, Repeats, Sizes, Initialises, Lists, Labels, Stack, Base, InParen, InIndex, InCall, AfterPrefix, AfterCast, AfterJoin, AfterQuestion, AfterColon, AfterAssign}
 use Rattle.c_grammar.specs.Depth.{frames_deep, braces_deep, scope_deep, head_deep, proto_deep, declarator_deep, test_deep, purpose_deep, stack_deep}
 use Rattle.c_grammar.proofs.Grows.{frames_mono, braces_mono, scope_mono, head_mono, proto_mono, stack_mono}
-use Rattle.c_depth.specs.Before.{frames_before, braces_before, scope_before, objects_before, head_before, proto_before, declarator_before, test_before, purpose_before, stack_before, items_before}
+use Rattle.c_depth.specs.Before.{frames_before, braces_before, scope_before, objects_before, head_before, proto_before, declarator_before, test_before, purpose_before, stack_before, items_before, among_before}
 
 -- where two numbers are within a bound
-both : (a b n : ℕ) → a ≤ n → b ≤ n → max a b ≤ n
+pub both : (a b n : ℕ) → a ≤ n → b ≤ n → max a b ≤ n
 both a b n h k = omega (arith, h, k)
 
 mutual
@@ -85,3 +85,7 @@ listed_hold braces d = both _ _ _ (omega arith) (braces_hold braces d)
 pub items_hold : (braces : Braces) (b : Bool) (d n : ℕ) → braces_deep braces d ≤ n → items_before b braces d ≤ n
 items_hold braces true d n h = h
 items_hold braces false d n h = let e = braces_hold braces d in omega (arith, e, h)
+
+-- and those before the last are within it too
+pub among_hold : (braces : Braces) (d e n : ℕ) → items_before (nat_le 3 d) braces d ≤ n → braces_deep braces e ≤ n → among_before braces d e ≤ n
+among_hold braces d e n h k = both _ _ _ h (items_hold braces (nat_le 1 e) e n k)

@@ -19,10 +19,11 @@ use Rattle.c_begun.specs.declared.begun.Stack as stacks
 use Rattle.c_begun.specs.declared.begun.State as states
 use Rattle.c_begun.specs.declared.begun.State.TheVariants as state
 use Rattle.c_begun.specs.Depths.{braces_depth, scope_depth, head_depth, proto_depth, stack_depth, state_depth}
-use Rattle.c_begun.proofs.PartDepths.{both_max, shape_depth_is, parts_depth_is, objects_depth_is, params_depth_is, items_depth_is}
+use Rattle.c_begun.proofs.PartDepths.{both_max, shape_depth_is, parts_depth_is, objects_depth_is, params_depth_is, items_depth_is, items_depth_before_is}
 use Rattle.c_begun.proofs.SameDepths.{both_over, braces_same, scope_same, head_same, proto_same, stack_same, state_same}
 use Rattle.c_grammar.specs.Machine.{Moved, Goes, Stuck, step}
 use Rattle.c_grammar.specs.Depth.{deep}
+use Rattle.c_grammar.proofs.Grows.{braces_mono}
 use Rattle.c_depth.specs.Before.{frames_before, braces_before, scope_before, objects_before, head_before, proto_before, declarator_before, test_before, purpose_before, stack_before, items_before, before}
 use Rattle.c_depth.specs.Known.{frames_known, braces_known, scope_known, objects_known, head_known, proto_known, declarator_known, test_known, purpose_known, stack_known, items_known, state_known}
 use Rattle.c_depth.proofs.Befores.{braces_hold, scope_hold, head_hold, proto_hold, stack_hold}
@@ -77,9 +78,9 @@ purpose_alike f (purpose.Tests test) = test_alike f test
 purpose_alike f (purpose.Starts loop under) = frames_alike f under.value
 purpose_alike f (purpose.Guards head under) = frames_alike f under.value
 purpose_alike f (purpose.Repeats head under) = frames_alike f under.value
-purpose_alike f (purpose.Sizes declarator) = declarator_alike f declarator
-purpose_alike f (purpose.Initialises object) = head_alike f object.head
-purpose_alike f (purpose.Lists object front) = head_same f object.head _ _ (both_over _ _ _ _ (shape_depth_is f object.shape) (parts_depth_is f front))
+purpose_alike f (purpose.Sizes declarator) = declarator_alike f declarator.value
+purpose_alike f (purpose.Initialises object) = head_alike f object.value.head
+purpose_alike f (purpose.Lists object front) = head_same f object.value.head _ _ (both_over _ _ _ _ (shape_depth_is f object.value.shape) (parts_depth_is f front))
 purpose_alike f (purpose.Labels front braces at) = braces_same f braces.value _ _ (items_depth_is f front)
 
 pub stack_alike : (f : Names) (under : stacks.Stack) → stack_known under ≡ stack_before (stack_of f under)
@@ -98,8 +99,8 @@ items_by : (f : Names) (b : Bool) (braces : braces.Braces) (d : ℕ) → items_k
 items_by f true braces d = braces_same f braces _ _ refl
 items_by f false braces d = braces_alike f braces
 
-items_alike : (f : Names) (braces : braces.Braces) (d e : ℕ) → d ≡ e → items_known (nat_le 3 d) braces d ≡ items_before (nat_le 3 e) (braces_of f braces) e
-items_alike f braces d e h = ap (λ n. items_known (nat_le 3 n) braces n) h ∙ items_by f (nat_le 3 e) braces e
+items_alike : (f : Names) (least : ℕ) (braces : braces.Braces) (d e : ℕ) → d ≡ e → items_known (nat_le least d) braces d ≡ items_before (nat_le least e) (braces_of f braces) e
+items_alike f least braces d e h = ap (λ n. items_known (nat_le least n) braces n) h ∙ items_by f (nat_le least e) braces e
 
 state_alike : (f : Names) (state : states.State) → state_known state ≡ before (state_of f state)
 state_alike f (state.Wants under) = stack_alike f under
@@ -108,7 +109,7 @@ state_alike f (state.Opened at under) = stack_alike f under
 state_alike f (state.Typed all at under) = stack_alike f under
 state_alike f (state.Called function under) = stack_alike f under
 state_alike f (state.File front) = refl
-state_alike f (state.Among front braces) = items_alike f braces.value _ _ (items_depth_is f front)
+state_alike f (state.Among front braces) = both_max _ _ _ _ (items_alike f 3 braces.value _ _ (items_depth_is f front)) (items_alike f 1 braces.value _ _ (items_depth_before_is f front))
 state_alike f (state.Begins under) = frames_alike f under.value
 state_alike f (state.Stands statement under) = frames_alike f under.value
 state_alike f (state.Closes statement under) = frames_alike f under.value
@@ -151,6 +152,12 @@ braces_within braces d =
     let a = braces_alike nameless braces in
     let b = braces_hold (braces_of nameless braces) d in
     let c = braces_same nameless braces d d refl in omega (arith, a, b, c)
+
+pub braces_grow : (braces : braces.Braces) (d e : ℕ) → d ≤ e → braces_depth braces d ≤ braces_depth braces e
+braces_grow braces d e h =
+    let a = braces_same nameless braces d d refl in
+    let b = braces_same nameless braces e e refl in
+    let c = braces_mono (braces_of nameless braces) d e h in omega (arith, a, b, c)
 
 pub scope_within : (scope : scopes.Scope) (d : ℕ) → scope_known scope ≤ scope_depth scope d
 scope_within scope d =

@@ -18,7 +18,7 @@ use Rattle.c_grammar.specs.Machine.{Moved, Goes, Stuck, Role, Joins, Assigns, St
 use Rattle.c_grammar.specs.Depth.{header_deep, frames_deep, braces_deep, scope_deep, head_deep, proto_deep, declarator_deep, test_deep, purpose_deep, stack_deep, deep}
 use Rattle.c_grammar.proofs.Grows.{frames_mono, braces_mono, scope_mono, head_mono, proto_mono, stack_mono}
 use Rattle.c_depth.specs.Before.{frames_before, braces_before, scope_before, head_before, proto_before, declarator_before, test_before, purpose_before, stack_before, items_before, before}
-use Rattle.c_depth.proofs.Befores.{frames_hold, braces_hold, scope_hold, head_hold, proto_hold, declarator_hold, test_hold, purpose_hold, stack_hold, arguments_hold, listed_hold, objects_hold, items_hold}
+use Rattle.c_depth.proofs.Befores.{frames_hold, braces_hold, scope_hold, head_hold, proto_hold, declarator_hold, test_hold, purpose_hold, stack_hold, arguments_hold, listed_hold, objects_hold, items_hold, among_hold, both}
 
 -- it leads nowhere, or to a state before whose newest part stands what is at most so deep
 abbrev pub Holds : ℕ → Moved → Type 0
@@ -63,7 +63,7 @@ behind_small braces false d k n h g e = braces_hold braces n
 holds_object_ends : (said : Lexeme) (head : Head) (object : Object Bytes) → Holds (head_deep head (size_object object).depth) (object_ends said head object)
 holds_object_ends (Plain kinds.Comma) (Heading all objects at scope) object = objects_hold scope (nat_le 2 _) _ _ (scope_mono scope _ _ (omega arith))
 holds_object_ends (Plain kinds.Semicolon) (Heading all objects at (AtFile front)) object = omega arith
-holds_object_ends (Plain kinds.Semicolon) (Heading all objects at (AmongItems front braces)) object = items_hold braces (nat_le 3 _) _ _ (braces_mono braces _ _ (omega arith))
+holds_object_ends (Plain kinds.Semicolon) (Heading all objects at (AmongItems front braces)) object = among_hold braces _ _ _ (items_hold braces (nat_le 3 _) _ _ (braces_mono braces _ _ (omega arith))) (braces_mono braces _ _ (omega arith))
 holds_object_ends (Plain kinds.Semicolon) (Heading all objects at (AtFor bound here under)) object = frames_hold under _
 holds_object_ends _ head object = tt
 
@@ -89,7 +89,7 @@ holds_took (Sizes declarator) (Plain kinds.RightBracket) tree = declarator_hold 
 holds_took (Initialises head name shape at) said tree = holds_object_ends said head (Declared name shape (Value tree) at)
 holds_took (Lists head name shape front at) (Plain kinds.Comma) tree = head_mono head _ _ (omega arith)
 holds_took (Lists head name shape front at) (Plain kinds.RightBrace) tree = head_hold head _
-holds_took (Labels front braces at) (Plain kinds.Colon) tree = items_hold braces (nat_le 3 _) _ _ (braces_mono braces _ _ (omega arith))
+holds_took (Labels front braces at) (Plain kinds.Colon) tree = among_hold braces _ _ _ (items_hold braces (nat_le 3 _) _ _ (braces_mono braces _ _ (omega arith))) (braces_mono braces _ _ (omega arith))
 holds_took _ said tree = tt
 
 holds_leave : (under : Stack) (r : Role) (said : Lexeme) (tree : Expr Bytes) → Holds (stack_deep under (size tree).depth) (leave under r said tree)
@@ -127,7 +127,7 @@ holds_called said here function at under = holds_begin (stack_deep under 1) said
 
 holds_begin_statement : (n : ℕ) (said : Lexeme) (at : ℕ) (under : Frames) → frames_before under ≤ n → Holds n (begin_statement said at under)
 holds_begin_statement n (Plain kinds.Semicolon) at under h = h
-holds_begin_statement n (Plain kinds.LeftBrace) at under h = h
+holds_begin_statement n (Plain kinds.LeftBrace) at under h = both _ _ _ h h
 holds_begin_statement n (Plain kinds.If) at under h = h
 holds_begin_statement n (Plain kinds.While) at under h = h
 holds_begin_statement n (Plain kinds.Do) at under h = h
@@ -157,7 +157,7 @@ holds_label _ n state h = tt
 
 holds_item : (said : Lexeme) (at : ℕ) (front : Items Bytes) (braces : Braces) → Holds (braces_deep braces (size_items front).depth) (item said at front braces)
 holds_item (Plain kinds.RightBrace) at front braces = holds_close braces front
-holds_item (lexemes.Pragma kinds.FlowRestriction bytes) at front braces = behind_small braces (nat_le 3 (max (size_items front).depth 1)) (size_items front).depth 1 _ (omega arith) (omega arith) refl
+holds_item (lexemes.Pragma kinds.FlowRestriction bytes) at front braces = among_hold braces _ _ _ (behind_small braces (nat_le 3 (max (size_items front).depth 1)) (size_items front).depth 1 _ (omega arith) (omega arith) refl) (omega arith)
 holds_item (Plain kinds.Case) at front braces = holds_label braces _ (Wants (Base (Labels front braces at))) (omega arith)
 holds_item (Plain kinds.Default) at front braces = holds_label braces _ (Defaults front braces at) (omega arith)
 holds_item said at front braces = holds_begin_statement (braces_deep braces (size_items front).depth) said at (InItems front braces) (listed_hold braces (size_items front).depth)
@@ -241,7 +241,7 @@ holds_named (Plain kinds.LeftBracket) (Signs all name name_at at scope) = scope_
 holds_named (Plain kinds.Equal) (Signs all name name_at at scope) = scope_hold scope _
 holds_named (Plain kinds.Comma) (Signs all name name_at at scope) = scope_hold scope _
 holds_named (Plain kinds.Semicolon) (Signs all name name_at at (AtFile front)) = omega arith
-holds_named (Plain kinds.Semicolon) (Signs all name name_at at (AmongItems front braces)) = behind_small braces (nat_le 3 (max (size_items front).depth 2)) (size_items front).depth 2 _ (omega arith) (omega arith) refl
+holds_named (Plain kinds.Semicolon) (Signs all name name_at at (AmongItems front braces)) = among_hold braces _ _ _ (behind_small braces (nat_le 3 (max (size_items front).depth 2)) (size_items front).depth 2 _ (omega arith) (omega arith) refl) (braces_mono braces _ _ (omega arith))
 holds_named (Plain kinds.Semicolon) (Signs all name name_at at (AtFor bound here under)) = frames_hold under _
 holds_named _ (Signs all name name_at at scope) = tt
 
@@ -284,7 +284,7 @@ holds_body (Signs all name name_at at (AtFor bound here_at under)) params here =
 
 holds_params_done : (said : Lexeme) (here : ℕ) (proto : Proto) (params : Row (Param Bytes)) → Holds (proto_deep proto (size_row size_param params).depth) (params_done said here proto params)
 holds_params_done (Plain kinds.Semicolon) here (Signs all name name_at at (AtFile front)) params = omega arith
-holds_params_done (Plain kinds.Semicolon) here (Signs all name name_at at (AmongItems front braces)) params = items_hold braces (nat_le 3 _) _ _ (braces_mono braces _ _ (omega arith))
+holds_params_done (Plain kinds.Semicolon) here (Signs all name name_at at (AmongItems front braces)) params = among_hold braces _ _ _ (items_hold braces (nat_le 3 _) _ _ (braces_mono braces _ _ (omega arith))) (braces_mono braces _ _ (omega arith))
 holds_params_done (Plain kinds.Semicolon) here (Signs all name name_at at (AtFor bound here_at under)) params = frames_hold under _
 holds_params_done (Plain kinds.LeftBrace) here proto params = holds_body proto params here
 holds_params_done _ here proto params = tt
@@ -302,9 +302,9 @@ holds (Stands statement under) token = holds_settle under token.said token.at st
 holds (Closes statement under) token = holds_semicolon token.said _ (Stands statement under) (frames_hold under _)
 holds (Bounded bound under) token = holds_begin_loop token.said token.at bound under
 holds (Opens test) token = holds_paren token.said _ (Wants (Base (Tests test))) (test_hold test _)
-holds (Chooses test at under) token = holds_brace token.said _ (Among trees.NoItem (OfSwitch test at under)) (frames_hold under _)
+holds (Chooses test at under) token = holds_brace token.said _ (Among trees.NoItem (OfSwitch test at under)) (both _ _ _ (frames_hold under _) (frames_hold under _))
 holds (Answers at under) token = holds_answers token.said token.at at under
-holds (Defaults front braces at) token = holds_colon token.said _ (Among (trees.AndLabel front (trees.Default at)) braces) (items_hold braces (nat_le 3 _) _ _ (omega arith))
+holds (Defaults front braces at) token = holds_colon token.said _ (Among (trees.AndLabel front (trees.Default at)) braces) (among_hold braces _ _ _ (items_hold braces (nat_le 3 _) _ _ (omega arith)) (braces_mono braces _ _ (omega arith)))
 holds (Loops bound at under) token = holds_paren token.said _ (LoopStarts bound at under) (frames_hold under _)
 holds (LoopStarts bound at under) token = holds_loop_starts (specifier_of token.said) token.said token.at bound at under
 holds (LoopTests bound start at under) token = holds_loop_tests token.said token.at bound start at under

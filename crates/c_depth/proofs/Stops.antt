@@ -7,8 +7,8 @@ use Rattle.c_begun.specs.declared.begun.Head as heads
 use Rattle.c_begun.specs.declared.begun.Proto as protos
 use Rattle.c_begun.specs.declared.begun.Stack as stacks
 use Rattle.c_begun.specs.Depths.{braces_depth, scope_depth, head_depth, proto_depth, stack_depth}
-use Rattle.c_depth.specs.Known.{braces_known, scope_known, objects_known, head_known, proto_known, stack_known, items_known}
-use Rattle.c_depth.proofs.Knowns.{braces_within, scope_within, head_within, proto_within, stack_within}
+use Rattle.c_depth.specs.Known.{braces_known, scope_known, objects_known, head_known, proto_known, stack_known, items_known, among_known}
+use Rattle.c_depth.proofs.Knowns.{braces_grow, braces_within, scope_within, head_within, proto_within, stack_within}
 
 first_of : (a d : ℕ) → d ≤ a → a ≡ max a d
 first_of a d h = omega (arith, h)
@@ -19,15 +19,23 @@ items_stop braces a d h k = subst (λ (n : ℕ). braces_depth braces n ≤ 256) 
 pub items_go : (braces : braces.Braces) (a : ℕ) → braces_depth braces a ≤ 256 → braces_known braces ≤ 256
 items_go braces a h = let e = braces_within braces a in omega (arith, e, h)
 
-pub among_stop : (braces : braces.Braces) (d : ℕ) → 3 ≤ d → items_known (nat_le 3 d) braces d ≤ 256 → braces_depth braces d ≤ 256
-among_stop braces d h k = by_test (nat_le 3 d) refl k
+pub among_stop : (braces : braces.Braces) (d e : ℕ) → 3 ≤ d → among_known braces d e ≤ 256 → braces_depth braces d ≤ 256
+among_stop braces d e h k = by_test (nat_le 3 d) refl (omega (arith, k))
   where
     by_test : (b : Bool) → nat_le 3 d ≡ b → items_known b braces d ≤ 256 → braces_depth braces d ≤ 256
     by_test true e k = k
     by_test false e k = absurd (grind (arith, nat_tests))
 
-pub among_go : (braces : braces.Braces) (d : ℕ) → d < 3 → items_known (nat_le 3 d) braces d ≤ 256 → braces_known braces ≤ 256
-among_go braces d h k = by_test (nat_le 3 d) refl k
+-- items no deeper than those before the last
+pub before_stop : (braces : braces.Braces) (d e : ℕ) → 1 ≤ e → d ≤ e → among_known braces d e ≤ 256 → braces_depth braces d ≤ 256
+before_stop braces d e g h k = by_test (nat_le 1 e) refl (omega (arith, k))
+  where
+    by_test : (b : Bool) → nat_le 1 e ≡ b → items_known b braces e ≤ 256 → braces_depth braces d ≤ 256
+    by_test true is k = let m = braces_grow braces d e h in omega (arith, m, k)
+    by_test false is k = absurd (grind (arith, nat_tests))
+
+pub among_go : (braces : braces.Braces) (d e : ℕ) → d < 3 → among_known braces d e ≤ 256 → braces_known braces ≤ 256
+among_go braces d e h k = by_test (nat_le 3 d) refl (omega (arith, k))
   where
     by_test : (b : Bool) → nat_le 3 d ≡ b → items_known b braces d ≤ 256 → braces_known braces ≤ 256
     by_test true e k = absurd (grind (arith, nat_tests))

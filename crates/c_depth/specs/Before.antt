@@ -2,6 +2,7 @@
 use Rattle.std.specs.Prelude.{ℕ, ◌+◌, max, nat_le, Bool, true, false}
 use Rattle.c_tree.specs.Size.{size_all, size_row, size_shape, size_object, size_param, size_items}
 use Rattle.c_grammar.specs.Begun.{Frames, InItems, InThen, InElse, InWhile, InDo, InFor, Braces, OfBlock, OfSwitch, OfFunction, Scope, AtFile, AmongItems, AtFor, Head, Heading, Proto, Signs, Declarator, OfObject, OfParam, Test, OfIf, OfWhile, OfDo, OfChoice, Purpose, Evaluates, Returns, Tests, Starts, Guards, Repeats, Sizes, Initialises, Lists, Labels, Stack, Base, InParen, InIndex, InCall, AfterPrefix, AfterCast, AfterJoin, AfterQuestion, AfterColon, AfterAssign, State, Wants, Has, Opened, Typed, Called, File, Among, Begins, Stands, Closes, Bounded, Opens, Chooses, Answers, Defaults, Loops, LoopStarts, LoopTests, LoopSteps, Specified, Named, Further, Declares, Sizing, Shaped, Initial, Listed, Ended, ParamsOpen, ParamNext, ParamSpecified, ParamsDone}
+use Rattle.c_begun.specs.BeforeLast.{before_last}
 use Rattle.c_grammar.specs.Depth.{braces_deep, scope_deep, head_deep, proto_deep, stack_deep}
 use Rattle.c_tree.specs.Size.{size_external}
 
@@ -71,10 +72,14 @@ stack_before (AfterQuestion test under) = stack_before under
 stack_before (AfterColon test first under) = stack_before under
 stack_before (AfterAssign operator target under) = stack_before under
 
--- a restriction is one node deep, and a declaration of an object alone two, so of deeper items the last was there in time
+-- items with what they stand in, where they were there in time
 abbrev pub items_before : Bool → Braces → ℕ → ℕ
 items_before true braces d = braces_deep braces d
 items_before false braces d = braces_before braces
+
+-- a restriction is one node deep, and a declaration of an object alone two, so of deeper items the last was there in time; those before it were
+abbrev pub among_before : Braces → ℕ → ℕ → ℕ
+among_before braces d e = max (items_before (nat_le 3 d) braces d) (items_before (nat_le 1 e) braces e)
 
 abbrev pub before : State → ℕ
 before (Wants under) = stack_before under
@@ -83,7 +88,7 @@ before (Opened at under) = stack_before under
 before (Typed all at under) = stack_before under
 before (Called function at under) = stack_before under
 before (File front) = 0
-before (Among front braces) = items_before (nat_le 3 (size_items front).depth) braces (size_items front).depth
+before (Among front braces) = among_before braces (size_items front).depth (size_items (before_last front)).depth
 before (Begins under) = frames_before under
 before (Stands statement under) = frames_before under
 before (Closes statement under) = frames_before under

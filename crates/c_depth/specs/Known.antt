@@ -63,9 +63,9 @@ purpose_known (purpose.Tests test) = test_known test
 purpose_known (purpose.Starts loop under) = frames_known under.value
 purpose_known (purpose.Guards head under) = frames_known under.value
 purpose_known (purpose.Repeats head under) = frames_known under.value
-purpose_known (purpose.Sizes declarator) = declarator_known declarator
-purpose_known (purpose.Initialises object) = head_known object.head
-purpose_known (purpose.Lists object front) = head_depth object.head (max object.shape.depth front.depth + 1)
+purpose_known (purpose.Sizes declarator) = declarator_known declarator.value
+purpose_known (purpose.Initialises object) = head_known object.value.head
+purpose_known (purpose.Lists object front) = head_depth object.value.head (max object.value.shape.depth front.depth + 1)
 purpose_known (purpose.Labels front braces at) = braces_depth braces.value front.depth
 
 abbrev pub stack_known : stacks.Stack → ℕ
@@ -84,6 +84,9 @@ abbrev pub items_known : Bool → braces.Braces → ℕ → ℕ
 items_known true braces d = braces_depth braces d
 items_known false braces d = braces_known braces
 
+abbrev pub among_known : braces.Braces → ℕ → ℕ → ℕ
+among_known braces d e = max (items_known (nat_le 3 d) braces d) (items_known (nat_le 1 e) braces e)
+
 abbrev pub state_known : states.State → ℕ
 state_known (state.Wants under) = stack_known under
 state_known (state.Has tree under) = stack_known under
@@ -91,7 +94,7 @@ state_known (state.Opened at under) = stack_known under
 state_known (state.Typed all at under) = stack_known under
 state_known (state.Called function under) = stack_known under
 state_known (state.File front) = 0
-state_known (state.Among front braces) = items_known (nat_le 3 front.depth) braces.value front.depth
+state_known (state.Among front braces) = among_known braces.value front.depth front.depth_before
 state_known (state.Begins under) = frames_known under.value
 state_known (state.Stands statement under) = frames_known under.value
 state_known (state.Closes statement under) = frames_known under.value

@@ -1,7 +1,7 @@
-ghost use Rattle.std.specs.Prelude.{◌≤◌, ◌↔◌, IsTrue, nat_le};
+ghost use Rattle.std.specs.Prelude.{◌≤◌, ◌↔◌, IsTrue};
 ghost use Rattle.c_begun.specs.View.{Names, state_of};
 ghost use Rattle.c_begun.specs.Depths.{braces_depth, state_depth};
-ghost use Rattle.c_depth.specs.Known.{items_known, state_known};
+ghost use Rattle.c_depth.specs.Known.{among_known, state_known};
 ghost use Rattle.c_grammar.specs.Depth.{deep};
 
 use super::declaring::{declarator_fits, head_fits, params_fit, proto_fits};
@@ -11,12 +11,15 @@ use c_begun::begun::{Braces, State};
 use c_begun::part::ItemParts;
 
 /// Whether what has begun is shallow enough where these are the items so far.
-#[tactic(auto, using(crate::proofs::Stops::among_stop, crate::proofs::Stops::among_go))]
+#[tactic(auto, using(crate::proofs::Stops::among_stop, crate::proofs::Stops::before_stop, crate::proofs::Stops::among_go))]
 fn among_fits(front: &ItemParts, braces: &Braces) -> bool
-    requires known { items_known (nat_le 3 front.now.depth) braces.now front.now.depth ≤ 256 }
+    requires known { among_known braces.now front.now.depth front.now.depth_before ≤ 256 }
     ensures { IsTrue result ↔ (braces_depth braces.now front.now.depth ≤ 256) }
 {
     if front.depth >= 3 {
+        return true;
+    }
+    if 1 <= front.depth_before && front.depth <= front.depth_before {
         return true;
     }
     braces_fit(braces, front.depth)

@@ -115,15 +115,23 @@ fn close_argument(
 }
 
 /// The second operand of a conditional has ended.
-fn separate(under: Box<Stack>, role: Role, tree: Part, test: Part) -> Result<State, Refusal>
+fn separate(
+    alloc: Global,
+    under: Box<Stack>,
+    role: Role,
+    tree: Part,
+    test: Part,
+) -> Result<State, Refusal>
     ensures { (f : Names) (said : Lexeme) → Gives f result (leave (AfterQuestion (part_of f test) (stack_of f under.value)) (role_view role) said (part_of f tree)) }
 {
     match role {
-        Role::Separates => Ok(State::Wants(Stack::AfterColon {
-            test,
-            first: tree,
-            under,
-        })),
+        Role::Separates => match tree.boxed(alloc) {
+            Ok(first) => Ok(State::Wants(Stack::AfterColon { test, first, under })),
+            Err(refusal) => {
+                test.let_go();
+                Err(without(under, refusal))
+            }
+        },
         _ => {
             test.let_go();
             tree.let_go();
@@ -193,7 +201,7 @@ fn leave_part(
             test,
             first,
             under: rest,
-        } => match conditional(alloc, test, first, tree) {
+        } => match conditional(alloc, test, Box::into_inner(first), tree) {
             Ok(whole) => go_on_with(alloc, Box::into_inner(rest), role, kind, whole),
             Err(refusal) => Err(without(rest, refusal)),
         },
@@ -210,7 +218,7 @@ fn leave_part(
         Stack::InCall(function, front, rest) => {
             close_argument(rest, role, tree, function, front)
         }
-        Stack::AfterQuestion { test, under: rest } => separate(rest, role, tree, test),
+        Stack::AfterQuestion { test, under: rest } => separate(alloc, rest, role, tree, test),
         Stack::Base(purpose) => take(alloc, purpose, kind, tree),
     }
 }

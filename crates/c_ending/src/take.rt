@@ -12,7 +12,7 @@ use c_begun::declaration::{end_object, object_with, valued_object};
 use c_begun::list::{and_case, and_expr};
 use c_begun::part::{ItemParts, MaybePart, Part, Parts, ShapePart, StartPart};
 use c_begun::refusal::Refusal;
-use c_begun::statement::{do_loop, evaluate, return_value};
+use c_begun::statement::{begin_for_body, do_loop, evaluate, return_value};
 use c_tree::declaration::Shape;
 use c_tree::statement::ForStart;
 use c_tree::token::TokenKind;
@@ -37,7 +37,7 @@ fn end_test(alloc: Global, test: Test, tree: Part) -> Result<State, Refusal>
             let frame = Frames::InWhile(head, tree, under);
             Ok(State::Begins(frame.boxed(alloc)?))
         }
-        Test::OfDo(head, body, under) => match do_loop(alloc, head, body, tree) {
+        Test::OfDo(head, body, under) => match do_loop(alloc, head, Box::into_inner(body), tree) {
             Ok(whole) => Ok(State::Closes(whole, under)),
             Err(refusal) => {
                 Frames::let_go(under);
@@ -170,10 +170,7 @@ fn take_repeated(
     ensures { (f : Names) → Gives f result (took (Repeats head.bound (start_part_of f head.start) (maybe_of f head.test) head.at (frames_of f under.value)) (Plain kind) (part_of f tree)) }
 {
     match kind {
-        TokenKind::RightParen => {
-            let frame = Frames::InFor(head.headed(some(tree)), under);
-            Ok(State::Begins(frame.boxed(alloc)?))
-        }
+        TokenKind::RightParen => begin_for_body(alloc, head.headed(some(tree)), under),
         _ => {
             tree.let_go();
             head.let_go();
@@ -273,11 +270,13 @@ pub fn take(alloc: Global, purpose: Purpose, kind: TokenKind, tree: Part) -> Res
         Purpose::Returns { at, under } => take_returned(under, kind, tree, at),
         Purpose::Tests(test) => take_tested(alloc, test, kind, tree),
         Purpose::Starts(head, under) => take_started(under, kind, tree, head),
-        Purpose::Guards(head, under) => take_guarding(under, kind, tree, head),
-        Purpose::Repeats(head, under) => take_repeated(alloc, under, kind, tree, head),
-        Purpose::Sizes(declarator) => take_size(declarator, kind, tree),
-        Purpose::Initialises(object) => take_value(object, kind, tree),
-        Purpose::Lists(object, front) => take_listed(object, kind, tree, front),
+        Purpose::Guards(head, under) => take_guarding(under, kind, tree, Box::into_inner(head)),
+        Purpose::Repeats(head, under) => {
+            take_repeated(alloc, under, kind, tree, Box::into_inner(head))
+        }
+        Purpose::Sizes(declarator) => take_size(Box::into_inner(declarator), kind, tree),
+        Purpose::Initialises(object) => take_value(Box::into_inner(object), kind, tree),
+        Purpose::Lists(object, front) => take_listed(Box::into_inner(object), kind, tree, front),
         Purpose::Labels { front, braces, at } => take_label(braces, kind, tree, front, at),
     }
 }

@@ -9,7 +9,7 @@ use c_begun::begun::{Frames, Loop, Purpose, Scope, Stack, StartedFor, State, Tes
 use c_begun::list::one_specifier;
 use c_begun::part::{MaybePart, StartPart, StatementPart};
 use c_begun::refusal::Refusal;
-use c_begun::statement::leaf;
+use c_begun::statement::{begin_for_body, leaf};
 use c_lexeme::{Lexeme, Word};
 use c_operand::operand::begin_operand;
 use c_operand::role::specifier_said;
@@ -140,7 +140,13 @@ pub fn begin_loop_test(
     if says(&word.lexeme, TokenKind::Semicolon) {
         return Ok(State::LoopSteps(head.tested(no_expression()), under));
     }
-    begin_operand(alloc, word, Stack::Base(Purpose::Guards(head, under)))
+    match head.boxed(alloc) {
+        Ok(head) => begin_operand(alloc, word, Stack::Base(Purpose::Guards(head, under))),
+        Err(refusal) => {
+            Frames::let_go(under);
+            Err(refusal)
+        }
+    }
 }
 
 /// Behind the second semicolon of a `for`.
@@ -153,8 +159,13 @@ pub fn begin_loop_step(
     ensures { (f : Names) → Gives f result (loop_steps (lexeme_of f word.lexeme) word.at head.bound (start_part_of f head.start) (maybe_of f head.test) head.at (frames_of f under.value)) }
 {
     if says(&word.lexeme, TokenKind::RightParen) {
-        let frame = Frames::InFor(head.headed(no_expression()), under);
-        return Ok(State::Begins(frame.boxed(alloc)?));
+        return begin_for_body(alloc, head.headed(no_expression()), under);
     }
-    begin_operand(alloc, word, Stack::Base(Purpose::Repeats(head, under)))
+    match head.boxed(alloc) {
+        Ok(head) => begin_operand(alloc, word, Stack::Base(Purpose::Repeats(head, under))),
+        Err(refusal) => {
+            Frames::let_go(under);
+            Err(refusal)
+        }
+    }
 }

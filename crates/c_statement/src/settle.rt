@@ -47,6 +47,7 @@ fn go_on_among_with(
 
 /// Behind the body of a `do` its test must come.
 fn test_behind(
+    alloc: Global,
     word: Word,
     under: Box<Frames>,
     head: Loop,
@@ -55,7 +56,13 @@ fn test_behind(
     ensures { (f : Names) → Gives f result (settle (InDo head.bound head.at (frames_of f under.value)) (lexeme_of f word.lexeme) word.at (statement_part_of f body)) }
 {
     match word.lexeme {
-        Lexeme::Plain(TokenKind::While) => Ok(State::Opens(Test::OfDo(head, body, under))),
+        Lexeme::Plain(TokenKind::While) => match body.boxed(alloc) {
+            Ok(body) => Ok(State::Opens(Test::OfDo(head, body, under))),
+            Err(refusal) => {
+                head.let_go();
+                Err(without(under, refusal))
+            }
+        },
         _ => {
             body.let_go();
             head.let_go();
@@ -74,13 +81,21 @@ fn branch_behind(
 ) -> Result<State, Refusal>
     ensures { (f : Names) → Gives f result (Goes (Begins (InElse (part_of f test) (statement_part_of f first) at (frames_of f under.value)))) }
 {
-    let frame = Frames::InElse {
-        test,
-        first,
-        at,
-        under,
-    };
-    Ok(State::Begins(frame.boxed(alloc)?))
+    match first.boxed(alloc) {
+        Ok(first) => {
+            let frame = Frames::InElse {
+                test,
+                first,
+                at,
+                under,
+            };
+            Ok(State::Begins(frame.boxed(alloc)?))
+        }
+        Err(refusal) => {
+            test.let_go();
+            Err(without(under, refusal))
+        }
+    }
 }
 
 /// A statement has ended, and what it ends goes on or ends with it.
@@ -114,7 +129,7 @@ pub fn settle_statement(
             first,
             at,
             under: rest,
-        } => match if_else(alloc, test, first, statement, at) {
+        } => match if_else(alloc, test, Box::into_inner(first), statement, at) {
             Ok(whole) => settle_statement(alloc, Box::into_inner(rest), word, whole),
             Err(refusal) => Err(without(rest, refusal)),
         },
@@ -122,8 +137,8 @@ pub fn settle_statement(
             Ok(whole) => settle_statement(alloc, Box::into_inner(rest), word, whole),
             Err(refusal) => Err(without(rest, refusal)),
         },
-        Frames::InDo(head, rest) => test_behind(word, rest, head, statement),
-        Frames::InFor(head, rest) => match for_loop(alloc, head, statement) {
+        Frames::InDo(head, rest) => test_behind(alloc, word, rest, head, statement),
+        Frames::InFor(head, rest) => match for_loop(alloc, Box::into_inner(head), statement) {
             Ok(whole) => settle_statement(alloc, Box::into_inner(rest), word, whole),
             Err(refusal) => Err(without(rest, refusal)),
         },

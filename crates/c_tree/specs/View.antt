@@ -94,7 +94,7 @@ abbrev mutual
   statement_of (statements.IfElse' test p first q second at) = IfElse (expr_of test) (statement_of first) (statement_of second) at
   statement_of (statements.While' bound test p body at) = While bound (expr_of test) (statement_of body) at
   statement_of (statements.Do' bound p body test at) = Do bound (statement_of body) (expr_of test) at
-  statement_of (statements.For' bound start test step p body at) = For bound (start_of start) (map_option expr_of test) (map_option expr_of step) (statement_of body) at
+  statement_of (statements.For' bound head p body at) = For bound (start_of head.value.start) (map_option expr_of head.value.test) (map_option expr_of head.value.step) (statement_of body) at
   statement_of (statements.Switch' test shape items at) = Switch (expr_of test) (items_row NoItem items) at
   statement_of (statements.Break at) = Break at
   statement_of (statements.Continue at) = Continue at

@@ -183,16 +183,9 @@ fn measure_statement(statement: &Statement) -> Size
         Statement::Do { body, test, .. } => measure_statement(body)
             .beside(measure_expr(test))
             .over(),
-        Statement::For {
-            start,
-            test,
-            step,
-            body,
-            ..
-        } => {
-            let head = measure_start(start)
-                .beside(measure_optional(test))
-                .beside(measure_optional(step));
+        Statement::For { head, body, .. } => {
+            let first = measure_start(&head.start).beside(measure_optional(&head.test));
+            let head = first.beside(measure_optional(&head.step));
             head.beside(measure_statement(body)).over()
         }
         Statement::Switch { test, items, .. } => measure_expr(test)

@@ -17,6 +17,14 @@ pub enum ForStart {
     Declaration(Declaration),
 }
 
+/// The head of a `for`.
+#[derive(Drop)]
+pub struct ForHead {
+    pub start: ForStart,
+    pub test: Option<Expr>,
+    pub step: Option<Expr>,
+}
+
 /// What stands in the braces of a block or a `switch`. A label stands in those of a `switch` alone.
 #[cycle(statements)]
 #[derive(Drop)]
@@ -70,9 +78,7 @@ pub enum Statement {
     },
     For {
         bound: Option<Pragma>,
-        start: ForStart,
-        test: Option<Expr>,
-        step: Option<Expr>,
+        head: Box<ForHead>,
         body: Box<Statement>,
         at: u32,
     },

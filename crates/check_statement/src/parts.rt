@@ -16,7 +16,7 @@ use c_rules::{Fault, Rule};
 use c_scope::Table;
 use c_tree::Pragma;
 use c_tree::expression::Expr as Source;
-use c_tree::statement::ForStart as SourceStart;
+use c_tree::statement::{ForHead as SourceHead, ForStart as SourceStart};
 use c_typed::statement::{ForStart, Item, LoopId};
 use c_value::Kind;
 use check_declaration::{check_declaration, fault_at, rule_or, when};
@@ -171,17 +171,15 @@ fn boxed(head: CheckedHead, alloc: Global) -> Result<Box<CheckedHead>, AllocErro
 
 /// Checks the head of a `for`, and declares what it declares.
 pub fn check_head(
-    start: &SourceStart,
-    test: &Option<Source>,
-    step: &Option<Source>,
+    head: &SourceHead,
     table: &mut Table,
     alloc: Global,
 ) -> Result<Box<CheckedHead>, AllocError>
-    ensures { IfOk result (λ r. IsHead r.value (source_start start.now) (map_option source_of test.now) (map_option source_of step.now) table.old table.new) }
+    ensures { IfOk result (λ r. IsHead r.value (source_start head.now.start) (map_option source_of head.now.test) (map_option source_of head.now.step) table.old table.new) }
 {
-    let start = check_start(start, table, alloc)?;
-    let test = check_option(test, table, alloc)?;
-    let step = check_option(step, table, alloc)?;
+    let start = check_start(&head.start, table, alloc)?;
+    let test = check_option(&head.test, table, alloc)?;
+    let step = check_option(&head.step, table, alloc)?;
     boxed(CheckedHead { start, test, step }, alloc)
 }
 

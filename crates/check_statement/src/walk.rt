@@ -83,15 +83,13 @@ fn check_statement(
         }
         Source::For {
             bound,
-            start,
-            test,
-            step,
+            head,
             body,
             at,
         } => {
             table.enter(alloc)?;
             let begun = begin_loop(bound, *at, table, alloc)?;
-            let head = check_head(start, test, step, table, alloc)?;
+            let head = check_head(head, table, alloc)?;
             let body = check_statement(body, within.in_loop(), table, alloc)?;
             table.leave(alloc);
             make_for(begun, head, body, alloc)

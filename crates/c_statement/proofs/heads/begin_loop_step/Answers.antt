@@ -1,7 +1,14 @@
-use Rattle.std.proofs.Common.{subst, sym}
-use Rattle.c_begun.specs.View.{Gives}
+use Rattle.std.proofs.Common.{◌∙◌, ap, subst, sym}
+use Rattle.c_begun.specs.declared.begun.TestedFor.{TestedFor}
+use Rattle.c_begun.specs.View.{Gives, frames_of, maybe_of, start_part_of}
+use Rattle.c_lexeme.specs.Lexemes.{lexeme_of}
+use Rattle.c_grammar.specs.Begun.{Base, Repeats}
+use Rattle.c_grammar.specs.Machine.{begin}
 use Rattle.c_statement.proofs.Others.{steps_other, not_said}
 use Rattle.c_statement.proofs.heads.begin_loop_step.Goals as goal
 
-pub returns : goal.returns
-returns c f = subst (λ moved. Gives f c.begin_operand.result moved) (sym (steps_other _ _ _ _ _ _ _ (not_said _ _ (c.says.ensures f) c.if-says.false))) (c.begin_operand.ensures f)
+pub returns-in-Ok : goal.returns-in-Ok
+returns-in-Ok c f =
+    let word = c.args.word in
+    let begun = ap (λ (head : TestedFor). begin (lexeme_of f word.lexeme) word.at (Base (Repeats head.bound (start_part_of f head.start) (maybe_of f head.test) head.at (frames_of f c.args.under.value)))) c.in-Ok.ensures.ok in
+    subst (λ moved. Gives f c.begin_operand.result moved) (begun ∙ sym (steps_other _ _ _ _ _ _ _ (not_said _ _ (c.says.ensures f) c.if-says.false))) (c.begin_operand.ensures f)
