@@ -1,8 +1,7 @@
 // How a source is read, and what its tree or its refusal must be.
-use crate::print::Places;
-use crate::statement_text::line_of;
 use c_lexer::{LexFault, lex};
 use c_parser::{ParseFault, parse};
+use c_text::{Places, line_of};
 use c_tree::Unit;
 use std::alloc::{AllocError, Global};
 use std::process::Abort;

@@ -156,9 +156,9 @@ fn tally_statement(statement: &Statement) -> Result<Tally, AllocError>
         }
         Statement::While { body, .. } => tally_statement(body),
         Statement::Do { body, .. } => tally_statement(body),
-        Statement::For { start, body, .. } => {
+        Statement::For { head, body, .. } => {
             let inner = tally_statement(body)?;
-            tally_start(start).join(inner)
+            tally_start(&head.start).join(inner)
         }
         Statement::Switch { items, .. } => tally_items(items),
         Statement::Break { .. } => Ok(Tally::nothing()),

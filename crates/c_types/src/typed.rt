@@ -21,4 +21,9 @@ impl Typed {
     {
         &self.program
     }
+
+    /// Lets go of a typed program. What it is made of is let go here, once.
+    pub fn let_go(self) {
+        drop(self);
+    }
 }

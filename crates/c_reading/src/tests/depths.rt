@@ -6,47 +6,45 @@ use std::alloc::{AllocError, Global};
 use std::process::Abort;
 use std::test::Fail;
 
-/// What stands before, opens, stands within, closes and stands behind; with how many pairs the tree is
-/// 256 nodes deep; and with which token one pair more is too deep. A body is the third node from the
-/// root, and a returned value the fifth.
-const NESTS: [([&str; 5], u16, u32); 27] = [
-    (["int f(){return ", "(", "x", ")", ";}"], 251, 257),
-    (["int f(){return ", "- ", "x", "", ";}"], 251, 257),
-    (["int f(){return ", "~", "x", "", ";}"], 251, 257),
-    (["int f(){return ", "++", "x", "", ";}"], 251, 257),
-    (["int f(){return ", "", "x", "++", ";}"], 251, 258),
-    (["int f(){return ", "(int)", "x", "", ";}"], 251, 759),
-    (["int f(){return ", "f(", "x", ")", ";}"], 251, 510),
-    (["int f(){return ", "f(x,", "x", ")", ";}"], 251, 1012),
-    (["int f(){return ", "a[", "x", "]", ";}"], 251, 509),
-    (["int f(){return ", "x+", "x", "", ";}"], 251, 509),
-    (["int f(){return ", "x,", "x", "", ";}"], 251, 509),
-    (["int f(){return ", "x=", "x", "", ";}"], 251, 509),
-    (["int f(){return ", "x?x:", "x", "", ";}"], 251, 1011),
-    (["int f(){return ", "x?", "x", ":x", ";}"], 251, 509),
-    (["int f(){", "{", "", "}", "}"], 253, 258),
-    (["int f(){", "if(x)", ";", "", "}"], 252, 1013),
-    (["int f(){", "if(x);else ", ";", "", "}"], 252, 1517),
-    (["int f(){", "while(x)", ";", "", "}"], 252, 1013),
-    (["int f(){", "do ", ";", " while(x);", "}"], 252, 257),
-    (["int f(){", "for(;;)", ";", "", "}"], 252, 1269),
-    (["int f(){", "switch(x){", "", "}", "}"], 252, 1265),
-    (["int a[", "(", "1", ")", "];"], 252, 255),
-    (["int a=", "(", "1", ")", ";"], 252, 255),
-    (["int a[]={", "(", "1", ")", "};"], 252, 258),
-    (["int f(int a[", "(", "1", ")", "]);"], 252, 258),
-    (["int f(){for(int a=", "(", "1", ")", ";;);}"], 249, 259),
-    (["int f(){switch(x){case ", "(", "1", ")", ":;}}"], 250, 261),
+/// A text of five parts between bars: what stands before, opens, stands within, closes and stands
+/// behind. With how many pairs the tree is 256 nodes deep; and with which token one pair more is too
+/// deep. A body is the third node from the root, and a returned value the fifth.
+const NESTS: [(&str, u16, u32); 27] = [
+    ("int f(){return |(|x|)|;}", 251, 257),
+    ("int f(){return |- |x||;}", 251, 257),
+    ("int f(){return |~|x||;}", 251, 257),
+    ("int f(){return |++|x||;}", 251, 257),
+    ("int f(){return ||x|++|;}", 251, 258),
+    ("int f(){return |(int)|x||;}", 251, 759),
+    ("int f(){return |f(|x|)|;}", 251, 510),
+    ("int f(){return |f(x,|x|)|;}", 251, 1012),
+    ("int f(){return |a[|x|]|;}", 251, 509),
+    ("int f(){return |x+|x||;}", 251, 509),
+    ("int f(){return |x,|x||;}", 251, 509),
+    ("int f(){return |x=|x||;}", 251, 509),
+    ("int f(){return |x?x:|x||;}", 251, 1011),
+    ("int f(){return |x?|x|:x|;}", 251, 509),
+    ("int f(){|{||}|}", 253, 258),
+    ("int f(){|if(x)|;||}", 252, 1013),
+    ("int f(){|if(x);else |;||}", 252, 1517),
+    ("int f(){|while(x)|;||}", 252, 1013),
+    ("int f(){|do |;| while(x);|}", 252, 257),
+    ("int f(){|for(;;)|;||}", 252, 1269),
+    ("int f(){|switch(x){||}|}", 252, 1265),
+    ("int a[|(|1|)|];", 252, 255),
+    ("int a=|(|1|)|;", 252, 255),
+    ("int a[]={|(|1|)|};", 252, 258),
+    ("int f(int a[|(|1|)|]);", 252, 258),
+    ("int f(){for(int a=|(|1|)|;;);}", 249, 259),
+    ("int f(){switch(x){case |(|1|)|:;}}", 250, 261),
 ];
 
 /// The text with so many pairs.
-fn nested(alloc: Global, parts: [&str; 5], times: u32) -> Result<String, AllocError> {
-    let [before, opens, middle, closes, after] = parts;
-    let mut source = String::from_str(alloc, before)?;
-    push_times(&mut source, opens, times)?;
-    source.push_str(middle)?;
-    push_times(&mut source, closes, times)?;
-    source.push_str(after)?;
+fn nested(alloc: Global, parts: &str, times: u32) -> Result<String, AllocError> {
+    let mut source = String::new(alloc);
+    for (i, part) in parts.split('|').enumerate() {
+        push_times(&mut source, part, if i % 2 == 1 { times } else { 1 })?;
+    }
     Ok(source)
 }
 
@@ -60,7 +58,7 @@ fn expect_depth(rt: &impl Abort, alloc: Global, source: &str, expected: u32) {
 fn expect_deepest(
     rt: &impl Abort,
     alloc: Global,
-    parts: [&str; 5],
+    parts: &str,
     most: u16,
     token: u32,
 ) -> Result<(), Fail> {

@@ -128,12 +128,17 @@ impl<'a> Printer<'a> {
         }
     }
 
-    /// A pragma and its text.
-    pub fn pragma(&mut self, word: &str, pragma: &Pragma) -> Result<(), AllocError> {
+    /// The beginning of a pragma, with its text.
+    pub fn open_pragma(&mut self, word: &str, pragma: &Pragma) -> Result<(), AllocError> {
         self.open(word, pragma.at)?;
         self.line.push_str(" \"")?;
         self.bytes(pragma.text.as_bytes())?;
-        self.line.push('"')?;
+        self.line.push('"')
+    }
+
+    /// A pragma and its text.
+    pub fn pragma(&mut self, word: &str, pragma: &Pragma) -> Result<(), AllocError> {
+        self.open_pragma(word, pragma)?;
         self.close()
     }
 

@@ -1,5 +1,5 @@
 // Expressions, each node in brackets of its own, with a blank before it.
-use crate::print::Printer;
+use crate::printer::Printer;
 use c_tree::expression::{AssignOperator, BinaryOperator, Expr, PostfixOperator, PrefixOperator};
 use c_tree::token::{Constant, ConstantType};
 use std::alloc::AllocError;
@@ -83,7 +83,8 @@ fn character(printer: &mut Printer, value: u8, at: u32) -> Result<(), AllocError
     printer.place(at)
 }
 
-pub fn expression(printer: &mut Printer, expr: &Expr) -> Result<(), AllocError> {
+/// A leaf, or what stands before the first part of a node.
+fn begin(printer: &mut Printer, expr: &Expr) -> Result<(), AllocError> {
     match expr {
         Expr::Number { constant, at } => number(printer, *constant, *at),
         Expr::Character { value, at } => character(printer, *value, *at),
@@ -91,90 +92,60 @@ pub fn expression(printer: &mut Printer, expr: &Expr) -> Result<(), AllocError> 
             printer.name(*name)?;
             printer.place(*at)
         }
-        Expr::Paren { inner, at } => {
-            printer.open("paren", *at)?;
-            expression(printer, inner)?;
-            printer.close()
-        }
-        Expr::Index { array, index, at } => {
+        Expr::Paren { at, .. } => printer.open("paren", *at),
+        Expr::Index { array, at, .. } => {
             printer.open("index", *at)?;
-            printer.name(*array)?;
-            expression(printer, index)?;
-            printer.close()
+            printer.name(*array)
         }
-        Expr::Call {
-            function,
-            arguments,
-            at,
-        } => {
+        Expr::Call { function, at, .. } => {
             printer.open("call", *at)?;
-            printer.name(*function)?;
+            printer.name(*function)
+        }
+        Expr::Postfix { operator, at, .. } => printer.open(postfix_word(*operator), *at),
+        Expr::Prefix { operator, at, .. } => printer.open(prefix_word(*operator), *at),
+        Expr::Cast { specifiers, at, .. } => {
+            printer.open("cast", *at)?;
+            printer.specifiers(specifiers)
+        }
+        Expr::Binary { operator, at, .. } => printer.open(binary_word(*operator), *at),
+        Expr::Conditional { at, .. } => printer.open("?", *at),
+        Expr::Assign { operator, at, .. } => printer.open(assign_word(*operator), *at),
+    }
+}
+
+pub fn expression(printer: &mut Printer, expr: &Expr) -> Result<(), AllocError> {
+    begin(printer, expr)?;
+    match expr {
+        Expr::Number { .. } | Expr::Character { .. } | Expr::Name { .. } => return Ok(()),
+        Expr::Call { arguments, .. } => {
             for argument in arguments {
                 expression(printer, argument)?;
             }
-            printer.close()
         }
-        Expr::Postfix {
-            operator,
-            operand,
-            at,
+        Expr::Paren { inner: part, .. }
+        | Expr::Index { index: part, .. }
+        | Expr::Postfix { operand: part, .. }
+        | Expr::Prefix { operand: part, .. }
+        | Expr::Cast { operand: part, .. } => expression(printer, part)?,
+        Expr::Binary { left, right, .. }
+        | Expr::Assign {
+            target: left,
+            value: right,
+            ..
         } => {
-            printer.open(postfix_word(*operator), *at)?;
-            expression(printer, operand)?;
-            printer.close()
-        }
-        Expr::Prefix {
-            operator,
-            operand,
-            at,
-        } => {
-            printer.open(prefix_word(*operator), *at)?;
-            expression(printer, operand)?;
-            printer.close()
-        }
-        Expr::Cast {
-            specifiers,
-            operand,
-            at,
-        } => {
-            printer.open("cast", *at)?;
-            printer.specifiers(specifiers)?;
-            expression(printer, operand)?;
-            printer.close()
-        }
-        Expr::Binary {
-            operator,
-            left,
-            right,
-            at,
-        } => {
-            printer.open(binary_word(*operator), *at)?;
             expression(printer, left)?;
             expression(printer, right)?;
-            printer.close()
         }
         Expr::Conditional {
             test,
             then,
             otherwise,
-            at,
+            ..
         } => {
-            printer.open("?", *at)?;
             expression(printer, test)?;
             expression(printer, then)?;
             expression(printer, otherwise)?;
-            printer.close()
-        }
-        Expr::Assign {
-            operator,
-            target,
-            value,
-            at,
-        } => {
-            printer.open(assign_word(*operator), *at)?;
-            expression(printer, target)?;
-            expression(printer, value)?;
-            printer.close()
         }
     }
+    printer.close()
 }
