@@ -1,5 +1,5 @@
 -- The typed program of a source and its facts, or why it has none, in the order of these equations.
-use Rattle.std.specs.Prelude.{◌≡◌, ℕ, ◌≤◌, ◌<◌, List, [], length, Option, None, Some, Ok, slice_get}
+use Rattle.std.specs.Prelude.{◌≡◌, ◌≢◌, ℕ, ◌≤◌, ◌<◌, List, [], length, Option, None, Some, Ok, slice_get}
 use Rattle.c_tree.specs.declared.token.Token.{Token}
 use Rattle.c_tree.specs.Names.{name_of, names_of_unit}
 use Rattle.c_tree.specs.Named.{named_unit}
@@ -8,17 +8,20 @@ use Rattle.c_tree.specs.Size.{size_unit}
 use Rattle.c_tree.specs.Spelling.{spoken}
 use Rattle.c_tree.specs.Tree.{TranslationUnit}
 use Rattle.c_lexer.specs.Cut.{HasTokens, StopsAt}
-use Rattle.c_parser.specs.Refused.{IsTreeOf, IsRefused}
+use Rattle.c_lexer.specs.declared.LexFault.TheVariants as lexing
+use Rattle.c_parser.specs.Refused.{IsTreeOf, IsRefused, Stops}
 use Rattle.c_parser.specs.declared.fault.ParseFault.{ParseFault}
 use Rattle.c_parser.specs.declared.fault.ParseFault.TheVariants as parsing
 use Rattle.c_typed.specs.Tree.{Program, Function, Defined}
 use Rattle.c_types.specs.Typed.{fault_of, typed_of, Refuses}
 use Rattle.c_rules.specs.declared.fault.TypeFault.{TypeFault}
+use Rattle.c_rules.specs.declared.fault.TypeFault.TheVariants as typing
 use Rattle.c_facts.specs.Calls.{graph_of}
 use Rattle.c_facts.specs.Chains.{AreRanks, IsCallFault}
 use Rattle.c_facts.specs.FlowFacts.{flow_facts, IsFlowFault}
 use Rattle.c_facts.specs.declared.facts.Facts.{Facts}
 use Rattle.c_facts.specs.declared.facts.FlowFault.{FlowFault}
+use Rattle.c_facts.specs.declared.facts.FlowFault.TheVariants as flowing
 use Rattle.c_facts.specs.declared.ranks.CallFault.{CallFault}
 use Rattle.c_facts.specs.declared.ranks.CallFault.TheVariants as calling
 use Rattle.c_facts.specs.declared.ranks.Ranks.{Ranks}
@@ -70,12 +73,13 @@ abbrev pub cycle_place : CallFault → Program → ℕ
 cycle_place (calling.Recursion function) program = name_place (slice_get program.functions function.0)
 cycle_place calling.Memory program = 0
 
--- why the tokens are no spelling, and the place of the token
+-- why the tokens are no spelling of such a tree, and the place of the first token at which they stop being one
 pub record RefusesTokens (source : List ℕ) (fault : ParseFault) (at : ℕ) : Type 0 where
   pub tokens : TokenList
   pub of_source : tokens.source ≡ source
   pub has : HasTokens source tokens.list
   pub refused : IsRefused fault (spoken tokens)
+  pub stops : Stops fault (spoken tokens)
   pub at_is : at ≡ fault_place fault tokens.list (length source)
 
 pub record RefusesUnit (source : List ℕ) (fault : TypeFault) : Type 0 where
@@ -99,12 +103,17 @@ pub record RefusesFlow (source : List ℕ) (fault : FlowFault) : Type 0 where
   pub are_ranks : AreRanks (graph_of program) ranks.of_functions
   pub refused : IsFlowFault fault (flow_facts program names ranks [])
 
--- why a source has no program with facts; want of memory says nothing
+-- why a source has no program with facts. Want of memory is no cause: it says nothing of a source
 abbrev pub RefusesSource : List ℕ → Refusal → Type 0
 RefusesSource source TooLong = 1048576 < length source
-RefusesSource source (Lex fault) = StopsAt fault source
-RefusesSource source (Parse fault at) = RefusesTokens source fault at
-RefusesSource source (Types fault) = RefusesUnit source fault
-RefusesSource source (Calls fault at) = RefusesCalls source fault at
-RefusesSource source (Flow fault) = RefusesFlow source fault
-RefusesSource source Memory = Unit {0}
+RefusesSource source (Lex fault) = (fault ≢ lexing.Memory) × StopsAt fault source
+RefusesSource source (Parse fault at) = (fault ≢ parsing.Memory) × RefusesTokens source fault at
+RefusesSource source (Types fault) = (fault ≢ typing.Memory) × RefusesUnit source fault
+RefusesSource source (Calls fault at) = (fault ≢ calling.Memory) × RefusesCalls source fault at
+RefusesSource source (Flow fault) = (fault ≢ flowing.Memory) × RefusesFlow source fault
+RefusesSource source Memory = ⊥
+
+-- why a source was not read: it is refused, or memory ran out
+abbrev pub Fails : List ℕ → Refusal → Type 0
+Fails source Memory = Unit {0}
+Fails source refusal = RefusesSource source refusal

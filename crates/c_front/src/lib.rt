@@ -3,7 +3,8 @@
 //! `read_source` is tokens, tree, types, call ranks and flow facts, one after the other. Proved: its
 //! answer is the typed program of the one tree that the source is the spelling of, with its facts;
 //! and a refusal is that of the first step that has one, with its place in the source. Want of
-//! memory alone is left open.
+//! memory alone is left open, and says nothing of the source: `source_laws` proves that a source has
+//! one program with facts or one refusal.
 //!
 //! The crate knows no files and no status, and nothing of what is made of a program.
 #![tactic(auto)]

@@ -5,7 +5,7 @@ ghost use Rattle.c_tree.specs.Units.{tree_of};
 ghost use Rattle.c_typed.specs.View.{program_of};
 ghost use Rattle.c_facts.specs.Calls.{graph_of};
 ghost use Rattle.c_facts.specs.Chains.{AreRanks};
-ghost use Rattle.c_front.specs.Fronts.{fault_place, cycle_place, HasUnit, HasProgram, HasFacts, IsSource, RefusesSource};
+ghost use Rattle.c_front.specs.Fronts.{fault_place, cycle_place, HasUnit, HasProgram, HasFacts, IsSource, Fails};
 
 use crate::refusal::Refusal;
 use c_facts::{CallFault, Facts, FlowFault, Ranks};
@@ -29,9 +29,11 @@ pub struct Source {
 }
 
 impl Source {
-    /// Lets go of a source. What its program is made of is let go here, once.
+    /// Lets go of a source.
     pub fn let_go(self) {
-        drop(self);
+        let Source { typed, facts } = self;
+        typed.let_go();
+        drop(facts);
     }
 }
 
@@ -63,7 +65,7 @@ fn read_tokens(alloc: Global, source: &[u8], tokens: &Tokens) -> Result<Unit, Re
     requires has { HasTokens source.now tokens.now.list }
     requires source { tokens.now.source ≡ source.now }
     ensures ok { IfOk result (λ unit. HasUnit source.now unit.names.items (tree_of unit)) }
-    ensures err { IfErr result (RefusesSource source.now) }
+    ensures err { IfErr result (Fails source.now) }
 {
     match parse(alloc, tokens) {
         Ok(unit) => Ok(unit),
@@ -79,7 +81,7 @@ fn read_tokens(alloc: Global, source: &[u8], tokens: &Tokens) -> Result<Unit, Re
 fn read_unit(alloc: Global, source: &[u8]) -> Result<Unit, Refusal>
     requires { length source.now ≤ 1048576 }
     ensures ok { IfOk result (λ unit. HasUnit source.now unit.names.items (tree_of unit)) }
-    ensures err { IfErr result (RefusesSource source.now) }
+    ensures err { IfErr result (Fails source.now) }
 {
     match lex(alloc, source) {
         Ok(tokens) => read_tokens(alloc, source, &tokens),
@@ -92,7 +94,7 @@ fn read_unit(alloc: Global, source: &[u8]) -> Result<Unit, Refusal>
 fn read_types(alloc: Global, unit: Unit) -> Result<Typed, Refusal>
     ensures ok { IfOk result (λ t. (source : List ℕ) → HasUnit source unit.names.items (tree_of unit)
         → HasProgram source t.program.names.items (program_of t.program)) }
-    ensures err { IfErr result (λ e. (source : List ℕ) → HasUnit source unit.names.items (tree_of unit) → RefusesSource source e) }
+    ensures err { IfErr result (λ e. (source : List ℕ) → HasUnit source unit.names.items (tree_of unit) → Fails source e) }
 {
     match check(alloc, unit) {
         Ok(typed) => Ok(typed),
@@ -117,7 +119,7 @@ fn cycle_place(program: &Program, fault: &CallFault) -> u32
 // The ranks of a program.
 fn read_ranks(alloc: Global, program: &Program) -> Result<Ranks, Refusal>
     ensures ok { IfOk result (λ r. AreRanks (graph_of (program_of program.now)) r.of_functions) }
-    ensures err { IfErr result (λ e. (source : List ℕ) → HasProgram source program.now.names.items (program_of program.now) → RefusesSource source e) }
+    ensures err { IfErr result (λ e. (source : List ℕ) → HasProgram source program.now.names.items (program_of program.now) → Fails source e) }
 {
     match ranks(alloc, program) {
         Ok(ranks) => Ok(ranks),
@@ -132,7 +134,7 @@ fn read_ranks(alloc: Global, program: &Program) -> Result<Ranks, Refusal>
 // The facts of a program.
 fn read_facts(alloc: Global, program: &Program) -> Result<Facts, Refusal>
     ensures ok { IfOk result (HasFacts (program_of program.now) program.now.names.items) }
-    ensures err { IfErr result (λ e. (source : List ℕ) → HasProgram source program.now.names.items (program_of program.now) → RefusesSource source e) }
+    ensures err { IfErr result (λ e. (source : List ℕ) → HasProgram source program.now.names.items (program_of program.now) → Fails source e) }
 {
     let ranks = match read_ranks(alloc, program) {
         Ok(ranks) => ranks,
@@ -151,7 +153,7 @@ fn read_facts(alloc: Global, program: &Program) -> Result<Facts, Refusal>
 /// than 1,048,576 bytes.
 pub fn read_source(alloc: Global, source: &[u8]) -> Result<Source, Refusal>
     ensures ok { IfOk result (λ s. IsSource source.now s.typed.program.names.items (program_of s.typed.program) s.facts) }
-    ensures err { IfErr result (RefusesSource source.now) }
+    ensures err { IfErr result (Fails source.now) }
 {
     if source.len() > SOURCE_MOST {
         return Err(Refusal::TooLong);
@@ -167,7 +169,7 @@ pub fn read_source(alloc: Global, source: &[u8]) -> Result<Source, Refusal>
     match read_facts(alloc, &typed.program) {
         Ok(facts) => Ok(Source { typed, facts }),
         Err(refusal) => {
-            drop(typed);
+            typed.let_go();
             Err(refusal)
         }
     }

@@ -66,20 +66,21 @@ pub shallow_of : (f : Names) (row : Row (External ℕ)) → deep (File (named_ro
 shallow_of f row h = let same = ap (λ s. s.depth) (size_externals_named f row) in omega (arith, h, same)
 
 -- all tokens lead to a state that no unit ends with
-pub at_end : (tokens : List Spoken) (count : ℕ) (state : State) → count ≡ length tokens → run tokens ≡ Goes state → ((items : Row (External Bytes)) → state ≡ File items → items ≡ Nothing) → Stops (Syntax count) tokens
-at_end tokens count state e h k = (
+pub at_end : (tokens : List Spoken) (count : ℕ) (state : State) → count ≡ length tokens → run tokens ≡ Goes state → ((items : Row (External Bytes)) → state ≡ File items → items ≡ Nothing) → deep state ≤ 256 → Stops (Syntax count) tokens
+at_end tokens count state e h k d = (
   omega (arith, e),
   state,
   ap run (take_all tokens count (omega (arith, e)) (omega (arith, e))) ∙ h,
   λ within. absurd (omega (arith, e, within)),
   λ all items same. k items same,
+  d,
 )
 
 same_items : (a b : Row (External Bytes)) → ◌≡◌ {A = State} (File a) (File b) → a ≡ b
 same_items a b e = cc
 
-pub empty_of : (f : Names) (xs : List externals.External) (tokens : List Spoken) (count : ℕ) → count ≡ length tokens → run tokens ≡ Goes (File (named_row f (row_of external_of Nothing xs))) → xs ≡ [] → Stops (Syntax count) tokens
-empty_of f xs tokens count e h k = at_end tokens count (File (named_row f (row_of external_of Nothing xs))) e h (λ items same. sym (same_items (named_row f (row_of external_of Nothing xs)) items same) ∙ ap (λ xs. named_row f (row_of external_of Nothing xs)) k)
+pub empty_of : (f : Names) (xs : List externals.External) (tokens : List Spoken) (count : ℕ) → count ≡ length tokens → run tokens ≡ Goes (File (named_row f (row_of external_of Nothing xs))) → xs ≡ [] → deep (File (named_row f (row_of external_of Nothing xs))) ≤ 256 → Stops (Syntax count) tokens
+empty_of f xs tokens count e h k d = at_end tokens count (File (named_row f (row_of external_of Nothing xs))) e h (λ items same. sym (same_items (named_row f (row_of external_of Nothing xs)) items same) ∙ ap (λ xs. named_row f (row_of external_of Nothing xs)) k) d
 
 -- what is known of each fault holds of the one that was told
 pub each_fault : {A : Type 0} (r : Result A ParseFault) (P Q : ParseFault → Type 0) → ((x : ParseFault) → P x → Q x) → IfErr r P → IfErr r Q

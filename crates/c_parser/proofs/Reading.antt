@@ -1,9 +1,10 @@
 -- The machine's run, one token more.
-use Rattle.std.proofs.Common.{◌≡◌, suc, ◌+◌, ◌<◌, List, [], ◌∷◌, ◌++◌, length, take, refl, ◌∙◌, ap, arith}
+use Rattle.std.proofs.Common.{◌≡◌, suc, ◌+◌, ◌<◌, ◌≤◌, List, [], ◌∷◌, ◌++◌, length, take, refl, ◌∙◌, ap, arith}
 use Rattle.c_tree.specs.Spelling.{Spoken}
 use Rattle.c_tree.specs.Tree.{Nothing}
 use Rattle.c_grammar.specs.Begun.{State, File}
 use Rattle.c_grammar.specs.Machine.{Moved, Goes, Stuck, after_all, step}
+use Rattle.c_grammar.specs.Depth.{deep}
 use Rattle.c_grammar.specs.Law.{run}
 use Rattle.c_parser.specs.declared.fault.ParseFault.{ParseFault}
 use Rattle.c_parser.specs.declared.fault.ParseFault.TheVariants.{Syntax, Deep, Memory}
@@ -42,23 +43,24 @@ length_more [] x ys = omega arith
 length_more (y ∷ xs) x ys = let h = length_more xs x ys in omega (arith, h)
 
 -- where a step halts behind these tokens, and others follow
-pub stopped : (fault : ParseFault) (xs : List Spoken) (x : Spoken) (ys : List Spoken) (s : State) → run xs ≡ Goes s → Halts fault (length xs) (step s x) → Stops fault (xs ++ x ∷ ys)
-stopped Memory xs x ys s h k = tt
-stopped (Syntax token) xs x ys s h k =
+pub stopped : (fault : ParseFault) (xs : List Spoken) (x : Spoken) (ys : List Spoken) (s : State) → run xs ≡ Goes s → deep s ≤ 256 → Halts fault (length xs) (step s x) → Stops fault (xs ++ x ∷ ys)
+stopped Memory xs x ys s h d k = tt
+stopped (Syntax token) xs x ys s h d k =
     let within = length_more xs x ys in (
       omega (arith, k.0, within),
       s,
-      ap (λ n. run (take n (xs ++ x ∷ ys))) k.0 ∙ ap run (take_front xs ys') ∙ h,
+      ap (λ n. run (take n (xs ++ x ∷ ys))) k.0 ∙ ap run (take_front xs (x ∷ ys)) ∙ h,
       λ more. ap (λ n. run (take (n + 1) (xs ++ x ∷ ys))) k.0 ∙ ap run (take_more xs x ys) ∙ run_push xs x s h ∙ k.1,
       λ all items same. absurd (omega (arith, k.0, within, all)),
+      d,
     )
-  where
-    ys' : List Spoken
-    ys' = x ∷ ys
-stopped (Deep token) xs x ys s h k =
+stopped (Deep token) xs x ys s h d k =
     let within = length_more xs x ys in (
       omega (arith, k.0, within),
       k.1,
       ap (λ n. run (take (n + 1) (xs ++ x ∷ ys))) k.0 ∙ ap run (take_more xs x ys) ∙ run_push xs x s h ∙ k.2,
       k.3,
+      s,
+      ap (λ n. run (take n (xs ++ x ∷ ys))) k.0 ∙ ap run (take_front xs (x ∷ ys)) ∙ h,
+      d,
     )

@@ -29,10 +29,10 @@ IsRefused (Syntax token) tokens = (token ≤ length tokens) × ((unit : Translat
 IsRefused (Deep token) tokens = (token < length tokens) × SomeBegins (take (token + 1) tokens) × ((unit : TranslationUnit Bytes) → BeginsWith unit (take (token + 1) tokens) → 256 < (size_unit unit).depth)
 IsRefused Memory tokens = Unit {0}
 
--- where the machine stops, or has begun what is too deep
+-- the first token at which the machine stops, or behind which it has begun what is too deep; before it nothing was
 abbrev pub Stops : ParseFault → List Spoken → Type 0
-Stops (Syntax token) tokens = (token ≤ length tokens) × (state : State) × (run (take token tokens) ≡ Goes state) × (token < length tokens → run (take (token + 1) tokens) ≡ Stuck) × (length tokens ≤ token → (items : _) → state ≡ File items → items ≡ Nothing)
-Stops (Deep token) tokens = (token < length tokens) × (state : State) × (run (take (token + 1) tokens) ≡ Goes state) × (256 < deep state)
+Stops (Syntax token) tokens = (token ≤ length tokens) × (state : State) × (run (take token tokens) ≡ Goes state) × (token < length tokens → run (take (token + 1) tokens) ≡ Stuck) × (length tokens ≤ token → (items : _) → state ≡ File items → items ≡ Nothing) × (deep state ≤ 256)
+Stops (Deep token) tokens = (token < length tokens) × (state : State) × (run (take (token + 1) tokens) ≡ Goes state) × (256 < deep state) × (before : State) × (run (take token tokens) ≡ Goes before) × (deep before ≤ 256)
 Stops Memory tokens = Unit {0}
 
 -- how a step at this token halts: it leads nowhere, or what has begun is too deep

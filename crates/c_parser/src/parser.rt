@@ -3,7 +3,7 @@ ghost use Rattle.c_tree.specs.Size.{size_unit};
 ghost use Rattle.c_tree.specs.Spelling.{spoken};
 ghost use Rattle.c_tree.specs.Tree.{TranslationUnit};
 ghost use Rattle.c_tree.specs.Units.{named_tree_of};
-ghost use Rattle.c_parser.specs.Refused.{IsRefused, IsTreeOf};
+ghost use Rattle.c_parser.specs.Refused.{IsRefused, IsTreeOf, Stops};
 ghost use Rattle.c_parser.specs.declared.fault.ParseFault.TheVariants.{Memory};
 
 use super::fault::ParseFault;
@@ -17,12 +17,13 @@ use std::alloc::Global;
 ///
 /// Errors: Syntax at the least token up to which no well-formed unit's spelling begins so, or at the
 /// number of all tokens where they only begin one; Deep at the least token up to which what has begun is
-/// more than 256 nodes deep; Memory where that ran out.
+/// more than 256 nodes deep; of the two that at the earlier token; Memory where that ran out.
 pub fn parse(alloc: Global, tokens: &Tokens) -> Result<Unit, ParseFault>
     ensures tree { IfOk result (λ unit. IsTreeOf (named_tree_of unit) (spoken tokens.now)) }
     ensures shallow { IfOk result (λ unit. (size_unit (named_tree_of unit)).depth ≤ 256) }
     ensures few { IfOk result (λ unit. (size_unit (named_tree_of unit)).nodes ≤ length tokens.now.list + 1) }
     ensures err { IfErr result (λ fault. IsRefused fault (spoken tokens.now)) }
+    ensures stops { IfErr result (λ fault. Stops fault (spoken tokens.now)) }
 
     // There is no other such tree, and where there is one of such a depth, only memory can be wanting.
     ensures one { (tree : TranslationUnit (List ℕ)) → IsTreeOf tree (spoken tokens.now) → IfOk result (λ unit. named_tree_of unit ≡ tree) }

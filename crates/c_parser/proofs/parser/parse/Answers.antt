@@ -15,6 +15,11 @@ returns-in_err-state-clause-err c =
     let stops = subst (λ tokens. Stops fault tokens) c.in_ok-list.ensures.said (c.in_err-state.ensures.err (name_of c.in_ok-list.field-0.names.items)) in
     passed_on c.from_residual-in_err-state.result fault (λ fault. IsRefused fault (spoken c.args.tokens.now)) c.from_residual-in_err-state.ensures.1 (refused fault (spoken c.args.tokens.now) stops)
 
+pub returns-in_err-state-clause-stops : goal.returns-in_err-state-clause-stops
+returns-in_err-state-clause-stops c =
+    let fault = c.in_err-state.field-0.0 in
+    passed_on c.from_residual-in_err-state.result fault (λ fault. Stops fault (spoken c.args.tokens.now)) c.from_residual-in_err-state.ensures.1 (subst (λ tokens. Stops fault tokens) c.in_ok-list.ensures.said (c.in_err-state.ensures.err (name_of c.in_ok-list.field-0.names.items)))
+
 pub returns-in_err-state-clause-accepts : goal.returns-in_err-state-clause-accepts
 returns-in_err-state-clause-accepts c tree is depth =
     let fault = c.in_err-state.field-0.0 in

@@ -65,10 +65,11 @@ pub returns-in-Some-clause-err : goal.returns-in-Some-clause-err
 returns-in-Some-clause-err c =
     let f = name_of c.args.names.items in
     let count = count_of c.args.tokens.now c.list.result.now c.list.ensures.listed in
-    each_fault c.unit.result _ (λ fault. Stops fault (spoken c.args.tokens.now)) (λ x h. subst (λ fault. Stops fault (spoken c.args.tokens.now)) (sym h.0) (empty_of f c.in-Some.front.list.items (spoken c.args.tokens.now) (length c.list.result.now) count (led_named _ _ _ c.requires.led ∙ ap Goes (c.in-Some.ensures.some f)) h.1)) c.unit.ensures.none
+    let shallow = subst (λ s. deep s ≤ 256) (c.in-Some.ensures.some f) (subst (λ d. d ≤ 256) (state_same f c.args.state) c.requires.shallow) in
+    each_fault c.unit.result _ (λ fault. Stops fault (spoken c.args.tokens.now)) (λ x h. subst (λ fault. Stops fault (spoken c.args.tokens.now)) (sym h.0) (empty_of f c.in-Some.front.list.items (spoken c.args.tokens.now) (length c.list.result.now) count (led_named _ _ _ c.requires.led ∙ ap Goes (c.in-Some.ensures.some f)) h.1 shallow)) c.unit.ensures.none
 
 pub returns-in-None-clause-err : goal.returns-in-None-clause-err
 returns-in-None-clause-err c =
     let f = name_of c.args.names.items in
     let count = count_of c.args.tokens.now c.list.result.now c.list.ensures.listed in
-    at_end (spoken c.args.tokens.now) (length c.list.result.now) (state_of f c.args.state) count (led_named _ _ _ c.requires.led) (λ items same. absurd (c.in-None.ensures.none f items same))
+    at_end (spoken c.args.tokens.now) (length c.list.result.now) (state_of f c.args.state) count (led_named _ _ _ c.requires.led) (λ items same. absurd (c.in-None.ensures.none f items same)) (subst (λ d. d ≤ 256) (state_same f c.args.state) c.requires.shallow)

@@ -1,0 +1,5 @@
+use Rattle.source_laws.proofs.Sources.{one_source}
+use Rattle.source_laws.proofs.one_source.Goals as goal
+
+pub returns : goal.returns
+returns c = one_source
