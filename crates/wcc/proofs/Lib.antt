@@ -11,3 +11,4 @@ pub mod Sources
 pub mod Endings
 pub mod Succeeding
 pub mod Leaving
+pub mod Evaluations

@@ -1,6 +1,8 @@
 -- What a command writes and prints, whole or cut off by a fault.
 use Rattle.std.specs.Prelude.{◌≡◌, ◌⊎◌, ℕ, List, [], ◌∷◌, ◌++◌, take, Option}
 use Rattle.wcc_base.specs.Outside.{Files, StoreState, SinkState, told_put, told_append, Rose}
+use Rattle.wcc_base.specs.declared.outside.Fault.{Fault}
+use Rattle.wcc_base.specs.declared.outside.Fault.TheVariants as fault
 use Rattle.wcc_base.specs.declared.status.Status.{Status}
 use Rattle.wcc_base.specs.declared.status.Status.TheVariants as status
 use Rattle.wcc.specs.StatusLines.{line_of}
@@ -31,6 +33,11 @@ pub record IsCut (text : List ℕ) (old new : SinkState) : Type 0 where
 abbrev pub status_after_fault : Status → Status
 status_after_fault status.Done = status.WriteFault
 status_after_fault s = s
+
+-- how a call ends whose lines could not be put
+abbrev pub unprinted : Status → Fault → Status
+unprinted s fault.Memory = status.Memory
+unprinted s fault.Failed = status_after_fault s
 
 -- the lines were put whole; or memory ran out there; or the sink failed there
 abbrev pub Reported : Status → List ℕ → SinkState → SinkState → Status → Type 0

@@ -5,6 +5,7 @@ pub mod Outputs
 pub mod Plain
 pub mod Compiling
 pub mod Running
+pub mod Evaluating
 pub mod Gathering
 pub mod Commands
 pub mod Finishing

@@ -37,6 +37,17 @@ cycles_line n = row (codes "cycles " ∷ decimal n ∷ codes "\n" ∷ [])
 abbrev pub exit_line : ℤ → ℕ → List ℕ
 exit_line value cycles = row (codes "exit " ∷ signed_decimal value ∷ codes " cycles " ∷ decimal cycles ∷ codes "\n" ∷ [])
 
+-- the line of a source's run that is done: the value of main, and how many bytes were put
+abbrev pub value_line : ℤ → ℕ → List ℕ
+value_line value bytes = row (codes "value " ∷ signed_decimal value ∷ codes " bytes " ∷ decimal bytes ∷ codes "\n" ∷ [])
+
+-- those of one that is undefined, and of one that breaks an annotation, at a place of the source
+abbrev pub undefined_line : ℕ → ℕ → List ℕ
+undefined_line rule at = row (codes "undefined " ∷ decimal rule ∷ codes " at " ∷ decimal at ∷ codes "\n" ∷ [])
+
+abbrev pub broken_line : ℕ → List ℕ
+broken_line at = row (codes "broken at " ∷ decimal at ∷ codes "\n" ∷ [])
+
 -- the line of a run, by its ending
 abbrev pub run_line : Ending → ℕ → ℕ → List ℕ
 run_line (Exit value) pc cycles = exit_line value cycles

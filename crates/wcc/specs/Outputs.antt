@@ -3,7 +3,6 @@ use Rattle.std.specs.Prelude.{ℕ, List, map}
 use Rattle.wcc_base.specs.declared.status.Status.{Status}
 use Rattle.wcc.specs.declared.make.Output.{Output}
 use Rattle.wcc.specs.declared.make.Made.{Made}
-use Rattle.wcc.specs.Lines.{all_shown}
 
 -- the status, the files that are to be written, in order, and the lines that are printed once they are
 pub record Outputs : Type 0 where
@@ -17,4 +16,4 @@ file_of_output o = (o.name.now, o.bytes)
 
 -- what was made, as the program holds it
 abbrev pub outputs_of : Made → Outputs
-outputs_of m = record { status = m.status; files = map file_of_output m.files.items; lines = all_shown m.lines.items }
+outputs_of m = record { status = m.status; files = map file_of_output m.files.items; lines = m.lines }

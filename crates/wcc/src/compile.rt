@@ -24,7 +24,7 @@ fn outputs<'a>(
 {
     let line = cycles_line(artifact.cycles);
     let report = text_of(alloc, &line)?;
-    let lines = Vec::from_slice(alloc, &line)?;
+    let lines = text_of(alloc, &line)?;
     let mut files = Vec::new(alloc);
     files.push(Output {
         name: names.image,
@@ -37,7 +37,7 @@ fn outputs<'a>(
     Ok(Made {
         status: Status::Done,
         files,
-        lines,
+        lines: Items::new(lines),
     })
 }
 

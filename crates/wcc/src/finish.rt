@@ -7,7 +7,7 @@ ghost use Rattle.wcc.specs.Finishing.{all_put, Partly, Reported, Finished};
 
 use crate::files::write_all;
 use crate::make::{Made, Output};
-use crate::printing::report;
+use crate::printing::report_text;
 use crate::status_lines::report_status;
 use wcc_base::{Fault, Sink, Status, Store};
 
@@ -33,7 +33,7 @@ fn finish_made<S: Store, O: Sink>(store: &mut S, out: &mut O, made: Made) -> Sta
     ensures reads { (S.state store.new).read_faults ≡ (S.state store.old).read_faults }
 {
     match write_each(store, &made.files) {
-        Ok(()) => report(out, made.status, &made.lines),
+        Ok(()) => report_text(out, made.status, made.lines.as_slice()),
         Err(Fault::Failed) => report_status(out, Status::WriteFault),
         Err(Fault::Memory) => report_status(out, Status::Memory),
     }

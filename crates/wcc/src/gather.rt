@@ -90,5 +90,13 @@ pub fn gather<S: Store>(
                 want(names.input, Bound::Input),
             ],
         ),
+        Command::Eval(names) => read_each(
+            alloc,
+            store,
+            &[
+                want(names.source, Bound::Source),
+                want(names.input, Bound::Input),
+            ],
+        ),
     }
 }

@@ -2,7 +2,11 @@
 ghost use Rattle.std.specs.Prelude.{◌≡◌, ℕ, List, IsSomeAnd, Some};
 ghost use Rattle.wcc_base.specs.Outside.{StoreState, bytes_of};
 ghost use Rattle.wcc_base.specs.declared.status.Status.TheVariants as status;
-ghost use Rattle.wcc.specs.Words.{Compile, Run, CompileNames, RunNames};
+ghost use Rattle.c_semantics.specs.declared.source_run.SourceRun.{SourceRun};
+ghost use Rattle.wcc_base.specs.declared.status.Status.{Status};
+ghost use Rattle.wcc.specs.Words.{Compile, Run, Eval, CompileNames, RunNames, EvalNames};
+ghost use Rattle.wcc.specs.Evaluating.{run_outputs, IsRun, MakesRun, Evaluates, IsRejected};
+ghost use Rattle.wcc.specs.Outputs.{Outputs};
 ghost use Rattle.wcc.specs.Plain.{IsPlainSource};
 ghost use Rattle.wcc.specs.Running.{CanExit};
 ghost use Rattle.wcc.specs.Promises.{CanEnd};
@@ -15,4 +19,12 @@ pub fn plain_source_is_done()
 /// An image that exits within the limits can only be run.
 pub fn exit_is_done()
     ensures { (names : RunNames) (old : StoreState) → IsSomeAnd old.files (λ fs. CanExit (bytes_of fs names.image) (bytes_of fs names.input)) → CanEnd (Some (Run names)) old status.Done }
+{}
+
+/// A source does one thing on an input, or is refused in one way, and `eval` can only end so. What
+/// is written and printed is determined too.
+pub fn evaluation_is_done()
+    ensures run { (names : EvalNames) (old : StoreState) (run : SourceRun) → IsSomeAnd old.files (λ fs. Evaluates (bytes_of fs names.source) (bytes_of fs names.input) run) → CanEnd (Some (Eval names)) old (run_outputs names run).status }
+    ensures refusal { (names : EvalNames) (old : StoreState) (s : Status) → IsSomeAnd old.files (λ fs. IsRejected (bytes_of fs names.source) (bytes_of fs names.input) s) → CanEnd (Some (Eval names)) old s }
+    ensures made { (names : EvalNames) (source input : List ℕ) (run : SourceRun) (made : Outputs) → IsRun source input run → MakesRun names source input made → made ≡ run_outputs names run }
 {}

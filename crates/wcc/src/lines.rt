@@ -2,7 +2,7 @@
 ghost use Rattle.std.specs.Prelude.{◌≡◌, ◌<◌, [], ◌∷◌, codes, IfOk};
 ghost use Rattle.std.specs.Fmt.{decimal};
 ghost use Rattle.std.specs.Char.{digit_char};
-ghost use Rattle.wcc.specs.Lines.{address_text, all_shown, row, cycles_line, exit_line, run_line};
+ghost use Rattle.wcc.specs.Lines.{address_text, all_shown, row, cycles_line, exit_line, value_line, undefined_line, broken_line, run_line};
 
 use rv_sim::Ending;
 use std::alloc::Global;
@@ -53,6 +53,43 @@ pub fn cycles_line<'a>(cycles: u32) -> [Part<'a>; 3]
     [
         Part::Word("cycles "),
         Part::Number(u64::from(cycles)),
+        Part::Word("\n"),
+    ]
+}
+
+/// The line of a source's run that is done.
+pub fn value_line<'a>(value: i32, bytes: u64) -> [Part<'a>; 5]
+    ensures { all_shown result ≡ value_line value bytes }
+{
+    [
+        Part::Word("value "),
+        Part::Signed(value),
+        Part::Word(" bytes "),
+        Part::Number(bytes),
+        Part::Word("\n"),
+    ]
+}
+
+/// The line of a source's run that is undefined.
+pub fn undefined_line<'a>(rule: u8, at: u32) -> [Part<'a>; 5]
+    ensures { all_shown result ≡ undefined_line rule at }
+{
+    [
+        Part::Word("undefined "),
+        Part::Number(u64::from(rule)),
+        Part::Word(" at "),
+        Part::Number(u64::from(at)),
+        Part::Word("\n"),
+    ]
+}
+
+/// The line of a source's run that breaks an annotation.
+pub fn broken_line<'a>(at: u32) -> [Part<'a>; 3]
+    ensures { all_shown result ≡ broken_line at }
+{
+    [
+        Part::Word("broken at "),
+        Part::Number(u64::from(at)),
         Part::Word("\n"),
     ]
 }

@@ -12,6 +12,7 @@
 mod artifact;
 mod compile;
 mod contents;
+mod evaluate;
 mod files;
 mod finish;
 mod gather;

@@ -8,7 +8,7 @@ ghost use Rattle.wcc.specs.Outputs.{outputs_of};
 
 use crate::compile::make_compiled;
 use crate::contents::{one, two};
-use crate::lines::Part;
+use crate::evaluate::make_evaluated;
 use crate::run::make_run;
 use crate::words::Command;
 use std::alloc::Global;
@@ -27,7 +27,8 @@ pub struct Output<'a> {
 pub struct Made<'a> {
     pub status: Status,
     pub files: Vec<Output<'a>>,
-    pub lines: Vec<Part<'a>>,
+    /// The text of the lines.
+    pub lines: Items<u8>,
 }
 
 /// Makes what a command asks of the contents of its files, in the order in which they were read. No
@@ -46,5 +47,6 @@ pub fn make<'a>(
     match command {
         Command::Compile(names) => make_compiled(alloc, names, one(contents)),
         Command::Run(names) => make_run(alloc, names, two(contents)),
+        Command::Eval(names) => make_evaluated(alloc, names, two(contents)),
     }
 }

@@ -2,7 +2,7 @@
 ghost use Rattle.std.specs.Prelude.{◌≡◌, IfOk, OnOk, OnErr};
 ghost use Rattle.wcc_base.specs.Outside.{HasCause, told_append};
 ghost use Rattle.wcc.specs.Lines.{shown, all_shown};
-ghost use Rattle.wcc.specs.Finishing.{IsCut, Reported};
+ghost use Rattle.wcc.specs.Finishing.{IsCut, Reported, unprinted};
 
 use crate::lines::{Part, address};
 use itoa::Buffer;
@@ -55,17 +55,36 @@ fn put_lines<O: Sink>(out: &mut O, lines: &[Part]) -> Result<(), Fault>
     Ok(())
 }
 
+// How a call ends whose lines could not be put.
+fn unprinted(status: Status, fault: Fault) -> Status
+    ensures { result ≡ unprinted status fault }
+{
+    match fault {
+        Fault::Memory => Status::Memory,
+        Fault::Failed => match status {
+            Status::Done => Status::WriteFault,
+            _ => status,
+        },
+    }
+}
+
 /// Puts the lines of a status, and says how the call ends.
 pub fn report<O: Sink>(out: &mut O, status: Status, lines: &[Part]) -> Status
     ensures { Reported status (all_shown lines.now) (O.state out.old) (O.state out.new) result }
 {
     match put_lines(out, lines) {
         Ok(()) => status,
-        Err(Fault::Memory) => Status::Memory,
-        Err(Fault::Failed) => match status {
-            Status::Done => Status::WriteFault,
-            _ => status,
-        },
+        Err(fault) => unprinted(status, fault),
+    }
+}
+
+/// Puts the text of what was made, and says how the call ends.
+pub fn report_text<O: Sink>(out: &mut O, status: Status, text: &[u8]) -> Status
+    ensures { Reported status text.now (O.state out.old) (O.state out.new) result }
+{
+    match put_all(out, text) {
+        Ok(()) => status,
+        Err(fault) => unprinted(status, fault),
     }
 }
 

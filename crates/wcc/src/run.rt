@@ -8,6 +8,7 @@ ghost use Rattle.wcc.specs.Outputs.{outputs_of};
 
 use crate::lines::run_line;
 use crate::make::{Made, Output};
+use crate::printing::text_of;
 use crate::words::RunNames;
 use elf_image::{ElfFault, read};
 use rv_core::default_costs;
@@ -73,16 +74,23 @@ fn run_status(ending: Ending, pc: u32, cycles: u64) -> Status
     }
 }
 
-// The status of a file that is no image.
-fn no_image(fault: ElfFault) -> Status
-    ensures { result ≡ status.Refused 10 (fault_number fault) (fault_index fault) }
+/// The number of a fault of an image, and the index of a segment.
+pub fn fault_of_image(fault: ElfFault) -> (u8, u32)
+    ensures { result ≡ (fault_number fault, fault_index fault) }
 {
-    let (detail, at) = match fault {
+    match fault {
         ElfFault::NotElf => (1, 0),
         ElfFault::WrongMachine => (2, 0),
         ElfFault::BadSegment { index } => (3, index),
         ElfFault::Memory => (4, 0),
-    };
+    }
+}
+
+// The status of a file that is no image.
+fn no_image(fault: ElfFault) -> Status
+    ensures { result ≡ status.Refused 10 (fault_number fault) (fault_index fault) }
+{
+    let (detail, at) = fault_of_image(fault);
     Status::Refused {
         code: NO_IMAGE,
         detail,
@@ -97,7 +105,8 @@ fn outputs<'a>(alloc: Global, names: RunNames<'a>, ran: Ran) -> Result<Made<'a>,
     let ending = ran.ending;
     let pc = ran.machine.pc();
     let cycles = ran.machine.cycles();
-    let lines = run_line(alloc, ending, pc, cycles)?;
+    let line = run_line(alloc, ending, pc, cycles)?;
+    let lines = text_of(alloc, &line)?;
     let mut files = Vec::new(alloc);
     files.push(Output {
         name: names.output,
@@ -106,7 +115,7 @@ fn outputs<'a>(alloc: Global, names: RunNames<'a>, ran: Ran) -> Result<Made<'a>,
     Ok(Made {
         status: run_status(ending, pc, cycles),
         files,
-        lines,
+        lines: Items::new(lines),
     })
 }
 

@@ -1,0 +1,4 @@
+int main(void) {
+#pragma marker main
+    return 7;
+}
