@@ -105,7 +105,7 @@ fn finish(
 }
 
 /// The run of a program on an input, under its facts.
-pub fn evaluate(
+pub fn eval(
     alloc: Global,
     program: &Program,
     facts: &Facts,

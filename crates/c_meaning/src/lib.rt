@@ -11,4 +11,4 @@ mod parts;
 mod restrictions;
 mod walk;
 
-pub use evaluation::evaluate;
+pub use evaluation::eval;

@@ -1,5 +1,5 @@
 use super::program::{facts, program};
-use c_meaning::evaluate;
+use c_meaning::eval;
 use c_semantics::{SourceRun, Unkept};
 use c_typed::variable::Duration;
 use std::alloc::Global;
@@ -10,7 +10,7 @@ use wcc_base::Memory;
 fn ran(alloc: Global, sum: Duration, times: u32, input: &[u8]) -> Result<SourceRun, Memory> {
     let program = program(alloc, sum)?;
     let facts = facts(alloc, times)?;
-    evaluate(alloc, &program, &facts, input)
+    eval(alloc, &program, &facts, input)
 }
 
 #[test]

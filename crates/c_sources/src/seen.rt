@@ -3,7 +3,7 @@
 use c_facts::{CallFault, FlowFault};
 use c_front::{Refusal, read_source};
 use c_lexer::LexFault;
-use c_meaning::evaluate;
+use c_meaning::eval;
 use c_parser::ParseFault;
 use c_rules::{Rule, TypeFault};
 use c_semantics::{SourceRun, Unkept};
@@ -103,7 +103,7 @@ pub fn outcome(
         Ok(source) => source,
         Err(refusal) => return Ok(seen_of_refusal(refusal)),
     };
-    let run = evaluate(alloc, &source.typed.program, &source.facts, input);
+    let run = eval(alloc, &source.typed.program, &source.facts, input);
     source.let_go();
     match run {
         Ok(run) => seen_of_run(run, output),

@@ -16,7 +16,7 @@ use crate::words::EvalNames;
 use c_facts::{CallFault, FlowFault};
 use c_front::{Refusal, Source, read_source};
 use c_lexer::LexFault;
-use c_meaning::evaluate;
+use c_meaning::eval;
 use c_parser::ParseFault;
 use c_rules::{Rule, TypeFault};
 use c_semantics::{SourceRun, Unkept};
@@ -205,7 +205,7 @@ fn outputs<'a>(alloc: Global, names: EvalNames<'a>, run: SourceRun) -> Result<Ma
 fn run(alloc: Global, source: Source, input: &[u8]) -> Result<SourceRun, Memory>
     ensures { IfOk result (λ r. (text : List ℕ) → IsSource text source.typed.program.names.items (program_of source.typed.program) source.facts → IsRun text input.now r) }
 {
-    let run = evaluate(alloc, &source.typed.program, &source.facts, input);
+    let run = eval(alloc, &source.typed.program, &source.facts, input);
     source.let_go();
     run
 }
