@@ -1,0 +1,3 @@
+mod Lookups
+mod FirstFaults
+pub mod OneTable
