@@ -3,3 +3,4 @@ pub mod FitLemmas
 pub mod LetterLemmas
 pub mod SumLemmas
 pub mod TermLemmas
+pub mod LabelLemmas

@@ -1,10 +1,12 @@
 -- Terms as words, and sums that are read term by term.
-use Rattle.std.proofs.Common.{◌≡◌, ℕ, ◌+◌, ◌-◌, ◌<◌, ◌≤◌, ◌^◌, ◌==◌, ◌&&◌, ℤ, pos, List, [], ◌∷◌, ◌++◌, length, drop, get_or, map, Bool, true, false, refl, sym, ap, subst, ◌∙◌, arith, nat_le, nat_lt, ⊎_elim, ◌%◌}
+use Rattle.std.proofs.Common.{◌≡◌, ℕ, ◌+◌, ◌-◌, ◌<◌, ◌≤◌, ◌^◌, ◌==◌, ◌&&◌, ℤ, pos, List, [], ◌∷◌, ◌++◌, length, drop, get_or, map, Bool, true, false, refl, sym, ap, subst, ◌∙◌, arith, nat_le, nat_lt, ⊎_elim, ◌%◌, All}
 use Rattle.std.specs.Prelude.{codes}
 use Rattle.std.specs.Fmt.{decimal}
 use Rattle.std.proofs.lemmas.Bool.{false≢true, cases_lt}
 use Rattle.std.proofs.lemmas.Grind.{common_steps}
 use Rattle.std.proofs.lemmas.List.{take-append-drop, append_assoc, append-nil, length-append, drop-drop, length-drop}
+use Rattle.std.proofs.lemmas.List.Elements.{All-nil, All-cons, All-push}
+use Rattle.std.proofs.lemmas.Int.{ints}
 use Rattle.std.proofs.Math.ListN.{get_or-append}
 use Rattle.std.proofs.Math.Seq.{get_or-append_seam}
 use borrow.Author.Tests.{eqb-true, leb-true, ltb-true}
@@ -14,6 +16,7 @@ use Rattle.report_words.specs.Words.{Word, address_word, term_word}
 use Rattle.report_scanner.specs.Numbers.{is_number, number_of, is_address, is_term, is_starred, term_number, term_address}
 use Rattle.report_scanner.proofs.NumberLemmas.{decimal-number_of}
 use Rattle.report_scanner.proofs.BackLemmas.{address_word-address_of}
+use Rattle.report_text.specs.Forms.{IsTerm}
 use Rattle.report_text.specs.Lines.{sum_words, more_terms}
 use Rattle.report_lines.specs.Sums.{is_byte, address_in, term_in, is_term_in_range, are_more_terms, are_more_in_range, are_terms, are_terms_in_range, EndsBy, IsReadingSum, IsTestingSum}
 
@@ -85,6 +88,13 @@ ends_more ts t a e lt = record {
       (cases_lt i (length ts));
 }
 
+-- the number of a term in range
+term_is : (w : Word) → is_term_in_range w ≡ true → IsTerm (term_in w)
+term_is w e =
+    let least = and_first (nat_le 1 (number_of (term_number w))) (nat_lt (number_of (term_number w)) (2 ^ 32)) e in
+    let most = and_second (nat_le 1 (number_of (term_number w))) (nat_lt (number_of (term_number w)) (2 ^ 32)) e in
+    (omega (arith, ints, leb-true 1 (number_of (term_number w)) least), omega (arith, ints, ltb-true (number_of (term_number w)) (2 ^ 32) most))
+
 -- what the words of the next term say of it
 pub record IsNext (ts : Terms) (w : Word) : Type 0 where
   pub term : is_term w ≡ true
@@ -107,6 +117,7 @@ next_added ts new p w rest all r is = subst (λ s. IsReadingSum s rest all) (sym
   ends = ends_more ts (term_in w) r.last r.ends (ltb-true r.last (address_in w) above);
   form = and_second (nat_lt r.last (address_in w)) (are_more_terms (address_in w) rest) (and_second (is_term w) (nat_lt r.last (address_in w) && are_more_terms (address_in w) rest) form);
   in_range = and_second (is_term_in_range w) (are_more_in_range rest) r.in_range;
+  terms = All-push IsTerm ts (term_in w) r.terms (term_is w next.in_range);
   same = ap (λ ws. ws ++ rest) (sum_words-more ts (term_in w) r.ends.some) ∙ append_assoc (sum_words ts) (codes "+" ∷ term_word (term_in w) ∷ []) rest
       ∙ (λ i. sum_words ts ++ (sym plus i ∷ term_word-term_in w next.term next.in_range i ∷ rest)) ∙ r.same;
 })
@@ -135,6 +146,7 @@ begun w rest new f r is = subst (λ s. IsReadingSum s rest (w ∷ rest)) (sym is
   ends = record { some = omega arith; below = λ i lt. at_zero i lt };
   form = and_second (is_term w) (are_more_terms (address_in w) rest) f;
   in_range = and_second (is_term_in_range w) (are_more_in_range rest) r;
+  terms = All-cons IsTerm (term_in w) [] (term_is w (and_first (is_term_in_range w) (are_more_in_range rest) r)) (All-nil IsTerm);
   same = ap (λ t. t ∷ rest) (term_word-term_in w (and_first (is_term w) (are_more_terms (address_in w) rest) f) (and_first (is_term_in_range w) (are_more_in_range rest) r));
 })
   where
@@ -166,6 +178,9 @@ few_left f (y ∷ z ∷ ys) ts all lt r = absurd (omega (arith, lt))
 
 pub none_at : {X : Type 0} (f : X → Word) (xs : List X) (i : ℕ) (ts : Terms) (all : List Word) → length xs ≤ i + 1 → IsReadingSum ts (map f (drop i xs)) all → sum_words ts ≡ all
 none_at f xs i ts all le r = few_left f (drop i xs) ts all (omega (arith, le, length-drop i xs)) r
+
+pub terms_at : {X : Type 0} (f : X → Word) (xs : List X) (i : ℕ) (ts : Terms) (all : List Word) → IsReadingSum ts (map f (drop i xs)) all → All IsTerm ts
+terms_at f xs i ts all r = r.terms
 
 -- the test of terms, by index
 

@@ -1,17 +1,21 @@
 -- How far the reader of a list of words has come.
-use Rattle.std.specs.Prelude.{◌≡◌, List, ◌++◌, true}
-use Rattle.report_words.specs.Words.{Word}
+use Rattle.std.specs.Prelude.{◌≡◌, ℕ, ℤ, List, ◌++◌, map, true}
+use Rattle.std.specs.Fmt.{signed_decimal}
+use Rattle.report_words.specs.Words.{Word, address_word}
+use Rattle.report_scanner.specs.Numbers.{address_of, signed_of}
 use Rattle.report_lines.specs.LineLists.{are_addresses, are_integers, are_small}
 
--- the words that were read, and those that are left, are all
-pub record IsReadingPlaces (done left all : List Word) : Type 0 where
+-- the words of what was read, and those that are left, are all
+pub record IsReadingPlaces (places : List ℕ) (left all : List Word) : Type 0 where
   pub form : are_addresses left ≡ true
-  pub same : done ++ left ≡ all
+  pub same : map address_word places ++ left ≡ all
+  pub values : places ++ map address_of left ≡ map address_of all
 
-pub record IsReadingNumbers (done left all : List Word) : Type 0 where
+pub record IsReadingNumbers (numbers : List ℤ) (left all : List Word) : Type 0 where
   pub form : are_integers left ≡ true
   pub small : are_small left ≡ true
-  pub same : done ++ left ≡ all
+  pub same : map signed_decimal numbers ++ left ≡ all
+  pub values : numbers ++ map signed_of left ≡ map signed_of all
 
 -- the numbers that are left are numbers, and are small where all are
 pub record IsTestingNumbers (left all : List Word) : Type 0 where

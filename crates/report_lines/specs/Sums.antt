@@ -1,10 +1,11 @@
 -- The words of a sum: `0`, or terms with ascending addresses and a plus between them.
-use Rattle.std.specs.Prelude.{◌≡◌, ℕ, ◌<◌, ◌≤◌, ◌^◌, ◌==◌, ◌&&◌, ℤ, pos, List, [], ◌∷◌, ◌++◌, length, Bool, true, false, nat_le, nat_lt, ◌||◌, if◌then◌else◌}
+use Rattle.std.specs.Prelude.{◌≡◌, ℕ, ◌<◌, ◌≤◌, ◌^◌, ◌==◌, ◌&&◌, ℤ, pos, List, [], ◌∷◌, ◌++◌, length, Bool, true, false, nat_le, nat_lt, ◌||◌, if◌then◌else◌, All}
 use Rattle.frac128.specs.Terms.{Terms}
 use Rattle.frac128.specs.Sum.{address_at}
 use Rattle.report_words.specs.Words.{Word}
 use Rattle.report_scanner.specs.Numbers.{is_empty, number_of, address_of, is_term, term_number, term_address}
 use Rattle.report_text.specs.Lines.{sum_words}
+use Rattle.report_text.specs.Forms.{IsTerm}
 
 abbrev pub is_byte : ℕ → Word → Bool
 is_byte b [] = false
@@ -57,6 +58,7 @@ pub record IsReadingSum (ts : Terms) (left all : List Word) : Type 0 where
   pub ends : EndsBy ts last
   pub form : are_more_terms last left ≡ true
   pub in_range : are_more_in_range left ≡ true
+  pub terms : All IsTerm ts
   pub same : sum_words ts ++ left ≡ all
 
 -- the words that are left are terms, and are in range where all are

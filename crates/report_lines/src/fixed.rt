@@ -1,7 +1,7 @@
 // The lines that have a fixed number of words.
-ghost use Rattle.std.specs.Prelude.{◌≡◌, [], ◌∷◌, true, false, length, map, codes, IfOk};
+ghost use Rattle.std.specs.Prelude.{◌≡◌, [], ◌∷◌, true, false, length, map, codes, IfOk, MatchOption};
 ghost use Rattle.std.specs.Fmt.{decimal, signed_decimal};
-ghost use Rattle.report_words.specs.Words.{address_word};
+ghost use Rattle.report_words.specs.Words.{address_word, is_name};
 ghost use Rattle.report_scanner.specs.Shapes.{fit, are_in_range};
 ghost use Rattle.report_lines.specs.LineShapes.{cycles_shapes, exit_shapes, never_shapes, bound_shapes, turn_shapes, loop_shapes, region_shapes, share_shapes, scale_shapes, potential_shapes, unit_shapes, flow_shapes};
 ghost use Rattle.report_text.specs.Lines.{cycles_line, exit_line, never_line, region_line, loop_line, share_line, scale_line, potential_line, unit_line, flow_line};
@@ -282,7 +282,8 @@ fn share_of(
 ) -> Result<Share, Memory>
     requires fits { fit share_shapes (name.now ∷ first.now ∷ end.now ∷ part.now ∷ []) ≡ true }
     requires in_range { are_in_range share_shapes (name.now ∷ first.now ∷ end.now ∷ part.now ∷ []) ≡ true }
-    ensures { IfOk result (λ share. share_line share ≡ codes "share" ∷ name.now ∷ first.now ∷ end.now ∷ part.now ∷ []) }
+    ensures same { IfOk result (λ share. share_line share ≡ codes "share" ∷ name.now ∷ first.now ∷ end.now ∷ part.now ∷ []) }
+    ensures named { IfOk result (λ share. MatchOption share.name (Unit {0}) (λ n. is_name n ≡ true)) }
 {
     let first = place(first);
     let end = place(end);
@@ -300,7 +301,8 @@ fn share_of(
 pub fn share(alloc: Global, words: &[&[u8]]) -> Result<Share, Memory>
     requires fits { fit share_shapes (map (λ w. w.now) words.now) ≡ true }
     requires in_range { are_in_range share_shapes (map (λ w. w.now) words.now) ≡ true }
-    ensures { IfOk result (λ share. share_line share ≡ codes "share" ∷ map (λ w. w.now) words.now) }
+    ensures same { IfOk result (λ share. share_line share ≡ codes "share" ∷ map (λ w. w.now) words.now) }
+    ensures named { IfOk result (λ share. MatchOption share.name (Unit {0}) (λ n. is_name n ≡ true)) }
 {
     let (name, first, end, part) = four(words);
     share_of(alloc, name, first, end, part)

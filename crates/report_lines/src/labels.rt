@@ -9,8 +9,11 @@ use std::alloc::Global;
 use wcc_base::{Memory, Text};
 
 /// The name of a word, or none of `-`.
+#[tactic(auto, using(crate::proofs::LabelLemmas::named_else))]
 pub fn label(alloc: Global, word: &[u8]) -> Result<Option<Text>, Memory>
-    ensures { IfOk result (λ name. share_name name ≡ word.now) }
+    requires { (is_dash word.now || is_name word.now) ≡ true }
+    ensures same { IfOk result (λ name. share_name name ≡ word.now) }
+    ensures named { IfOk result (λ name. MatchOption name (Unit {0}) (λ n. is_name n ≡ true)) }
 {
     if word == b"-".as_slice() {
         return Ok(None);

@@ -22,3 +22,4 @@ pub use fixed::{cycles, exit, flow, loop_claim, never, potential, region, scale,
 pub use kinds::{plain_kind, spent_kind, wide_kind};
 pub use lists::{are_addresses, are_integers, are_small, column, copy};
 pub use sums::{is_term, is_term_in_range, sum};
+pub use values::integer;

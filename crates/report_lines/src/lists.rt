@@ -2,7 +2,7 @@
 ghost use Rattle.std.specs.Prelude.{◌≡◌, ◌∷◌, [], ◌<◌, ◌&&◌, ℕ, true, length, map, codes, IfOk, ◌^◌, nat_lt, unsigned_abs};
 ghost use Rattle.std.specs.Fmt.{signed_decimal};
 ghost use Rattle.report_words.specs.Words.{address_word, is_name};
-ghost use Rattle.report_scanner.specs.Numbers.{is_signed, signed_of};
+ghost use Rattle.report_scanner.specs.Numbers.{is_signed, signed_of, address_of};
 ghost use Rattle.report_text.specs.Lines.{copy_line, column_line};
 ghost use Rattle.report_lines.specs.LineLists.{are_addresses, are_integers, are_small};
 
@@ -62,7 +62,8 @@ pub fn are_small(words: &[&[u8]]) -> bool
 // The addresses of words.
 fn addresses(alloc: Global, words: &[&[u8]]) -> Result<Vec<u32>, Memory>
     requires { are_addresses (map (λ w. w.now) words.now) ≡ true }
-    ensures { IfOk result (λ v. map address_word v.items ≡ map (λ w. w.now) words.now) }
+    ensures written { IfOk result (λ v. map address_word v.items ≡ map (λ w. w.now) words.now) }
+    ensures values { IfOk result (λ v. v.items ≡ map address_of (map (λ w. w.now) words.now)) }
 {
     let mut addresses = Vec::new(alloc);
     for word in words {
@@ -75,7 +76,8 @@ fn addresses(alloc: Global, words: &[&[u8]]) -> Result<Vec<u32>, Memory>
 fn integers(alloc: Global, words: &[&[u8]]) -> Result<Vec<i128>, Memory>
     requires form { are_integers (map (λ w. w.now) words.now) ≡ true }
     requires small { are_small (map (λ w. w.now) words.now) ≡ true }
-    ensures { IfOk result (λ v. map signed_decimal v.items ≡ map (λ w. w.now) words.now) }
+    ensures written { IfOk result (λ v. map signed_decimal v.items ≡ map (λ w. w.now) words.now) }
+    ensures values { IfOk result (λ v. v.items ≡ map signed_of (map (λ w. w.now) words.now)) }
 {
     let mut integers = Vec::new(alloc);
     for word in words {
@@ -87,7 +89,8 @@ fn integers(alloc: Global, words: &[&[u8]]) -> Result<Vec<i128>, Memory>
 /// The name and the places of a line `copy`.
 pub fn copy(alloc: Global, name: &[u8], places: &[&[u8]]) -> Result<CopyLine, Memory>
     requires { are_addresses (map (λ w. w.now) places.now) ≡ true }
-    ensures { IfOk result (λ line. copy_line line ≡ codes "copy" ∷ name.now ∷ map (λ w. w.now) places.now) }
+    ensures written { IfOk result (λ line. copy_line line ≡ codes "copy" ∷ name.now ∷ map (λ w. w.now) places.now) }
+    ensures values { IfOk result (λ line. (line.name ≡ name.now) × (line.places ≡ map address_of (map (λ w. w.now) places.now))) }
 {
     let places = addresses(alloc, places)?;
     let bytes = Vec::from_slice(alloc, name)?;
@@ -101,7 +104,8 @@ pub fn copy(alloc: Global, name: &[u8], places: &[&[u8]]) -> Result<CopyLine, Me
 pub fn column(alloc: Global, value: &[u8], totals: &[&[u8]]) -> Result<Column, Memory>
     requires form { are_integers (value.now ∷ map (λ w. w.now) totals.now) ≡ true }
     requires small { are_small (value.now ∷ map (λ w. w.now) totals.now) ≡ true }
-    ensures { IfOk result (λ column. column_line column ≡ codes "column" ∷ value.now ∷ map (λ w. w.now) totals.now) }
+    ensures written { IfOk result (λ column. column_line column ≡ codes "column" ∷ value.now ∷ map (λ w. w.now) totals.now) }
+    ensures values { IfOk result (λ column. (column.value ≡ signed_of value.now) × (column.totals ≡ map signed_of (map (λ w. w.now) totals.now))) }
 {
     let value = integer(value);
     let totals = integers(alloc, totals)?;

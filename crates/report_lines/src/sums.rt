@@ -1,7 +1,8 @@
 // The sums of a line `fact`.
-ghost use Rattle.std.specs.Prelude.{◌≡◌, ◌≢◌, ◌++◌, ◌∷◌, [], ◌<◌, ◌≤◌, ◌-◌, ◌^◌, ℕ, pos, true, min, drop, length, map, OnOk, IfOk};
+ghost use Rattle.std.specs.Prelude.{◌≡◌, ◌≢◌, ◌++◌, ◌∷◌, [], ◌<◌, ◌≤◌, ◌-◌, ◌^◌, ℕ, pos, true, min, drop, length, map, OnOk, IfOk, All};
 ghost use Rattle.frac128.specs.Sum.{address_at};
 ghost use Rattle.report_scanner.specs.Numbers.{number_of, is_starred, is_term, term_number};
+ghost use Rattle.report_text.specs.Forms.{IsTerm};
 ghost use Rattle.report_text.specs.Lines.{sum_words};
 ghost use Rattle.report_lines.specs.Sums.{is_byte, address_in, term_in, is_term_in_range, are_terms, are_terms_in_range};
 
@@ -112,7 +113,8 @@ fn add_behind(sum: &mut Sum, at: u32, number: i64) -> Result<(), SumFault>
 pub fn sum(alloc: Global, first: &[u8], words: &[&[u8]]) -> Result<Sum, Memory>
     requires form { are_terms (first.now ∷ map (λ w. w.now) words.now) ≡ true }
     requires in_range { are_terms_in_range (first.now ∷ map (λ w. w.now) words.now) ≡ true }
-    ensures { IfOk result (λ sum. sum_words sum ≡ first.now ∷ map (λ w. w.now) words.now) }
+    ensures written { IfOk result (λ sum. sum_words sum ≡ first.now ∷ map (λ w. w.now) words.now) }
+    ensures terms { IfOk result (λ sum. All IsTerm sum) }
 {
     let mut sum = Sum::new(alloc);
     add_term(&mut sum, first)?;

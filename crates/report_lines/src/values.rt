@@ -2,7 +2,7 @@
 ghost use Rattle.std.specs.Prelude.{◌≡◌, ◌<◌, ◌^◌, true, unsigned_abs};
 ghost use Rattle.std.specs.Fmt.{decimal, signed_decimal};
 ghost use Rattle.report_words.specs.Words.{address_word};
-ghost use Rattle.report_scanner.specs.Numbers.{is_number, number_of, is_signed, signed_of, is_address};
+ghost use Rattle.report_scanner.specs.Numbers.{is_number, number_of, is_signed, signed_of, is_address, address_of};
 
 use report_scanner::{address, number, signed};
 
@@ -51,7 +51,8 @@ pub fn amount(word: &[u8]) -> i128
 pub fn integer(word: &[u8]) -> i128
     requires form { is_signed word.now ≡ true }
     requires small { unsigned_abs (signed_of word.now) < 2 ^ 120 }
-    ensures { signed_decimal result ≡ word.now }
+    ensures written { signed_decimal result ≡ word.now }
+    ensures value { result ≡ signed_of word.now }
 {
     signed(word)
 }
@@ -60,7 +61,8 @@ pub fn integer(word: &[u8]) -> i128
 #[tactic(auto, using(crate::proofs::ValueLemmas::address_written))]
 pub fn place(word: &[u8]) -> u32
     requires { is_address word.now ≡ true }
-    ensures { address_word result ≡ word.now }
+    ensures written { address_word result ≡ word.now }
+    ensures value { result ≡ address_of word.now }
 {
     address(word)
 }

@@ -55,7 +55,7 @@ signed_of_by : (t : Bool) (b : ℕ) (bs : List ℕ) → (b == 45) ≡ t → is_n
 signed_of_by true b bs e n = absurd (false≢true (subst (λ x. is_number (x ∷ bs) ≡ true) (eqb-true b 45 e) n))
 signed_of_by false b bs e n = refl
 
-signed_of_number : (w : Word) → is_number w ≡ true → signed_of w ≡ pos (number_of w)
+pub signed_of_number : (w : Word) → is_number w ≡ true → signed_of w ≡ pos (number_of w)
 signed_of_number [] n = absurd (false≢true n)
 signed_of_number (b ∷ bs) n = signed_of_by (b == 45) b bs refl n
 

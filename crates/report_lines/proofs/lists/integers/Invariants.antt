@@ -1,7 +1,6 @@
 use Rattle.std.proofs.Common.{map, drop}
-use Rattle.std.specs.Fmt.{signed_decimal}
 use Rattle.report_lines.specs.ListProgress.{IsReadingNumbers}
 use Rattle.report_lines.proofs.lists.integers.Given as goal
 
 abbrev pub invariant-loop-word : goal.invariant-loop-word
-invariant-loop-word l = IsReadingNumbers (map signed_decimal l.integers.items) (map (λ w. w.now) (drop l.word-index l.words)) (map (λ w. w.now) l.words)
+invariant-loop-word l = IsReadingNumbers l.integers.items (map (λ w. w.now) (drop l.word-index l.words)) (map (λ w. w.now) l.words)

@@ -1,6 +1,6 @@
 use Rattle.std.proofs.Common.{◌≡◌, ◌∷◌, ◌++◌, ◌+◌, ◌*◌, [], map, drop, ap, subst, ◌∙◌, arith}
 use Rattle.report_lines.specs.Sums.{term_in, IsReadingSum}
-use Rattle.report_lines.proofs.TermLemmas.{begun, next_at, added_at, none_at}
+use Rattle.report_lines.proofs.TermLemmas.{begun, next_at, added_at, none_at, terms_at}
 use Rattle.report_lines.proofs.sums.sum.Goals as goal
 
 pub terms-init : goal.terms-init
@@ -22,5 +22,8 @@ terms-preserved c =
     subst (λ k. IsReadingSum c.add_term-in-terms.new.sum (map (λ w. w.now) (drop k c.args.words.now)) all) place
     (added_at (λ w. w.now) c.args.words.now (2 * c.terms.i) _ c.terms.sum c.add_term-in-terms.new.sum all (omega (arith, c.terms-test.true)) c.terms.invariant c.in_ok-add_term-2.ensures)
 
-pub returns : goal.returns
-returns c = none_at (λ w. w.now) c.args.words.now (2 * c.terms.i) c.terms.sum (c.args.first.now ∷ map (λ w. w.now) c.args.words.now) (omega (arith, c.terms-test.false)) c.terms.invariant
+pub returns-clause-terms : goal.returns-clause-terms
+returns-clause-terms c = terms_at (λ w. w.now) c.args.words.now (2 * c.terms.i) c.terms.sum (c.args.first.now ∷ map (λ w. w.now) c.args.words.now) c.terms.invariant
+
+pub returns-clause-written : goal.returns-clause-written
+returns-clause-written c = none_at (λ w. w.now) c.args.words.now (2 * c.terms.i) c.terms.sum (c.args.first.now ∷ map (λ w. w.now) c.args.words.now) (omega (arith, c.terms-test.false)) c.terms.invariant
