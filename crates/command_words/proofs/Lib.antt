@@ -1,0 +1,5 @@
+pub mod Getters
+pub mod Accepted
+mod Laws
+mod Taking
+mod Nothing

@@ -1,0 +1,21 @@
+use Rattle.std.proofs.Common.{◌∙◌, ap, map, string_bytes}
+use Rattle.clap.specs.Words.{is_simple_and_free}
+use Rattle.command_words.specs.Commands.{respond_command}
+use Rattle.command_words.specs.Asked.{respond_asked}
+use Rattle.command_words.specs.Matching.{IsMatch}
+use Rattle.command_words.proofs.Laws.{respond_is_free}
+use Rattle.command_words.proofs.Taking.{takes, refuses}
+use Rattle.command_words.proofs.respond.read.Goals as goal
+
+pub matches-requires : goal.matches-requires
+matches-requires c = ap is_simple_and_free c.in_ok-command.ensures ∙ respond_is_free
+
+pub returns-in-Ok-Some : goal.returns-in-Ok-Some
+returns-in-Ok-Some c =
+    let m : IsMatch c.in_ok-command.command (map string_bytes c.args.words.now) c.in-Ok-Some.matches = rw c.in-Ok-Some.field-0-is at c.in-Ok-Some.ensures in
+    takes c.in_ok-command.command respond_command respond_asked (map string_bytes c.args.words.now) c.in-Ok-Some.matches _ _ c.in_ok-command.ensures m c.request-asked.ensures c.distinct.ensures
+
+pub returns-in-Ok-None : goal.returns-in-Ok-None
+returns-in-Ok-None c =
+    let refused = rw c.in-Ok-None.field-0-is at c.in-Ok-None.ensures in
+    refuses c.in_ok-command.command respond_command respond_asked (map string_bytes c.args.words.now) c.in_ok-command.ensures refused
