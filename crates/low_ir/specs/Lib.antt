@@ -1,0 +1,14 @@
+pub mod Kinds
+pub mod Code
+pub mod View
+pub mod Effects
+pub mod Runs
+pub mod Turns
+pub mod Formed
+pub mod Room
+pub mod Live
+pub mod Places
+pub mod Spacing
+pub mod Programs
+pub mod Placings
+pub mod Example
