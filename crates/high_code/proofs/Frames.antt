@@ -1,5 +1,5 @@
 -- A frame that has the variables which code needs has those that it assigns.
-use Rattle.std.proofs.Common.{◌≡◌, ℕ, ◌+◌, ◌<◌, ◌≤◌, max, Option, Some, None, arith}
+use Rattle.std.proofs.Common.{ℕ, ◌+◌, ◌<◌, ◌≤◌, max, Option, Some, None, arith}
 use Rattle.high_ir.specs.Tree.{Statement, Set, Put, Get, Keep, Mark, Seq, If, Loop, Block, Leave, Call, Return, Statements, End, Then}
 use Rattle.high_code.specs.Code.{Within, AllWithin, IntoWithin, frame_needed, frame_needed_all, into_needed}
 

@@ -4,7 +4,7 @@ use Rattle.std.specs.Prelude.{◌==◌, nat_lt, length, slice_index_or, slice_se
 use Rattle.std.proofs.lemmas.Bool.{eqb-false, or_parts}
 use Rattle.std.proofs.lemmas.List.{get_or-set_other}
 use Rattle.high_ir.specs.Tree.{Statement, Set, Put, Get, Keep, Mark, Seq, If, Loop, Block, Leave, Call, Return, Statements, End, Then}
-use Rattle.high_ir.specs.Meaning.{Variables, World, State, Outcome, Goes, Leaves, Returns, Bad, Given, Calls, Labels, only_if, value_of, values_of, objects_of, keep, next_byte, got, put, with_value, choose, written, set_variables, set_world, pass, then_do, out_of_block, if_met, again, turns, taken, after_call, run, run_all}
+use Rattle.high_ir.specs.Meaning.{Variables, World, State, Outcome, Goes, Leaves, Returns, Bad, Given, Calls, Labels, only_if, value_of, values_of, objects_of, keep, next_byte, got, put, with_value, choose, written, set_variables, set_world, pass, then_do, out_of_block, if_met, again, turns, after_call, run, run_all}
 use Rattle.high_code.specs.Code.{assigns, assigns_any, assigns_into}
 
 -- a variable has the value that it had in these variables, where the frame is still there
