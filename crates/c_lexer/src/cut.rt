@@ -216,7 +216,7 @@ fn is_prefixed(source: &[u8], at: usize, end: usize) -> bool
     ensures here { IsTrue result ↔ (SpansOne source.now at end prefixes × ((slice_index source.now end ≡ 39) ⊎ (slice_index source.now end ≡ 34))) }
     ensures within { IsTrue result → end < length source.now }
 {
-    is_prefix(source, at, end) && (has(source, end, b'\'') || has(source, end, b'"'))
+    (has(source, end, b'\'') || has(source, end, b'"')) && is_prefix(source, at, end)
 }
 
 /// The word, the pragma operator or the prefix with its quote that stands there.

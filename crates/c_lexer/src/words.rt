@@ -1,5 +1,5 @@
 // Keywords and punctuators (C11 6.4.1, 6.4.6).
-ghost use Rattle.std.specs.Prelude.{◌≡◌, ℕ, List, [], ◌∷◌, Some, IfSome};
+ghost use Rattle.std.specs.Prelude.{◌≡◌, ℕ, List, [], ◌∷◌, Some, IfSome, IsTrue};
 ghost use Rattle.c_lexer.specs.Forms.{first_size, punctuators};
 ghost use Rattle.c_lexer.specs.Kinds.{sign_kind, word_kind};
 
@@ -117,10 +117,23 @@ const SIGNS: [(&[u8], TokenKind); 43] = [
     (b",", TokenKind::Comma),
 ];
 
+/// Whether this is a letter with which no keyword begins.
+fn begins_no_keyword(b: u8) -> bool
+    ensures { IsTrue result → (rest : List ℕ) → word_kind (b ∷ rest) ≡ Kind.Token TokenKind.Name }
+{
+    matches!(
+        b,
+        b'h' | b'j' | b'k' | b'm' | b'n' | b'o' | b'p' | b'q' | b'x' | b'y' | b'z'
+    )
+}
+
 /// What a whole word is.
 pub fn word_kind(bytes: &[u8]) -> Kind
     ensures { result ≡ word_kind bytes.now }
 {
+    if !bytes.is_empty() && begins_no_keyword(bytes[0]) {
+        return Kind::Token(TokenKind::Name);
+    }
     if let Some(kind) = find_kind(bytes, &KEYWORDS) {
         return Kind::Token(kind);
     }
