@@ -160,9 +160,30 @@ pub fn go_on_with(
 }
 
 /// The operand has ended, and the part that it ends goes on or ends with it.
+///
+/// An operand that is the whole expression is spared the locals of [`leave_nested`], which are cleared when it
+/// is entered.
+#[cycle(leaving)]
+fn leave_part(
+    alloc: Global,
+    under: Stack,
+    role: Role,
+    kind: TokenKind,
+    tree: Part,
+) -> Result<State, Refusal>
+    requires { stack_depth under tree.depth ≤ 256 }
+    ensures { (f : Names) → Gives f result (leave (stack_of f under) (role_view role) (Plain kind) (part_of f tree)) }
+{
+    match under {
+        Stack::Base(purpose) => take(alloc, purpose, kind, tree),
+        nested => leave_nested(alloc, nested, role, kind, tree),
+    }
+}
+
+/// An operand has ended that may stand in another expression.
 #[cycle(leaving)]
 #[tactic(auto, using(c_begun::proofs::Deeper::stack_deeper, c_tree::proofs::NamedTrees::place_named))]
-fn leave_part(
+fn leave_nested(
     alloc: Global,
     under: Stack,
     role: Role,

@@ -97,10 +97,11 @@ fn take_tested(alloc: Global, test: Test, kind: TokenKind, tree: Part) -> Result
 
 /// A token ends an initial value.
 #[tactic(auto, using(c_begun::proofs::Deeper::scope_deeper))]
-fn take_value(object: Receiver, kind: TokenKind, tree: Part) -> Result<State, Refusal>
-    requires { head_depth object.head (max object.shape.depth tree.depth + 1) ≤ 256 }
-    ensures { (f : Names) → Gives f result (took (Initialises (head_of f object.head) (f object.name.name.0) (shape_part_of f object.shape) object.name.at) (Plain kind) (part_of f tree)) }
+fn take_value(object: Box<Receiver>, kind: TokenKind, tree: Part) -> Result<State, Refusal>
+    requires { head_depth object.value.head (max object.value.shape.depth tree.depth + 1) ≤ 256 }
+    ensures { (f : Names) → Gives f result (took (Initialises (head_of f object.value.head) (f object.value.name.name.0) (shape_part_of f object.value.shape) object.value.name.at) (Plain kind) (part_of f tree)) }
 {
+    let object = Box::into_inner(object);
     let whole = valued_object(object.name, object.shape, tree);
     end_object(kind, object.head, whole)
 }
@@ -145,10 +146,11 @@ fn take_guarding(
     under: Box<Frames>,
     kind: TokenKind,
     tree: Part,
-    head: StartedFor,
+    head: Box<StartedFor>,
 ) -> Result<State, Refusal>
-    ensures { (f : Names) → Gives f result (took (Guards head.bound (start_part_of f head.start) head.at (frames_of f under.value)) (Plain kind) (part_of f tree)) }
+    ensures { (f : Names) → Gives f result (took (Guards head.value.bound (start_part_of f head.value.start) head.value.at (frames_of f under.value)) (Plain kind) (part_of f tree)) }
 {
+    let head = Box::into_inner(head);
     match kind {
         TokenKind::Semicolon => Ok(State::LoopSteps(head.tested(some(tree)), under)),
         _ => {
@@ -165,10 +167,11 @@ fn take_repeated(
     under: Box<Frames>,
     kind: TokenKind,
     tree: Part,
-    head: TestedFor,
+    head: Box<TestedFor>,
 ) -> Result<State, Refusal>
-    ensures { (f : Names) → Gives f result (took (Repeats head.bound (start_part_of f head.start) (maybe_of f head.test) head.at (frames_of f under.value)) (Plain kind) (part_of f tree)) }
+    ensures { (f : Names) → Gives f result (took (Repeats head.value.bound (start_part_of f head.value.start) (maybe_of f head.value.test) head.value.at (frames_of f under.value)) (Plain kind) (part_of f tree)) }
 {
+    let head = Box::into_inner(head);
     match kind {
         TokenKind::RightParen => begin_for_body(alloc, head.headed(some(tree)), under),
         _ => {
@@ -180,9 +183,10 @@ fn take_repeated(
 }
 
 /// A token ends a size.
-fn take_size(declarator: Declarator, kind: TokenKind, tree: Part) -> Result<State, Refusal>
-    ensures { (f : Names) → Gives f result (took (Sizes (declarator_of f declarator)) (Plain kind) (part_of f tree)) }
+fn take_size(declarator: Box<Declarator>, kind: TokenKind, tree: Part) -> Result<State, Refusal>
+    ensures { (f : Names) → Gives f result (took (Sizes (declarator_of f declarator.value)) (Plain kind) (part_of f tree)) }
 {
+    let declarator = Box::into_inner(declarator);
     match kind {
         TokenKind::RightBracket => {
             let shape = ShapePart {
@@ -201,14 +205,15 @@ fn take_size(declarator: Declarator, kind: TokenKind, tree: Part) -> Result<Stat
 /// A token ends a value of a list.
 #[tactic(auto, using(c_begun::proofs::Deeper::scope_deeper))]
 fn take_listed(
-    object: Receiver,
+    object: Box<Receiver>,
     kind: TokenKind,
     tree: Part,
     front: Parts,
 ) -> Result<State, Refusal>
-    requires { head_depth object.head (max object.shape.depth (max front.depth tree.depth) + 1) ≤ 256 }
-    ensures { (f : Names) → Gives f result (took (Lists (head_of f object.head) (f object.name.name.0) (shape_part_of f object.shape) (parts_of f front) object.name.at) (Plain kind) (part_of f tree)) }
+    requires { head_depth object.value.head (max object.value.shape.depth (max front.depth tree.depth) + 1) ≤ 256 }
+    ensures { (f : Names) → Gives f result (took (Lists (head_of f object.value.head) (f object.value.name.name.0) (shape_part_of f object.value.shape) (parts_of f front) object.value.name.at) (Plain kind) (part_of f tree)) }
 {
+    let object = Box::into_inner(object);
     match kind {
         TokenKind::Comma => match and_expr(front, tree) {
             Ok(front) => Ok(State::Listed(object, front)),
@@ -270,13 +275,11 @@ pub fn take(alloc: Global, purpose: Purpose, kind: TokenKind, tree: Part) -> Res
         Purpose::Returns { at, under } => take_returned(under, kind, tree, at),
         Purpose::Tests(test) => take_tested(alloc, test, kind, tree),
         Purpose::Starts(head, under) => take_started(under, kind, tree, head),
-        Purpose::Guards(head, under) => take_guarding(under, kind, tree, Box::into_inner(head)),
-        Purpose::Repeats(head, under) => {
-            take_repeated(alloc, under, kind, tree, Box::into_inner(head))
-        }
-        Purpose::Sizes(declarator) => take_size(Box::into_inner(declarator), kind, tree),
-        Purpose::Initialises(object) => take_value(Box::into_inner(object), kind, tree),
-        Purpose::Lists(object, front) => take_listed(Box::into_inner(object), kind, tree, front),
+        Purpose::Guards(head, under) => take_guarding(under, kind, tree, head),
+        Purpose::Repeats(head, under) => take_repeated(alloc, under, kind, tree, head),
+        Purpose::Sizes(declarator) => take_size(declarator, kind, tree),
+        Purpose::Initialises(object) => take_value(object, kind, tree),
+        Purpose::Lists(object, front) => take_listed(object, kind, tree, front),
         Purpose::Labels { front, braces, at } => take_label(braces, kind, tree, front, at),
     }
 }
