@@ -99,8 +99,29 @@ fn branch_behind(
 }
 
 /// A statement has ended, and what it ends goes on or ends with it.
-#[tactic(auto, using(c_begun::proofs::Deeper::frames_deeper))]
+///
+/// Most statements stand between braces: they are spared the locals of [`settle_nested`], which are cleared
+/// when it is entered.
+#[cycle(settling)]
 pub fn settle_statement(
+    alloc: Global,
+    under: Frames,
+    word: Word,
+    statement: StatementPart,
+) -> Result<State, Refusal>
+    requires { frames_depth under statement.depth ≤ 256 }
+    ensures { (f : Names) → Gives f result (settle (frames_of f under) (lexeme_of f word.lexeme) word.at (statement_part_of f statement)) }
+{
+    match under {
+        Frames::InItems(front, braces) => go_on_among_with(alloc, braces, word, front, statement),
+        nested => settle_nested(alloc, nested, word, statement),
+    }
+}
+
+/// A statement has ended that may stand in another one.
+#[cycle(settling)]
+#[tactic(auto, using(c_begun::proofs::Deeper::frames_deeper))]
+fn settle_nested(
     alloc: Global,
     under: Frames,
     word: Word,

@@ -8,10 +8,10 @@ use Rattle.c_grammar.specs.Machine.{settle}
 use Rattle.c_lexeme.specs.Lexemes.{lexeme_of}
 use Rattle.c_begun.specs.View.{Gives, frames_of, part_of, statement_part_of}
 use Rattle.c_statement.proofs.Others.{not_said, then_gives}
-use Rattle.c_statement.proofs.settle.+settle_statement.Goals as goal
+use Rattle.c_statement.proofs.settle.+settling.Goals as goal
 
-pub returns-in-Ok : goal.returns-in-Ok
-returns-in-Ok t c f =
+pub settle_nested-returns-in-Ok : goal.settle_nested-returns-in-Ok
+settle_nested-returns-in-Ok t c f =
     let arm = c.in-InThen in
     let word = c.args.word in
     let said = lexeme_of f word.lexeme in
@@ -23,8 +23,8 @@ returns-in-Ok t c f =
     let ended : Leads rest (If test statement arm.at) = subst (Leads rest) (ap (named_statement f) c.in-Ok.ensures.ok.0) inner in
     subst (λ u. Leads (frames_of f u) statement) (sym arm.is) (then_gives f c.settle_statement.result said word.at test arm.at rest statement (not_said _ _ (c.says.ensures f) c.if-says.false) ended)
 
-pub returns-then-says : goal.returns-then-says
-returns-then-says t c f =
+pub settle_nested-returns-then-says : goal.settle_nested-returns-then-says
+settle_nested-returns-then-says t c f =
     let arm = c.in-InThen in
     let word = c.args.word in
     let statement = statement_part_of f c.args.statement in
