@@ -25,7 +25,26 @@ use c_statement::settle::settle_statement;
 use std::alloc::Global;
 
 /// One step of the machine: what a token does there.
+///
+/// Most tokens come where an operand is wanted or stands, or a statement has ended: they are spared the locals of
+/// [`step_elsewhere`], which are cleared when it is entered.
 pub fn step(alloc: Global, state: State, word: Word) -> Result<State, Refusal>
+    requires { state_depth state ≤ 256 }
+    ensures { (f : Names) → Gives f result (step (state_of f state) (word_said f word)) }
+{
+    match state {
+        State::Wants(under) => begin_operand(alloc, word, under),
+        State::Has(tree, under) => behind_operand(alloc, word.lexeme, tree, under),
+        State::Stands(statement, under) => {
+            settle_statement(alloc, Box::into_inner(under), word, statement)
+        }
+        other => step_elsewhere(alloc, other, word),
+    }
+}
+
+/// One step from any state.
+#[inline(never)]
+fn step_elsewhere(alloc: Global, state: State, word: Word) -> Result<State, Refusal>
     requires { state_depth state ≤ 256 }
     ensures { (f : Names) → Gives f result (step (state_of f state) (word_said f word)) }
 {
