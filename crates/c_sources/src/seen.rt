@@ -32,6 +32,22 @@ pub enum Seen {
     Memory,
 }
 
+fn seen_of_lex(fault: LexFault) -> Seen {
+    match fault {
+        LexFault::Bad { at } => Seen::Bad(at),
+        LexFault::Outside { at } => Seen::Outside(at),
+        LexFault::Memory => Seen::Memory,
+    }
+}
+
+fn seen_of_parse(fault: ParseFault, at: u32) -> Seen {
+    match fault {
+        ParseFault::Deep { .. } => Seen::Deep,
+        ParseFault::Syntax { .. } => Seen::Syntax(at),
+        ParseFault::Memory => Seen::Memory,
+    }
+}
+
 fn seen_of_types(fault: TypeFault) -> Seen {
     match fault {
         TypeFault::Limit { which, found } => Seen::Limit(which, found),
@@ -40,39 +56,43 @@ fn seen_of_types(fault: TypeFault) -> Seen {
     }
 }
 
-fn seen_of_flow(fault: FlowFault) -> Seen {
+fn seen_of_calls(fault: &CallFault, at: u32) -> Seen {
     match fault {
-        FlowFault::BadPragma { at } => Seen::Pragma(at),
-        FlowFault::UnknownName { at } => Seen::Name(at),
-        FlowFault::NoBound { at } => Seen::NoBound(at),
-        FlowFault::TooOften { most } => Seen::Limit(Bound::Most, most),
+        CallFault::Recursion { .. } => Seen::Recursion(at),
+        CallFault::Memory => Seen::Memory,
+    }
+}
+
+fn seen_of_flow(fault: &FlowFault) -> Seen {
+    match fault {
+        FlowFault::BadPragma { at } => Seen::Pragma(*at),
+        FlowFault::UnknownName { at } => Seen::Name(*at),
+        FlowFault::NoBound { at } => Seen::NoBound(*at),
+        FlowFault::TooOften { most } => Seen::Limit(Bound::Most, *most),
         FlowFault::Memory => Seen::Memory,
     }
 }
 
-fn seen_of_refusal(refusal: Refusal) -> Seen {
+fn seen_of_refusal(refusal: &Refusal) -> Seen {
     match refusal {
         Refusal::TooLong => Seen::TooLong,
-        Refusal::Lex(LexFault::Bad { at }) => Seen::Bad(at),
-        Refusal::Lex(LexFault::Outside { at }) => Seen::Outside(at),
-        Refusal::Lex(LexFault::Memory) => Seen::Memory,
-        Refusal::Parse {
-            fault: ParseFault::Deep { .. },
-            ..
-        } => Seen::Deep,
-        Refusal::Parse { at, .. } => Seen::Syntax(at),
-        Refusal::Types(fault) => seen_of_types(fault),
-        Refusal::Calls {
-            fault: CallFault::Recursion { .. },
-            at,
-        } => Seen::Recursion(at),
-        Refusal::Calls { .. } => Seen::Memory,
+        Refusal::Lex(fault) => seen_of_lex(*fault),
+        Refusal::Parse { fault, at } => seen_of_parse(*fault, *at),
+        Refusal::Types(fault) => seen_of_types(*fault),
+        Refusal::Calls { fault, at } => seen_of_calls(fault, *at),
         Refusal::Flow(fault) => seen_of_flow(fault),
         Refusal::Memory => Seen::Memory,
     }
 }
 
-fn seen_of_run(run: SourceRun, output: &mut Vec<u8>) -> Result<Seen, Fail> {
+fn seen_of_unkept(what: Unkept) -> Seen {
+    match what {
+        Unkept::Loop { at } => Seen::BrokenLoop(at),
+        Unkept::Restriction { at } => Seen::BrokenRestriction(at),
+    }
+}
+
+fn seen_of_run(run: &SourceRun, output: &mut Vec<u8>) -> Result<Seen, Fail> {
     match run {
         SourceRun::Done {
             output: bytes,
@@ -80,15 +100,10 @@ fn seen_of_run(run: SourceRun, output: &mut Vec<u8>) -> Result<Seen, Fail> {
             ..
         } => {
             output.extend_from_slice(bytes.as_slice())?;
-            Ok(Seen::Value(value))
+            Ok(Seen::Value(*value))
         }
-        SourceRun::Undefined { rule, at } => Ok(Seen::Undefined(rule, at)),
-        SourceRun::Broken {
-            what: Unkept::Loop { at },
-        } => Ok(Seen::BrokenLoop(at)),
-        SourceRun::Broken {
-            what: Unkept::Restriction { at },
-        } => Ok(Seen::BrokenRestriction(at)),
+        SourceRun::Undefined { rule, at } => Ok(Seen::Undefined(*rule, *at)),
+        SourceRun::Broken { what } => Ok(seen_of_unkept(*what)),
     }
 }
 
@@ -101,12 +116,12 @@ pub fn outcome(
 ) -> Result<Seen, Fail> {
     let source = match read_source(alloc, source.as_bytes()) {
         Ok(source) => source,
-        Err(refusal) => return Ok(seen_of_refusal(refusal)),
+        Err(refusal) => return Ok(seen_of_refusal(&refusal)),
     };
     let run = eval(alloc, &source.typed.program, &source.facts, input);
     source.let_go();
     match run {
-        Ok(run) => seen_of_run(run, output),
+        Ok(run) => seen_of_run(&run, output),
         Err(_) => Ok(Seen::Memory),
     }
 }
