@@ -1,0 +1,13 @@
+pub mod TextLemmas
+pub mod SectionLemmas
+pub mod PassLemmas
+pub mod OrderLemmas
+pub mod PlainLemmas
+pub mod Stages
+pub mod HeadParts
+pub mod ClaimParts
+pub mod CertParts
+pub mod WholeParts
+pub mod ReportLemmas
+pub mod StepLemmas
+pub mod SmallLemmas

@@ -1,0 +1,9 @@
+pub mod Texts
+pub mod Sections
+pub mod Faults
+pub mod Reading
+pub mod Orders
+pub mod Listed
+pub mod Parts
+pub mod Endings
+pub mod Plain
