@@ -1,0 +1,13 @@
+pub mod Fine
+pub mod Gone
+pub mod ListLemmas
+pub mod WordsBack
+pub mod RowLemmas
+pub mod FactRows
+pub mod HeadRows
+pub mod ChainLemmas
+pub mod SectionRows
+pub mod GoneLemmas
+pub mod TextLaws
+pub mod SameLemmas
+pub mod OneReport
