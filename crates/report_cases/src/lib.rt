@@ -10,6 +10,8 @@
 #[cfg(test)]
 mod lines;
 #[cfg(test)]
+mod reading;
+#[cfg(test)]
 mod tests;
 #[cfg(test)]
 mod words;
