@@ -170,9 +170,7 @@ def wrong_words(called, given):
     twice = [it for it in given if given.count(it) > 1]
     if twice:
         return f"wcc: Two of the files are named `{printable(twice[0])}`. Each needs a name of its own:"
-    if any("\udc80" <= byte <= "\udcff" for it in given for byte in it):
-        return "wcc: The name of a file is no UTF-8:"
-    return f"wcc: `{command}` isn't built yet. It will be called so:"
+    return "wcc: The name of a file is no UTF-8:"
 
 
 def usage(table, words):

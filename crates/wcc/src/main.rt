@@ -1,42 +1,27 @@
 //! WCC, a compiler for hard real-time programs that reports a proved bound on their time.
 //!
 //! `wcc` is the top call: words, a store of files and a sink in, a status out. It compiles plain
-//! sources, one function `main` that calls `putchar` with constants and returns one, and runs
-//! images. `main` gives it the real files and the standard output, and ends with the status's code.
+//! sources, one function `main` that calls `putchar` with constants and returns one; it runs images,
+//! evaluates sources, checks reports on images, and sums reports up. `main` gives it the real files
+//! and the standard output, and ends with the status's code.
 //!
 //! Proved, for every store and every sink: at each status what became of the files and of the
 //! printed line, and why; at Done that a written image does what its source does on any input, in
-//! exactly the printed cycles, and that what is printed of a run is what the machine does.
+//! exactly the printed cycles, that cycles which are said to hold bound each finished run that keeps
+//! the report's claims, on every input, and that what is printed of a run is what the machine does.
 #![tactic(auto)]
 
-mod artifact;
-mod compile;
-mod contents;
-mod evaluate;
-mod files;
-mod finish;
-mod gather;
-mod laws;
-mod lines;
-mod make;
-mod plain;
-mod printing;
-mod run;
-mod status_lines;
-mod straight;
 #[cfg(test)]
 mod tests;
 mod top;
-mod words;
 
-pub use laws::{exit_is_done, plain_source_is_done};
-use status_lines::report_status;
 use std::alloc::Global;
 use std::process::ExitCode;
 use std::rt::Env;
 use std::{env, io};
 pub use top::wcc;
 use wcc_base::{FsStore, Memory, OutSink, Status};
+use wcc_commands::report_status;
 
 // The words behind the program's name. A word that isn't UTF-8 makes the command line faulty, as
 // the lack of words does.

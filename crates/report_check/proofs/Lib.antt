@@ -1,0 +1,3 @@
+pub mod CheckLemmas
+mod SystemLemmas
+pub mod ExclusionLemmas

@@ -1,0 +1,15 @@
+pub mod StraightRuns
+pub mod FileRuns
+pub mod TextRuns
+pub mod Steps
+pub mod CompileRuns
+pub mod RunRuns
+pub mod Numbers
+pub mod Pieces
+pub mod Calls
+pub mod Sources
+pub mod Endings
+pub mod Succeeding
+pub mod Leaving
+pub mod Evaluations
+pub mod CheckRuns

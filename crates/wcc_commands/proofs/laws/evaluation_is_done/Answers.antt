@@ -1,0 +1,10 @@
+use Rattle.std.proofs.Common.{refl}
+use Rattle.wcc_commands.proofs.Evaluations.{one_made, refusal_ends, run_ends}
+use Rattle.wcc_commands.proofs.laws.evaluation_is_done.Goals as goal
+
+pub returns : goal.returns
+returns c = record {
+  run = λ names old run e. run_ends names run old.files old refl e;
+  refusal = λ names old s e. refusal_ends names s old.files old refl e;
+  made = one_made;
+}

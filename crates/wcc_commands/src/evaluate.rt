@@ -1,0 +1,244 @@
+// The command `eval SOURCE INPUT OUTPUT`.
+ghost use Rattle.std.specs.Prelude.{◌≡◌, ◌⊎◌, ℕ, List, [], ◌∷◌, length, IfOk, MatchResult};
+ghost use Rattle.c_front.specs.Fronts.{IsSource};
+ghost use Rattle.c_typed.specs.View.{program_of};
+ghost use Rattle.wcc_commands.specs.Lines.{all_shown, value_line, undefined_line};
+ghost use Rattle.wcc_base.specs.declared.status.Status.TheVariants as status;
+ghost use Rattle.wcc_commands.specs.Asked.{eval_names};
+ghost use Rattle.wcc_commands.specs.Ends.{IsEnd, IsRefusal};
+ghost use Rattle.wcc_commands.specs.Evaluating.{lex_status, parse_status, rule_number, type_status, call_status, flow_status, refusal_status, broken_outputs, run_outputs, RefusesProgram, IsRun, MakesRun};
+ghost use Rattle.wcc_commands.specs.Outputs.{outputs_of};
+
+use crate::lines::{Part, broken_line, undefined_line, value_line};
+use crate::make::{Made, Output};
+use crate::printing::text_of;
+use crate::words::EvalNames;
+use c_facts::{CallFault, FlowFault};
+use c_front::{Refusal, Source, read_source};
+use c_lexer::LexFault;
+use c_meaning::eval;
+use c_parser::ParseFault;
+use c_rules::{Rule, TypeFault};
+use c_semantics::{SourceRun, Unkept};
+use std::alloc::Global;
+use wcc_base::{Bound, Items, Memory, Status};
+
+fn refused(code: u8, detail: u8, at: u32) -> Status
+    ensures { result ≡ status.Refused code detail at }
+{
+    Status::Refused { code, detail, at }
+}
+
+fn lex_status(fault: LexFault) -> Status
+    ensures { result ≡ lex_status fault }
+{
+    match fault {
+        LexFault::Bad { at } => refused(1, 0, at),
+        LexFault::Outside { at } => refused(2, 0, at),
+        LexFault::Memory => Status::Memory,
+    }
+}
+
+fn parse_status(fault: ParseFault, at: u32) -> Status
+    ensures { result ≡ parse_status fault at }
+{
+    match fault {
+        ParseFault::Syntax { .. } => refused(3, 0, at),
+        ParseFault::Deep { .. } => Status::Limit {
+            which: Bound::Depth,
+            found: 257,
+        },
+        ParseFault::Memory => Status::Memory,
+    }
+}
+
+fn rule_number(rule: Rule) -> u8
+    ensures { result ≡ rule_number rule }
+{
+    match rule {
+        Rule::Specifiers => 1,
+        Rule::Undeclared => 2,
+        Rule::Redeclared => 3,
+        Rule::Constant => 4,
+        Rule::Size => 5,
+        Rule::Array => 6,
+        Rule::Call => 7,
+        Rule::Void => 8,
+        Rule::Assigned => 9,
+        Rule::Label => 10,
+        Rule::Jump => 11,
+        Rule::Return => 12,
+        Rule::Main => 13,
+        Rule::Undefined => 14,
+        Rule::Initial => 15,
+        Rule::Parameter => 16,
+    }
+}
+
+fn type_status(fault: TypeFault) -> Status
+    ensures { result ≡ type_status fault }
+{
+    match fault {
+        TypeFault::Limit { which, found } => Status::Limit { which, found },
+        TypeFault::Rule { rule, at } => refused(4, rule_number(rule), at),
+        TypeFault::Memory => Status::Memory,
+    }
+}
+
+fn call_status(fault: CallFault, at: u32) -> Status
+    ensures { result ≡ call_status fault at }
+{
+    match fault {
+        CallFault::Recursion { .. } => refused(5, 0, at),
+        CallFault::Memory => Status::Memory,
+    }
+}
+
+fn flow_status(fault: FlowFault) -> Status
+    ensures { result ≡ flow_status fault }
+{
+    match fault {
+        FlowFault::BadPragma { at } => refused(6, 0, at),
+        FlowFault::UnknownName { at } => refused(7, 0, at),
+        FlowFault::NoBound { at } => refused(8, 0, at),
+        FlowFault::TooOften { most } => Status::Limit {
+            which: Bound::Most,
+            found: most,
+        },
+        FlowFault::Memory => Status::Memory,
+    }
+}
+
+// The status of a source that is refused.
+fn refusal_status(refusal: Refusal) -> Status
+    ensures { result ≡ refusal_status refusal }
+{
+    match refusal {
+        Refusal::TooLong => Status::Limit {
+            which: Bound::Source,
+            found: 1_048_577,
+        },
+        Refusal::Lex(fault) => lex_status(fault),
+        Refusal::Parse { fault, at } => parse_status(fault, at),
+        Refusal::Types(fault) => type_status(fault),
+        Refusal::Calls { fault, at } => call_status(fault, at),
+        Refusal::Flow(fault) => flow_status(fault),
+        Refusal::Memory => Status::Memory,
+    }
+}
+
+// A run that stopped: nothing is written but its line.
+fn stopped<'a>(alloc: Global, status: Status, line: &[Part]) -> Result<Made<'a>, Memory>
+    ensures { IfOk result (λ m. outputs_of m ≡ record { status = status; files = []; lines = all_shown line.now }) }
+{
+    let lines = text_of(alloc, line)?;
+    Ok(Made {
+        status,
+        files: Vec::new(alloc),
+        lines: Items::new(lines),
+    })
+}
+
+fn broken<'a>(alloc: Global, what: Unkept) -> Result<Made<'a>, Memory>
+    ensures { IfOk result (λ m. outputs_of m ≡ broken_outputs what) }
+{
+    let (kind, at) = match what {
+        Unkept::Loop { at } => (5, at),
+        Unkept::Restriction { at } => (6, at),
+    };
+    let status = Status::Stopped {
+        kind,
+        code: 0,
+        at,
+        cycles: 0,
+    };
+    stopped(alloc, status, &broken_line(at))
+}
+
+fn undefined<'a>(alloc: Global, rule: u8, at: u32) -> Result<Made<'a>, Memory>
+    ensures { IfOk result (λ m. outputs_of m ≡ record { status = status.Stopped 4 rule at 0; files = []; lines = undefined_line rule at }) }
+{
+    let status = Status::Stopped {
+        kind: 4,
+        code: rule,
+        at,
+        cycles: 0,
+    };
+    stopped(alloc, status, &undefined_line(rule, at))
+}
+
+// A run that is done: its output, and the line of its value.
+fn done<'a>(
+    alloc: Global,
+    names: EvalNames<'a>,
+    output: Items<u8>,
+    value: i32,
+) -> Result<Made<'a>, Memory>
+    ensures { IfOk result (λ m. outputs_of m ≡ record { status = status.Done; files = ((eval_names names.entry).output, output) ∷ []; lines = value_line value (length output) }) }
+{
+    let line = value_line(value, output.as_slice().len() as u64);
+    let lines = text_of(alloc, &line)?;
+    let mut files = Vec::new(alloc);
+    files.push(Output {
+        name: names.output,
+        bytes: output,
+    })?;
+    Ok(Made {
+        status: Status::Done,
+        files,
+        lines: Items::new(lines),
+    })
+}
+
+// What a run comes to.
+fn outputs<'a>(alloc: Global, names: EvalNames<'a>, run: SourceRun) -> Result<Made<'a>, Memory>
+    ensures { IfOk result (λ m. outputs_of m ≡ run_outputs (eval_names names.entry) run) }
+{
+    match run {
+        SourceRun::Done { output, value, .. } => done(alloc, names, output, value),
+        SourceRun::Undefined { rule, at } => undefined(alloc, rule, at),
+        SourceRun::Broken { what } => broken(alloc, what),
+    }
+}
+
+// Does on the input what a source says that was read, and lets go of it.
+fn run(alloc: Global, source: Source, input: &[u8]) -> Result<SourceRun, Memory>
+    ensures { IfOk result (λ r. (text : List ℕ) → IsSource text source.typed.program.names.items (program_of source.typed.program) source.facts → IsRun text input.now r) }
+{
+    let run = eval(alloc, &source.typed.program, &source.facts, input);
+    source.let_go();
+    run
+}
+
+// Reads a source, and does on the input what it says.
+fn run_source(alloc: Global, source: &[u8], input: &[u8]) -> Result<SourceRun, Status>
+    ensures { MatchResult result (IsRun source.now input.now)
+        (λ s. (s ≡ status.Memory) ⊎ (IsRefusal s × RefusesProgram source.now s)) }
+{
+    match read_source(alloc, source) {
+        Ok(source) => match run(alloc, source, input) {
+            Ok(run) => Ok(run),
+            Err(_) => Err(Status::Memory),
+        },
+        Err(refusal) => Err(refusal_status(refusal)),
+    }
+}
+
+/// Does on the input what the source says.
+pub fn make_evaluated<'a>(
+    alloc: Global,
+    names: EvalNames<'a>,
+    contents: (Items<u8>, Items<u8>),
+) -> Result<Made<'a>, Status>
+    ensures { MatchResult result (λ m. IsEnd m.status × MakesRun (eval_names names.entry) contents.0 contents.1 (outputs_of m))
+        (λ s. (s ≡ status.Memory) ⊎ (IsRefusal s × RefusesProgram contents.0 s)) }
+{
+    let (source, input) = contents;
+    match run_source(alloc, source.as_slice(), input.as_slice()) {
+        Ok(run) => match outputs(alloc, names, run) {
+            Ok(made) => Ok(made),
+            Err(_) => Err(Status::Memory),
+        },
+        Err(status) => Err(status),
+    }
+}

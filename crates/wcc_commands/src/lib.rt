@@ -1,0 +1,34 @@
+//! The commands: what each does with files, and what it says.
+//!
+//! `perform` reads the words, reads the files that they name, makes of their contents what the command
+//! asks, writes what is made, and prints how it ended. It is the whole of the program but for the
+//! promise that `wcc` draws from it.
+//!
+//! Proved, for every store and every sink: what became of the files and of the printed lines at each
+//! status, and why (`specs/Ends`). What a command refuses and what it makes are two relations over
+//! contents (`specs/Commands`); that some leave one status only are laws.
+#![tactic(auto)]
+
+mod artifact;
+mod check;
+mod compile;
+mod contents;
+mod evaluate;
+mod files;
+mod finish;
+mod gather;
+mod laws;
+mod lines;
+mod make;
+mod performing;
+mod plain;
+mod printing;
+mod report;
+mod run;
+mod status_lines;
+mod straight;
+mod words;
+
+pub use laws::{accepted_is_done, evaluation_is_done, exit_is_done, plain_source_is_done, summary_is_done};
+pub use performing::perform;
+pub use status_lines::report_status;

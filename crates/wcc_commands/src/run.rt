@@ -1,0 +1,141 @@
+// The command `run IMAGE INPUT OUTPUT`.
+ghost use Rattle.std.specs.Prelude.{◌≡◌, ◌⊎◌, IfOk, MatchResult};
+ghost use Rattle.wcc_base.specs.declared.status.Status.TheVariants as status;
+ghost use Rattle.wcc_commands.specs.Asked.{run_names};
+ghost use Rattle.wcc_commands.specs.Ends.{IsEnd, IsRefusal};
+ghost use Rattle.elf_image.specs.Faults.{StopsAs};
+ghost use Rattle.wcc_commands.specs.Running.{Simulates, RefusesImage, MakesOutput, run_status, ran_outputs, fault_number, fault_index};
+ghost use Rattle.wcc_commands.specs.Outputs.{outputs_of};
+
+use crate::lines::run_line;
+use crate::make::{Made, Output};
+use crate::printing::text_of;
+use crate::words::RunNames;
+use elf_image::{ElfFault, read};
+use rv_core::default_costs;
+use rv_sim::{Ending, Machine};
+use std::alloc::Global;
+use wcc_base::{Items, Memory, Status};
+
+const CYCLES_MOST: u64 = 1_000_000_000;
+
+const OUTPUT_MOST: u32 = 16_777_216;
+
+// The code of a refusal of an image.
+const NO_IMAGE: u8 = 10;
+
+/// A machine that has run, and how its run ended.
+#[derive(Drop)]
+pub struct Ran {
+    pub machine: Machine,
+    pub ending: Ending,
+}
+
+// Runs the image that the bytes load to.
+fn simulate(alloc: Global, image: &[u8], input: Vec<u8>) -> Result<Ran, ElfFault>
+    ensures { MatchResult result (λ r. Simulates image.now input.items r.machine r.ending) (StopsAs image.now) }
+{
+    let image = match read(alloc, image) {
+        Ok(image) => image,
+        Err(fault) => return Err(fault),
+    };
+    match Machine::new(alloc, &image, default_costs(), input, OUTPUT_MOST) {
+        Ok(mut machine) => {
+            let ending = machine.run(CYCLES_MOST);
+            Ok(Ran { machine, ending })
+        }
+        Err(_) => Err(ElfFault::Memory),
+    }
+}
+
+// The status of a run.
+fn run_status(ending: Ending, pc: u32, cycles: u64) -> Status
+    ensures { result ≡ run_status ending pc cycles }
+{
+    match ending {
+        Ending::Exit { .. } => Status::Done,
+        Ending::Trap { pc: at, kind } => Status::Stopped {
+            kind: 1,
+            code: kind,
+            at,
+            cycles,
+        },
+        Ending::CycleLimit => Status::Stopped {
+            kind: 2,
+            code: 0,
+            at: pc,
+            cycles,
+        },
+        Ending::OutputFull => Status::Stopped {
+            kind: 3,
+            code: 0,
+            at: pc,
+            cycles,
+        },
+    }
+}
+
+/// The number of a fault of an image, and the index of a segment.
+pub fn fault_of_image(fault: ElfFault) -> (u8, u32)
+    ensures { result ≡ (fault_number fault, fault_index fault) }
+{
+    match fault {
+        ElfFault::NotElf => (1, 0),
+        ElfFault::WrongMachine => (2, 0),
+        ElfFault::BadSegment { index } => (3, index),
+        ElfFault::Memory => (4, 0),
+    }
+}
+
+// The status of a file that is no image.
+fn no_image(fault: ElfFault) -> Status
+    ensures { result ≡ status.Refused 10 (fault_number fault) (fault_index fault) }
+{
+    let (detail, at) = fault_of_image(fault);
+    Status::Refused {
+        code: NO_IMAGE,
+        detail,
+        at,
+    }
+}
+
+// The output, whatever the ending.
+fn outputs<'a>(alloc: Global, names: RunNames<'a>, ran: Ran) -> Result<Made<'a>, Memory>
+    ensures { IfOk result (λ m. outputs_of m ≡ ran_outputs (run_names names.entry) ran.machine ran.ending) }
+{
+    let ending = ran.ending;
+    let pc = ran.machine.pc();
+    let cycles = ran.machine.cycles();
+    let line = run_line(alloc, ending, pc, cycles)?;
+    let lines = text_of(alloc, &line)?;
+    let mut files = Vec::new(alloc);
+    files.push(Output {
+        name: names.output,
+        bytes: Items::new(ran.machine.into_output()),
+    })?;
+    Ok(Made {
+        status: run_status(ending, pc, cycles),
+        files,
+        lines: Items::new(lines),
+    })
+}
+
+/// Runs the image on the input with the default costs.
+pub fn make_run<'a>(
+    alloc: Global,
+    names: RunNames<'a>,
+    contents: (Items<u8>, Items<u8>),
+) -> Result<Made<'a>, Status>
+    ensures { MatchResult result (λ m. IsEnd m.status × MakesOutput (run_names names.entry) contents.0 contents.1 (outputs_of m))
+        (λ s. (s ≡ status.Memory) ⊎ (IsRefusal s × RefusesImage contents.0 s)) }
+{
+    let (image, input) = contents;
+    match simulate(alloc, image.as_slice(), input.into_vec()) {
+        Ok(ran) => match outputs(alloc, names, ran) {
+            Ok(made) => Ok(made),
+            Err(_) => Err(Status::Memory),
+        },
+        Err(ElfFault::Memory) => Err(Status::Memory),
+        Err(fault) => Err(no_image(fault)),
+    }
+}
