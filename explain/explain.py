@@ -15,6 +15,8 @@ COMMANDS = ("compile", "run", "eval", "check", "report")
 PLACED = ("refused", "undefined", "broken")
 ELSEWHERE = ("image-", "report-", "table-")
 FROM_SOURCE = ("compile", "eval")
+# The options of commands, each with the greatest number that it takes, or None where it takes a file's name.
+OPTIONS = {"run": {"--limit": 1 << 62, "--table": None}, "check": {"--table": None}}
 MOST_SOURCE = 1048576
 WIDEST = 100
 
@@ -162,12 +164,46 @@ def number_of(count):
     return "one file" if count == 1 else f"{count} files"
 
 
+def wrong_value(most, value):
+    """What is wrong with the value of an option, or None."""
+    if value is None or value.startswith("-") and value != "-":
+        return "has no value"
+    if most is not None and not (re.fullmatch(r"\+?[0-9]+", value) and int(value[-99:]) <= most):
+        return f"takes a number from 0 to {most}"
+    return None
+
+
+def parted(options, given):
+    """The files that words name by their places, those that options name, and what is wrong with an option, or None."""
+    placed, named, seen = [], [], set()
+    words = iter(given)
+    for word in words:
+        if word == "--":
+            return placed + list(words), named, None
+        if not word.startswith("-") or word == "-":
+            placed.append(word)
+            continue
+        option, behind, value = word.partition("=")
+        if option not in options:
+            return placed, named, f"has no option `{printable(option)}`"
+        value = value if behind else next(words, None)
+        wrong = "stands twice" if option in seen else wrong_value(options[option], value)
+        if wrong:
+            return placed, named, f"can't be called so: {option} {wrong}"
+        seen.add(option)
+        named += [value] if options[option] is None else []
+    return placed, named, None
+
+
 def wrong_words(called, given):
     """Why a command with the words that it has can't be called so."""
-    command, *names = called.split()[1:]
-    if len(given) != len(names):
-        return f"wcc: `{command}` takes {number_of(len(names))} and was given {len(given)}. It is called so:"
-    twice = [it for it in given if given.count(it) > 1]
+    command, *names = called.split(" [")[0].split()[1:]
+    placed, named, wrong = parted(OPTIONS.get(command, {}), given)
+    if wrong:
+        return f"wcc: `{command}` {wrong}. It is called so:"
+    if len(placed) != len(names):
+        return f"wcc: `{command}` takes {number_of(len(names))} and was given {len(placed)}. It is called so:"
+    twice = [it for it in placed + named if (placed + named).count(it) > 1]
     if twice:
         return f"wcc: Two of the files are named `{printable(twice[0])}`. Each needs a name of its own:"
     return "wcc: The name of a file is no UTF-8:"

@@ -11,9 +11,8 @@ use wcc_commands::perform;
 
 /// The program: it does what the words ask, prints how it ended, and says so.
 ///
-/// The words, without the program's name, are `compile SOURCE IMAGE REPORT`, `check IMAGE REPORT`,
-/// `run IMAGE INPUT OUTPUT`, `eval SOURCE INPUT OUTPUT` or `report REPORT`, where no two names are
-/// equal.
+/// The words, without the program's name, are those of a command, as `command_words` reads them;
+/// commands and options that aren't built yet are answered by the usage.
 pub fn wcc<S: Store, O: Sink>(alloc: Global, words: &[String], store: &mut S, out: &mut O) -> Status
     // Whatever the status: which files are whole, partly written or as they were, and what was printed.
     ensures ends { EndsWith (asked_by (map string_bytes words.now)) (S.state store.old) (S.state store.new) (O.state out.old) (O.state out.new) result }

@@ -1,10 +1,10 @@
 -- What a check answers, as the statuses of the command; and what a report that holds leaves open.
-use Rattle.std.proofs.Common.{◌≡◌, ◌⊎◌, ℕ, List, [], ◌∷◌, Option, Some, None, refl, sym, ap, subst, inl, inr}
+use Rattle.std.proofs.Common.{◌≡◌, ◌⊎◌, ℕ, List, [], ◌∷◌, Option, Some, None, refl, sym, ap, subst, inl, inr, ⊎_elim}
 use Rattle.std.specs.Prelude.{IsSomeAnd}
 use Rattle.wcc_base.specs.Outside.{Files, StoreState, bytes_of}
 use Rattle.wcc_base.specs.declared.status.Status.{Status}
 use Rattle.wcc_base.specs.declared.status.Status.TheVariants as status
-use Rattle.rv_core.specs.Table.{default_table}
+use Rattle.rv_core.specs.Table.{Table}
 use Rattle.dual_check.specs.declared.row.Row.{Row}
 use Rattle.dual_check.specs.declared.row.Row.TheVariants.{Missing, Sign, Wide, Move, Value, Flow, Unmet, Greatest, Empty}
 use Rattle.report_reading.specs.declared.fault.ReportFault.{ReportFault}
@@ -14,12 +14,17 @@ use Rattle.report_reading.specs.Reading.{StopsAt as StopsReading}
 use Rattle.report_check.specs.declared.verdict.Cause.{Cause}
 use Rattle.report_check.specs.declared.verdict.Cause.TheVariants.{NoImage, NoReport, BadClaim, NoCode, FailedRow, FailedShare, Memory}
 use Rattle.report_check.specs.Checks.{StopsAt}
+use Rattle.report_check.specs.Checks.{IsAccepted}
 use Rattle.report_check.proofs.ExclusionLemmas.{never_fails, stands}
-use Rattle.wcc_commands.specs.Words.{Check, Report, CheckNames, ReportNames}
+use Rattle.command_words.specs.Requests.{CheckRequest, ReportRequest}
+use Rattle.wcc_commands.specs.Words.{Check, Report}
 use Rattle.wcc_commands.specs.Outputs.{Outputs}
 use Rattle.wcc_commands.specs.Ends.{IsRefusal}
-use Rattle.wcc_commands.specs.Checking.{row_status, no_status, RefusesCheck, CanAccept}
+use Rattle.wcc_commands.specs.Checking.{row_status, no_status, RefusesCheck}
 use Rattle.wcc_commands.specs.Reporting.{report_status, RefusesReport, CanSummarize}
+use Rattle.wcc_commands.specs.Gathering.{Fit, contents_of}
+use Rattle.wcc_commands.specs.Commands.{wanted_of, CanAccept}
+use Rattle.wcc_commands.proofs.Charges.{same_costs, no_table_fault}
 use Rattle.wcc_commands.specs.Promises.{CanOnly, CanEnd}
 
 row_refuses : (row : Row) → IsRefusal (row_status row)
@@ -34,14 +39,14 @@ row_refuses Greatest = tt
 row_refuses Empty = tt
 
 -- each cause is a refusal, but for want of memory
-pub refuses_check : (image report : List ℕ) (cause : Cause) (s : Status) → s ≡ no_status cause → StopsAt default_table image report cause → (s ≡ status.Memory) ⊎ (IsRefusal s × RefusesCheck image report s)
-refuses_check image report (NoImage fault) s e f = inr (subst IsRefusal (sym e) tt, record { cause = NoImage fault; fails = f; status_is = e })
-refuses_check image report (NoReport fault) s e f = inr (subst IsRefusal (sym e) tt, record { cause = NoReport fault; fails = f; status_is = e })
-refuses_check image report (BadClaim index) s e f = inr (subst IsRefusal (sym e) tt, record { cause = BadClaim index; fails = f; status_is = e })
-refuses_check image report (NoCode at) s e f = inr (subst IsRefusal (sym e) tt, record { cause = NoCode at; fails = f; status_is = e })
-refuses_check image report (FailedRow row) s e f = inr (subst IsRefusal (sym e) (row_refuses row), record { cause = FailedRow row; fails = f; status_is = e })
-refuses_check image report (FailedShare at) s e f = inr (subst IsRefusal (sym e) tt, record { cause = FailedShare at; fails = f; status_is = e })
-refuses_check image report Memory s e f = inl e
+pub refuses_check : (costs : Table) (image report : List ℕ) (cause : Cause) (s : Status) → s ≡ no_status cause → StopsAt costs image report cause → (s ≡ status.Memory) ⊎ (IsRefusal s × RefusesCheck costs image report s)
+refuses_check costs image report (NoImage fault) s e f = inr (subst IsRefusal (sym e) tt, record { cause = NoImage fault; fails = f; status_is = e })
+refuses_check costs image report (NoReport fault) s e f = inr (subst IsRefusal (sym e) tt, record { cause = NoReport fault; fails = f; status_is = e })
+refuses_check costs image report (BadClaim index) s e f = inr (subst IsRefusal (sym e) tt, record { cause = BadClaim index; fails = f; status_is = e })
+refuses_check costs image report (NoCode at) s e f = inr (subst IsRefusal (sym e) tt, record { cause = NoCode at; fails = f; status_is = e })
+refuses_check costs image report (FailedRow row) s e f = inr (subst IsRefusal (sym e) (row_refuses row), record { cause = FailedRow row; fails = f; status_is = e })
+refuses_check costs image report (FailedShare at) s e f = inr (subst IsRefusal (sym e) tt, record { cause = FailedShare at; fails = f; status_is = e })
+refuses_check costs image report Memory s e f = inl e
 
 -- and each fault of a report, but for want of memory
 pub refuses_report : (text : List ℕ) (fault : ReportFault) (s : Status) → s ≡ report_status fault → StopsReading text fault → (s ≡ status.Memory) ⊎ (IsRefusal s × RefusesReport text s)
@@ -52,22 +57,24 @@ refuses_report text NoMemory s e f = inl e
 status_of : (made other : Outputs) → made ≡ other → made.status ≡ other.status
 status_of made other e = ap (λ (o : Outputs). o.status) e
 
-accept_only : (names : CheckNames) (image report : List ℕ) → CanAccept image report → CanOnly (Check names) (image ∷ report ∷ []) status.Done
-accept_only names image report c = record {
-  refuses = λ t r. absurd (never_fails default_table image report r.cause c.accepted r.fails);
-  makes = λ made m. status_of made _ m.made_is;
+accept_only : (asked : CheckRequest) (contents : List (List ℕ)) → CanAccept contents → CanOnly (Check asked) contents status.Done
+accept_only asked [] c = absurd c
+accept_only asked (image ∷ []) c = absurd c
+accept_only asked (image ∷ report ∷ tables) c = record {
+  refuses = λ t r. absurd (⊎_elim (λ x. no_table_fault tables c.0 t c.1 x) (λ x. never_fails x.0 image report x.2.cause (subst (λ (k : Table). IsAccepted k image report) (same_costs tables c.0 x.0 c.1 x.1) c.2) x.2.fails) r);
+  makes = λ made m. status_of made _ m.2.made_is;
 }
 
-pub accept_ends : (names : CheckNames) (files : Option Files) (old : StoreState) → old.files ≡ files → IsSomeAnd files (λ fs. CanAccept (bytes_of fs names.image) (bytes_of fs names.report)) → CanEnd (Some (Check names)) old status.Done
-accept_ends names None old e c = absurd c
-accept_ends names (Some fs) old e c = rw e ((c.image_short, (c.report_short, tt)), accept_only names (bytes_of fs names.image) (bytes_of fs names.report) c)
+pub accept_ends : (asked : CheckRequest) (files : Option Files) (old : StoreState) → old.files ≡ files → IsSomeAnd files (λ fs. Fit (wanted_of (Check asked)) fs × CanAccept (contents_of (wanted_of (Check asked)) fs)) → CanEnd (Some (Check asked)) old status.Done
+accept_ends asked None old e c = absurd c
+accept_ends asked (Some fs) old e c = rw e (c.0, accept_only asked (contents_of (wanted_of (Check asked)) fs) c.1)
 
-summary_only : (names : ReportNames) (text : List ℕ) → CanSummarize text → CanOnly (Report names) (text ∷ []) status.Done
-summary_only names text c = record {
+summary_only : (asked : ReportRequest) (text : List ℕ) → CanSummarize text → CanOnly (Report asked) (text ∷ []) status.Done
+summary_only asked text c = record {
   refuses = λ t r. absurd (stands text c.report r.fault c.is_text r.cause);
   makes = λ made m. status_of made _ m.made_is;
 }
 
-pub summary_ends : (names : ReportNames) (files : Option Files) (old : StoreState) → old.files ≡ files → IsSomeAnd files (λ fs. CanSummarize (bytes_of fs names.report)) → CanEnd (Some (Report names)) old status.Done
-summary_ends names None old e c = absurd c
-summary_ends names (Some fs) old e c = rw e ((c.short, tt), summary_only names (bytes_of fs names.report) c)
+pub summary_ends : (asked : ReportRequest) (files : Option Files) (old : StoreState) → old.files ≡ files → IsSomeAnd files (λ fs. CanSummarize (bytes_of fs asked.report)) → CanEnd (Some (Report asked)) old status.Done
+summary_ends asked None old e c = absurd c
+summary_ends asked (Some fs) old e c = rw e ((c.short, tt), summary_only asked (bytes_of fs asked.report) c)

@@ -11,7 +11,7 @@ use Rattle.wcc_commands.specs.StatusLines.{line_of}
 use Rattle.wcc_commands.specs.Commands.{wanted_of}
 use Rattle.wcc_commands.specs.Gathering.{NotGathered, OnlyRead}
 use Rattle.wcc_commands.specs.Finishing.{all_put, Partly, status_after_fault, Reported, Finished}
-use Rattle.wcc_commands.specs.Ends.{RefusesIn, MakesIn, IsRefusal, IsEnd, Ending, read_fault, too_long, refused, whole, in_part, memory_in_part, memory, EndsWith, Fails}
+use Rattle.wcc_commands.specs.Ends.{RefusesIn, MakesIn, IsRefusal, IsEnd, Ending, read_fault, too_long, refused, whole, in_part, memory_in_part, memory, IsIdle, EndsWith, Fails}
 use Rattle.wcc_commands.specs.Promises.{HasMade, IsDone, HasFailed, Answers}
 
 made_ends : (c : Command) (old mid new : StoreState) (out out' : SinkState) (made : Outputs) (result : Status) → OnlyRead old mid → IsEnd made.status → MakesIn c old.files made → Finished made mid new out out' result → EndsWith (Some c) old new out out' result
@@ -74,11 +74,33 @@ ending_answers c old new out out' s lines (in_part made m p w) =
 ending_answers c old new out out' s lines (memory_in_part made m p) = (λ q. tt, λ f. tt)
 ending_answers c old new out out' s lines (memory e) = (λ q. tt, λ f. tt)
 
+-- no command was done
+idle_answers : (old new : StoreState) (out out' : SinkState) (s result : Status) → IsIdle s → new ≡ old → Reported s (line_of s) out out' result → Answers None old new out out' result
+idle_answers old new out out' status.Usage result i e r =
+    let Told : Status → Type 0 = λ t. Answers None old new out out' t in
+    ⊎_elim (λ a. subst Told (sym a.0) (refl, e)) (⊎_elim (λ a. subst Told (sym a.0) tt) (λ a. subst Told (sym a.0) (refl, e))) r
+idle_answers old new out out' status.Memory result i e r =
+    let Told : Status → Type 0 = λ t. Answers None old new out out' t in
+    ⊎_elim (λ a. subst Told (sym a.0) tt) (⊎_elim (λ a. subst Told (sym a.0) tt) (λ a. subst Told (sym a.0) tt)) r
+idle_answers old new out out' s result i e r = absurd i
+
+idle_ends : (out out' : SinkState) (s result : Status) → IsIdle s → Reported s (line_of s) out out' result → (result ≡ status.Usage) ⊎ (result ≡ status.Memory)
+idle_ends out out' status.Usage result i r = ⊎_elim (λ a. inl a.0) (⊎_elim (λ a. inr a.0) (λ a. inl a.0)) r
+idle_ends out out' status.Memory result i r = ⊎_elim (λ a. inr a.0) (⊎_elim (λ a. inr a.0) (λ a. inr a.0)) r
+idle_ends out out' s result i r = absurd i
+
+-- the words ask for no command
+pub no_command : (asked : Option Command) (old : StoreState) (out out' : SinkState) (result : Status) → asked ≡ None → Reported status.Usage (line_of status.Usage) out out' result → EndsWith asked old old out out' result
+no_command asked old out out' result none r = subst (λ (k : Option Command). EndsWith k old old out out' result) (sym none) (status.Usage, tt, refl, r)
+
+-- memory ran out in reading the words
+pub unread_words : (asked : Option Command) (old : StoreState) (out out' : SinkState) (result : Status) → Reported status.Memory (line_of status.Memory) out out' result → EndsWith asked old old out out' result
+unread_words None old out out' result r = (status.Memory, tt, refl, r)
+unread_words (Some c) old out out' result r = (status.Memory, line_of status.Memory, memory refl, r)
+
 -- each ending is a row of the table of answers
 pub answers_of : (asked : Option Command) (old new : StoreState) (out out' : SinkState) (result : Status) → EndsWith asked old new out out' result → Answers asked old new out out' result
-answers_of None old new out out' result x =
-    let Told : Status → Type 0 = λ t. Answers None old new out out' t in
-    ⊎_elim (λ a. subst Told (sym a.0) (refl, x.0)) (⊎_elim (λ a. subst Told (sym a.0) tt) (λ a. subst Told (sym a.0) (refl, x.0))) x.1
+answers_of None old new out out' result x = idle_answers old new out out' x.0 result x.1 x.2 x.3
 answers_of (Some c) old new out out' result x =
     let Told : Status → Type 0 = λ t. Answers (Some c) old new out out' t in
     let k = ending_answers c old new out out' x.0 x.1 x.2 in
@@ -88,5 +110,5 @@ pub done_of : (asked : Option Command) (old new : StoreState) (out out' : SinkSt
 done_of asked old new out out' result x e = subst (λ t. Answers asked old new out out' t) e (answers_of asked old new out out' result x)
 
 pub no_command_of : (asked : Option Command) (old new : StoreState) (out out' : SinkState) (result : Status) → EndsWith asked old new out out' result → asked ≡ None → (result ≡ status.Usage) ⊎ (result ≡ status.Memory)
-no_command_of None old new out out' result x e = ⊎_elim (λ a. inl a.0) (⊎_elim (λ a. inr a.0) (λ a. inl a.0)) x.1
+no_command_of None old new out out' result x e = idle_ends out out' x.0 result x.1 x.3
 no_command_of (Some c) old new out out' result x e = absurd cc

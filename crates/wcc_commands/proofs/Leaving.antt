@@ -1,34 +1,47 @@
 -- What a plain source and an exiting image leave open.
-use Rattle.std.proofs.Common.{◌≡◌, ℕ, List, [], ◌∷◌, Option, Some, None, ap, ⊎_elim, arith}
+use Rattle.std.proofs.Common.{◌≡◌, ℕ, List, [], ◌∷◌, Option, Some, None, ◌∙◌, ap, sym, subst, ⊎_elim, arith}
 use Rattle.std.specs.Prelude.{IsSomeAnd}
 use Rattle.wcc_base.specs.Outside.{Files, StoreState, bytes_of}
+use Rattle.wcc_base.specs.declared.status.Status.{Status}
 use Rattle.wcc_base.specs.declared.status.Status.TheVariants as status
 use Rattle.elf_image.proofs.FaultLemmas.{is_image}
-use Rattle.wcc_commands.specs.Words.{Compile, Run, CompileNames, RunNames}
+use Rattle.rv_core.specs.Table.{Table}
+use Rattle.command_words.specs.Requests.{CompileRequest, RunRequest}
+use Rattle.wcc_commands.specs.Words.{Compile, Run}
 use Rattle.wcc_commands.specs.Plain.{IsPlainSource}
 use Rattle.wcc_commands.specs.Outputs.{Outputs}
-use Rattle.wcc_commands.specs.Running.{CanExit}
+use Rattle.wcc_commands.specs.Gathering.{Fit, contents_of}
+use Rattle.wcc_commands.proofs.Charges.{same_costs, no_table_fault}
+use Rattle.wcc_commands.specs.Commands.{wanted_of, job_of, CanExitRun}
+use Rattle.wcc_commands.specs.Running.{CanExit, MakesOutput}
 use Rattle.wcc_commands.specs.Promises.{CanOnly, CanEnd}
 
 status_of : (made other : Outputs) → made ≡ other → made.status ≡ other.status
 status_of made other e = ap (λ (o : Outputs). o.status) e
 
-plain_only : (names : CompileNames) (source : List ℕ) → IsPlainSource source → CanOnly (Compile names) (source ∷ []) status.Done
-plain_only names source p = record {
+plain_only : (asked : CompileRequest) (source : List ℕ) → IsPlainSource source → CanOnly (Compile asked) (source ∷ []) status.Done
+plain_only asked source p = record {
   refuses = λ t r. absurd (r.cause p.0 p.1 p.2);
   makes = λ made m. status_of made _ m.made_is;
 }
 
-pub plain_ends : (names : CompileNames) (files : Option Files) (old : StoreState) → old.files ≡ files → IsSomeAnd files (λ fs. IsPlainSource (bytes_of fs names.source)) → CanEnd (Some (Compile names)) old status.Done
-plain_ends names None old e p = absurd p
-plain_ends names (Some fs) old e p = rw e ((omega (arith, p.2.short), tt), plain_only names (bytes_of fs names.source) p)
+pub plain_ends : (asked : CompileRequest) (files : Option Files) (old : StoreState) → old.files ≡ files → IsSomeAnd files (λ fs. IsPlainSource (bytes_of fs asked.source)) → CanEnd (Some (Compile asked)) old status.Done
+plain_ends asked None old e p = absurd p
+plain_ends asked (Some fs) old e p = rw e ((omega (arith, p.2.short), tt), plain_only asked (bytes_of fs asked.source) p)
 
-exit_only : (names : RunNames) (image input : List ℕ) → CanExit image input → CanOnly (Run names) (image ∷ input ∷ []) status.Done
-exit_only names image input c = record {
-  refuses = λ t r. absurd (is_image image r.fault c.loadable r.cause);
-  makes = λ made m. ⊎_elim (λ x. status_of made _ x.made_is) (λ x. absurd (x.no_exit c.finish c.exits)) m.made_by;
+exit_made : (asked : RunRequest) (image input : List ℕ) (c d : Table) (made : Outputs) → c ≡ d → CanExit (job_of asked c image input) → MakesOutput asked.output (job_of asked d image input) made → made.status ≡ status.Done
+exit_made asked image input c d made e can m =
+    let k : CanExit (job_of asked d image input) = subst (λ (t : Table). CanExit (job_of asked t image input)) e can in
+    ⊎_elim (λ x. status_of made _ x.made_is) (λ x. absurd (x.no_exit k.finish k.exits)) m.made_by
+
+exit_only : (asked : RunRequest) (contents : List (List ℕ)) → CanExitRun asked contents → CanOnly (Run asked) contents status.Done
+exit_only asked [] c = absurd c
+exit_only asked (image ∷ []) c = absurd c
+exit_only asked (image ∷ input ∷ tables) c = record {
+  refuses = λ t r. absurd (⊎_elim (λ x. no_table_fault tables c.0 t c.1 x) (λ x. is_image image x.2.fault c.2.loadable x.2.cause) r);
+  makes = λ made m. exit_made asked image input c.0 m.0 made (same_costs tables c.0 m.0 c.1 m.1) c.2 m.2;
 }
 
-pub exit_ends : (names : RunNames) (files : Option Files) (old : StoreState) → old.files ≡ files → IsSomeAnd files (λ fs. CanExit (bytes_of fs names.image) (bytes_of fs names.input)) → CanEnd (Some (Run names)) old status.Done
-exit_ends names None old e c = absurd c
-exit_ends names (Some fs) old e c = rw e ((c.image_short, (c.input_short, tt)), exit_only names (bytes_of fs names.image) (bytes_of fs names.input) c)
+pub exit_ends : (asked : RunRequest) (files : Option Files) (old : StoreState) → old.files ≡ files → IsSomeAnd files (λ fs. Fit (wanted_of (Run asked)) fs × CanExitRun asked (contents_of (wanted_of (Run asked)) fs)) → CanEnd (Some (Run asked)) old status.Done
+exit_ends asked None old e c = absurd c
+exit_ends asked (Some fs) old e c = rw e (c.0, exit_only asked (contents_of (wanted_of (Run asked)) fs) c.1)

@@ -4,6 +4,7 @@ pub mod TextRuns
 pub mod Steps
 pub mod CompileRuns
 pub mod RunRuns
+pub mod Charges
 pub mod Numbers
 pub mod Pieces
 pub mod Calls

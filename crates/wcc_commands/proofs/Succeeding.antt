@@ -9,8 +9,9 @@ use Rattle.wcc_base.specs.declared.status.Status.TheVariants as status
 use Rattle.wcc_commands.specs.Words.{Command}
 use Rattle.wcc_commands.specs.Gathering.{Wants, contents_of, Fit, Overlong, Gathered}
 use Rattle.wcc_commands.specs.Commands.{wanted_of}
+use Rattle.wcc_commands.specs.StatusLines.{line_of}
 use Rattle.wcc_commands.specs.Finishing.{Reported}
-use Rattle.wcc_commands.specs.Ends.{Ending, read_fault, too_long, refused, whole, in_part, memory_in_part, memory, EndsWith}
+use Rattle.wcc_commands.specs.Ends.{Ending, read_fault, too_long, refused, whole, in_part, memory_in_part, memory, IsIdle, EndsWith}
 use Rattle.wcc_commands.specs.Promises.{CanOnly, CanEnd, NoFault}
 
 -- what told files had when they were read
@@ -49,6 +50,11 @@ by_ending c old new out out' result s wanted lines (in_part made m p' w) q p f =
 by_ending c old new out out' result s wanted lines (memory_in_part made m p') q p f = memory_reported wanted lines out out' result q
 by_ending c old new out out' result s wanted lines (memory e) q p f = memory_reported wanted lines out out' result q
 
+idle_succeeds : (out out' : SinkState) (s result wanted : Status) → IsIdle s → wanted ≡ status.Usage → (Rose out.faults out'.faults → ⊥) → Reported s (line_of s) out out' result → Succeeds wanted result
+idle_succeeds out out' status.Usage result wanted i p f r = end_reported wanted status.Usage _ out out' result (sym p) f r
+idle_succeeds out out' status.Memory result wanted i p f r = memory_reported wanted _ out out' result r
+idle_succeeds out out' s result wanted i p f r = absurd i
+
 pub succeeds_of : (asked : Option Command) (old new : StoreState) (out out' : SinkState) (result wanted : Status) → EndsWith asked old new out out' result → CanEnd asked old wanted → NoFault old new out out' → Succeeds wanted result
-succeeds_of None old new out out' result wanted x p f = end_reported wanted status.Usage _ out out' result (sym p) f.puts x.1
+succeeds_of None old new out out' result wanted x p f = idle_succeeds out out' x.0 result wanted x.1 p f.puts x.3
 succeeds_of (Some c) old new out out' result wanted x p f = by_ending c old new out out' result x.0 wanted x.1 x.2 x.3 p f

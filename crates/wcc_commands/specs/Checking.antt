@@ -1,16 +1,14 @@
 -- What `check` makes of an image and a report: the line of a bound that holds, or what fails first.
-use Rattle.std.specs.Prelude.{◌≡◌, ℕ, List, [], length, ◌≤◌}
-use Rattle.wcc_base.specs.Limits.{greatest_of}
-use Rattle.wcc_base.specs.declared.limits.Bound.TheVariants as bound
+use Rattle.std.specs.Prelude.{◌≡◌, ℕ, List, []}
 use Rattle.wcc_base.specs.declared.status.Status.{Status}
 use Rattle.wcc_base.specs.declared.status.Status.TheVariants as status
-use Rattle.rv_core.specs.Table.{default_table}
+use Rattle.rv_core.specs.Table.{Table}
 use Rattle.dual_check.specs.declared.row.Row.{Row}
 use Rattle.dual_check.specs.declared.row.Row.TheVariants.{Missing, Sign, Wide, Move, Value, Flow, Unmet, Greatest, Empty}
 use Rattle.report_check.specs.declared.verdict.Checked.{Checked}
 use Rattle.report_check.specs.declared.verdict.Cause.{Cause}
 use Rattle.report_check.specs.declared.verdict.Cause.TheVariants.{NoImage, NoReport, BadClaim, NoCode, FailedRow, FailedShare, Memory}
-use Rattle.report_check.specs.Checks.{IsAccepted, IsChecked, Fails}
+use Rattle.report_check.specs.Checks.{IsChecked, Fails}
 use Rattle.wcc_commands.specs.Lines.{yes_line}
 use Rattle.wcc_commands.specs.Outputs.{Outputs}
 use Rattle.wcc_commands.specs.Running.{fault_number, fault_index}
@@ -38,24 +36,18 @@ no_status (FailedRow row) = row_status row
 no_status (FailedShare at) = status.No 14 0 at
 no_status Memory = status.Memory
 
--- with the default costs this fails first
-pub record RefusesCheck (image report : List ℕ) (s : Status) : Type 0 where
+-- with these costs this fails first
+pub record RefusesCheck (costs : Table) (image report : List ℕ) (s : Status) : Type 0 where
   pub cause : Cause
-  pub fails : Fails default_table image report cause
+  pub fails : Fails costs image report cause
   pub status_is : s ≡ no_status cause
 
 -- no file, and the line of the bound
 abbrev pub yes_outputs : Checked → Outputs
 yes_outputs c = record { status = status.Done; files = []; lines = yes_line c.cycles c.greatest }
 
--- with the default costs the report holds, and its cycles bound each finished run that keeps its claims, on any input
-pub record MakesYes (image report : List ℕ) (made : Outputs) : Type 0 where
+-- with these costs the report holds, and its cycles bound each finished run that keeps its claims, on any input
+pub record MakesYes (costs : Table) (image report : List ℕ) (made : Outputs) : Type 0 where
   pub checked : Checked
-  pub is_checked : IsChecked default_table image report checked
+  pub is_checked : IsChecked costs image report checked
   pub made_is : made ≡ yes_outputs checked
-
--- both files are within their limits, and with the default costs the report holds of the image
-pub record CanAccept (image report : List ℕ) : Type 0 where
-  pub image_short : length image ≤ greatest_of bound.Image
-  pub report_short : length report ≤ greatest_of bound.Report
-  pub accepted : IsAccepted default_table image report

@@ -2,37 +2,55 @@
 use Rattle.std.specs.Prelude.{ℕ, List, [], ◌∷◌}
 use Rattle.wcc_base.specs.declared.limits.Bound.TheVariants as bound
 use Rattle.wcc_base.specs.declared.status.Status.{Status}
+use Rattle.rv_core.specs.Table.{Table}
+use Rattle.command_words.specs.Requests.{RunRequest, limit_of}
+use Rattle.report_check.specs.Checks.{IsAccepted}
 use Rattle.wcc_commands.specs.Words.{Command, Compile, Check, Run, Eval, Report}
 use Rattle.wcc_commands.specs.Gathering.{Wants}
 use Rattle.wcc_commands.specs.Outputs.{Outputs}
+use Rattle.wcc_commands.specs.Tables.{wanted_table, AreCosts, RefusesWith}
 use Rattle.wcc_commands.specs.Compiling.{RefusesSource, MakesImage}
 use Rattle.wcc_commands.specs.Checking.{RefusesCheck, MakesYes}
-use Rattle.wcc_commands.specs.Running.{RefusesImage, MakesOutput}
+use Rattle.wcc_commands.specs.Running.{Job, RefusesImage, MakesOutput, CanExit}
 use Rattle.wcc_commands.specs.Evaluating.{RefusesProgram, MakesRun}
 use Rattle.wcc_commands.specs.Reporting.{RefusesReport, MakesSummary}
 
 -- the files that are read, in order, each with its limit
 abbrev pub wanted_of : Command → Wants
-wanted_of (Compile names) = (names.source, bound.Source) ∷ []
-wanted_of (Check names) = (names.image, bound.Image) ∷ (names.report, bound.Report) ∷ []
-wanted_of (Run names) = (names.image, bound.Image) ∷ (names.input, bound.Input) ∷ []
-wanted_of (Eval names) = (names.source, bound.Source) ∷ (names.input, bound.Input) ∷ []
-wanted_of (Report names) = (names.report, bound.Report) ∷ []
+wanted_of (Compile asked) = (asked.source, bound.Source) ∷ []
+wanted_of (Check asked) = (asked.image, bound.Image) ∷ (asked.report, bound.Report) ∷ wanted_table asked.table
+wanted_of (Run asked) = (asked.image, bound.Image) ∷ (asked.input, bound.Input) ∷ wanted_table asked.table
+wanted_of (Eval asked) = (asked.source, bound.Source) ∷ (asked.input, bound.Input) ∷ []
+wanted_of (Report asked) = (asked.report, bound.Report) ∷ []
+
+-- what `run` is asked of these contents, with these costs
+abbrev pub job_of : RunRequest → Table → List ℕ → List ℕ → Job
+job_of asked costs image input = record { image = image; input = input; costs = costs; cycles = limit_of asked }
+
+-- the table isn't refused, and with its costs the report holds of the image
+abbrev pub CanAccept : List (List ℕ) → Type 0
+CanAccept (image ∷ report ∷ tables) = (costs : Table) × AreCosts tables costs × IsAccepted costs image report
+CanAccept contents = ⊥
+
+-- the table isn't refused, and with its costs the image exits within the limits
+abbrev pub CanExitRun : RunRequest → List (List ℕ) → Type 0
+CanExitRun asked (image ∷ input ∷ tables) = (costs : Table) × AreCosts tables costs × CanExit (job_of asked costs image input)
+CanExitRun asked contents = ⊥
 
 -- these contents are refused with this status
 abbrev pub Refuses : Command → List (List ℕ) → Status → Type 0
-Refuses (Compile names) (source ∷ []) s = RefusesSource source s
-Refuses (Check names) (image ∷ report ∷ []) s = RefusesCheck image report s
-Refuses (Run names) (image ∷ input ∷ []) s = RefusesImage image s
-Refuses (Eval names) (source ∷ input ∷ []) s = RefusesProgram source s
-Refuses (Report names) (report ∷ []) s = RefusesReport report s
+Refuses (Compile asked) (source ∷ []) s = RefusesSource source s
+Refuses (Check asked) (image ∷ report ∷ tables) s = RefusesWith tables (λ costs. RefusesCheck costs image report s) s
+Refuses (Run asked) (image ∷ input ∷ tables) s = RefusesWith tables (λ costs. RefusesImage image s) s
+Refuses (Eval asked) (source ∷ input ∷ []) s = RefusesProgram source s
+Refuses (Report asked) (report ∷ []) s = RefusesReport report s
 Refuses command contents s = ⊥
 
 -- of these contents this is made
 abbrev pub Makes : Command → List (List ℕ) → Outputs → Type 0
-Makes (Compile names) (source ∷ []) made = MakesImage names source made
-Makes (Check names) (image ∷ report ∷ []) made = MakesYes image report made
-Makes (Run names) (image ∷ input ∷ []) made = MakesOutput names image input made
-Makes (Eval names) (source ∷ input ∷ []) made = MakesRun names source input made
-Makes (Report names) (report ∷ []) made = MakesSummary report made
+Makes (Compile asked) (source ∷ []) made = MakesImage asked source made
+Makes (Check asked) (image ∷ report ∷ tables) made = (costs : Table) × AreCosts tables costs × MakesYes costs image report made
+Makes (Run asked) (image ∷ input ∷ tables) made = (costs : Table) × AreCosts tables costs × MakesOutput asked.output (job_of asked costs image input) made
+Makes (Eval asked) (source ∷ input ∷ []) made = MakesRun asked source input made
+Makes (Report asked) (report ∷ []) made = MakesSummary report made
 Makes command contents made = ⊥

@@ -7,7 +7,7 @@ use Rattle.rv_core.specs.Runs.{setup}
 use Rattle.rv_core.specs.Exits.{Exits, finish}
 use Rattle.rv_core.specs.Table.{default_table}
 use Rattle.elf_image.specs.Text.{text_of}
-use Rattle.wcc_commands.specs.Words.{CompileNames}
+use Rattle.command_words.specs.Requests.{CompileRequest}
 use Rattle.wcc_commands.specs.Plain.{IsPlain, IsNotPlain}
 use Rattle.wcc_commands.specs.Lines.{cycles_line}
 use Rattle.wcc_commands.specs.Outputs.{Outputs}
@@ -31,16 +31,16 @@ pub record RefusesSource (source : List ℕ) (s : Status) : Type 0 where
   pub status_is : s ≡ status.Form
 
 -- the image, then the report, which holds the printed line
-abbrev pub compiled_outputs : CompileNames → List ℕ → ℕ → Outputs
-compiled_outputs names text cycles = record {
+abbrev pub compiled_outputs : CompileRequest → List ℕ → ℕ → Outputs
+compiled_outputs asked text cycles = record {
   status = status.Done;
-  files = (names.image, text) ∷ (names.report, cycles_line cycles) ∷ [];
+  files = (asked.image, text) ∷ (asked.report, cycles_line cycles) ∷ [];
   lines = cycles_line cycles;
 }
 
 -- the image does what the source does, in the cycles of the line
-pub record MakesImage (names : CompileNames) (source : List ℕ) (made : Outputs) : Type 0 where
+pub record MakesImage (asked : CompileRequest) (source : List ℕ) (made : Outputs) : Type 0 where
   pub text : List ℕ
   pub cycles : ℕ
   pub compiled : Compiled source text cycles
-  pub made_is : made ≡ compiled_outputs names text cycles
+  pub made_is : made ≡ compiled_outputs asked text cycles

@@ -48,9 +48,15 @@ pub data Ending (c : Command) (old new : StoreState) : Status → List ℕ → T
   memory_in_part : (made : Outputs) → MakesIn c old.files made → Partly made.files old.files new.files → Ending c old new status.Memory (line_of status.Memory)
   memory : new.files ≡ old.files → Ending c old new status.Memory (line_of status.Memory)
 
--- how the call ends: the words ask nothing, and the store is as it was; or the command ended so; and its lines were printed
+-- how a call ends that does no command: the words ask for none, or memory ran out in reading them
+abbrev pub IsIdle : Status → Type 0
+IsIdle status.Usage = Unit {0}
+IsIdle status.Memory = Unit {0}
+IsIdle s = ⊥
+
+-- how the call ends: no command was done, and the store is as it was; or the command ended so; and its lines were printed
 abbrev pub EndsWith : Option Command → StoreState → StoreState → SinkState → SinkState → Status → Type 0
-EndsWith None old new out out' result = (new ≡ old) × Reported status.Usage (line_of status.Usage) out out' result
+EndsWith None old new out out' result = (s : Status) × IsIdle s × (new ≡ old) × Reported s (line_of s) out out' result
 EndsWith (Some c) old new out out' result = (s : Status) × (lines : List ℕ) × Ending c old new s lines × Reported s lines out out' result
 
 -- why nothing is made: the files weren't read, or memory ran out, or they are refused

@@ -26,7 +26,7 @@ use Rattle.c_semantics.specs.Runs.{meaning}
 use Rattle.c_front.specs.declared.refusal.Refusal.{Refusal}
 use Rattle.c_front.specs.declared.refusal.Refusal.TheVariants.{TooLong, Lex, Parse, Types, Calls, Flow, Memory}
 use Rattle.c_front.specs.Fronts.{IsSource, RefusesSource}
-use Rattle.wcc_commands.specs.Words.{EvalNames}
+use Rattle.command_words.specs.Requests.{EvalRequest}
 use Rattle.wcc_commands.specs.Lines.{value_line, undefined_line, broken_line}
 use Rattle.wcc_commands.specs.Outputs.{Outputs}
 
@@ -98,14 +98,14 @@ abbrev pub broken_outputs : Unkept → Outputs
 broken_outputs (unkept.Loop at) = record { status = status.Stopped 5 0 at 0; files = []; lines = broken_line at }
 broken_outputs (unkept.Restriction at) = record { status = status.Stopped 6 0 at 0; files = []; lines = broken_line at }
 
-abbrev pub run_outputs : EvalNames → SourceRun → Outputs
-run_outputs names (Done output value counts) = record {
+abbrev pub run_outputs : EvalRequest → SourceRun → Outputs
+run_outputs asked (Done output value counts) = record {
   status = status.Done;
-  files = (names.output, output) ∷ [];
+  files = (asked.output, output) ∷ [];
   lines = value_line value (length output);
 }
-run_outputs names (Undefined rule at) = record { status = status.Stopped 4 rule at 0; files = []; lines = undefined_line rule at }
-run_outputs names (Broken what) = broken_outputs what
+run_outputs asked (Undefined rule at) = record { status = status.Stopped 4 rule at 0; files = []; lines = undefined_line rule at }
+run_outputs asked (Broken what) = broken_outputs what
 
 -- what the program of the source, under its facts, does on the input
 pub record IsRun (source input : List ℕ) (run : SourceRun) : Type 0 where
@@ -115,10 +115,10 @@ pub record IsRun (source input : List ℕ) (run : SourceRun) : Type 0 where
   pub is_source : IsSource source spelled program facts
   pub run_is : run ≡ meaning program spelled facts input
 
-pub record MakesRun (names : EvalNames) (source input : List ℕ) (made : Outputs) : Type 0 where
+pub record MakesRun (asked : EvalRequest) (source input : List ℕ) (made : Outputs) : Type 0 where
   pub run : SourceRun
   pub is_run : IsRun source input run
-  pub made_is : made ≡ run_outputs names run
+  pub made_is : made ≡ run_outputs asked run
 
 -- both files are within their limits, and the source does this on the input
 pub record Evaluates (source input : List ℕ) (run : SourceRun) : Type 0 where

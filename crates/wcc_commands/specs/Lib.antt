@@ -9,6 +9,7 @@ pub mod Evaluating
 pub mod Reporting
 pub mod Checking
 pub mod Gathering
+pub mod Tables
 pub mod Commands
 pub mod Finishing
 pub mod Ends

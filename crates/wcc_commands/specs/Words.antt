@@ -1,79 +1,30 @@
--- What the words of a command line ask.
-use Rattle.std.specs.Prelude.{ℕ, List, [], ◌∷◌, Option, Some, None, ◌||◌, codes, if◌then◌else◌}
-use Rattle.std.specs.Option.{option_map}
-use Rattle.std.specs.Str.{bytes_eq}
+-- What the words of a command line ask of this program: what `command_words` reads in them, as far as it is built.
+use Rattle.std.specs.Prelude.{◌||◌, ℕ, Bool, List, Option, Some, None, is_some, if◌then◌else◌, option_and_then}
+use Rattle.command_words.specs.Requests.{Request, CompileRequest, CheckRequest, RunRequest, EvalRequest, ReportRequest}
+use Rattle.command_words.specs.Requests.{Compile as AsksCompile, Check as AsksCheck, Run as AsksRun, Eval as AsksEval, Report as AsksReport}
+use Rattle.command_words.specs.Asked.{asked_by as request_by}
 
--- the files of `compile SOURCE IMAGE REPORT`
-pub record CompileNames : Type 0 where
-  pub source : List ℕ
-  pub image : List ℕ
-  pub report : List ℕ
-
--- the files of `check IMAGE REPORT`
-pub record CheckNames : Type 0 where
-  pub image : List ℕ
-  pub report : List ℕ
-
--- the files of `run IMAGE INPUT OUTPUT`
-pub record RunNames : Type 0 where
-  pub image : List ℕ
-  pub input : List ℕ
-  pub output : List ℕ
-
--- the files of `eval SOURCE INPUT OUTPUT`
-pub record EvalNames : Type 0 where
-  pub source : List ℕ
-  pub input : List ℕ
-  pub output : List ℕ
-
--- the file of `report REPORT`
-pub record ReportNames : Type 0 where
-  pub report : List ℕ
-
+-- a command that is built
 pub data Command : Type 0 where
-  Compile : (names : CompileNames) → Command
-  Check : (names : CheckNames) → Command
-  Run : (names : RunNames) → Command
-  Eval : (names : EvalNames) → Command
-  Report : (names : ReportNames) → Command
+  Compile : (asked : CompileRequest) → Command
+  Check : (asked : CheckRequest) → Command
+  Run : (asked : RunRequest) → Command
+  Eval : (asked : EvalRequest) → Command
+  Report : (asked : ReportRequest) → Command
 
-abbrev pub compile_command : List ℕ × List ℕ × List ℕ → Command
-compile_command n = Compile (record { source = n.0; image = n.1; report = n.2 })
+-- an option of `compile` is given, of which none is built
+abbrev pub has_options : CompileRequest → Bool
+has_options r = is_some r.spm || (is_some r.unroll || (is_some r.inline || (is_some r.table || r.derive)))
 
-abbrev pub check_command : List ℕ × List ℕ → Command
-check_command n = Check (record { image = n.0; report = n.1 })
-
-abbrev pub run_command : List ℕ × List ℕ × List ℕ → Command
-run_command n = Run (record { image = n.0; input = n.1; output = n.2 })
-
-abbrev pub eval_command : List ℕ × List ℕ × List ℕ → Command
-eval_command n = Eval (record { source = n.0; input = n.1; output = n.2 })
-
-abbrev pub report_command : List ℕ → Command
-report_command n = Report (record { report = n })
-
--- a name
-abbrev pub one_of : List (List ℕ) → Option (List ℕ)
-one_of (a ∷ []) = Some a
-one_of names = None
-
--- two names that differ
-abbrev pub two_of : List (List ℕ) → Option (List ℕ × List ℕ)
-two_of (a ∷ b ∷ []) = if bytes_eq a b then None else Some (a, b)
-two_of names = None
-
--- three names, of which no two are equal
-abbrev pub three_of : List (List ℕ) → Option (List ℕ × List ℕ × List ℕ)
-three_of (a ∷ b ∷ c ∷ []) = if bytes_eq a b || (bytes_eq a c || bytes_eq b c) then None else Some (a, b, c)
-three_of names = None
+-- the command of a request; where it isn't built, or an option that is given, there is none
+abbrev pub built : Request → Option Command
+built (AsksCompile r) = if has_options r then None else Some (Compile r)
+built (AsksCheck r) = Some (Check r)
+built (AsksRun r) = Some (Run r)
+built (AsksEval r) = if r.derive then None else Some (Eval r)
+built (AsksReport r) = Some (Report r)
+built request = None
 
 -- what the words ask, if they ask for a command
 abbrev pub asked_by : List (List ℕ) → Option Command
-asked_by [] = None
-asked_by (w ∷ names) =
-    if bytes_eq w (codes "compile") then option_map compile_command (three_of names)
-    else (if bytes_eq w (codes "check") then option_map check_command (two_of names)
-    else (if bytes_eq w (codes "run") then option_map run_command (three_of names)
-    else (if bytes_eq w (codes "eval") then option_map eval_command (three_of names)
-    else (if bytes_eq w (codes "report") then option_map report_command (one_of names)
-    else None))))
+asked_by words = option_and_then built (request_by words)

@@ -1,8 +1,11 @@
-// The command `check IMAGE REPORT`.
-ghost use Rattle.std.specs.Prelude.{◌≡◌, ◌⊎◌, IfOk, MatchResult};
+// The command `check IMAGE REPORT [--table FILE]`.
+ghost use Rattle.std.specs.Prelude.{◌≡◌, ◌⊎◌, length, IfOk, MatchResult};
 ghost use Rattle.wcc_base.specs.declared.status.Status.TheVariants as status;
-ghost use Rattle.rv_core.specs.Table.{default_table};
+ghost use Rattle.rv_core.specs.Table.{table_of};
+ghost use Rattle.command_words.specs.Held.{check_request};
 ghost use Rattle.report_check.specs.Checks.{IsChecked};
+ghost use Rattle.wcc_commands.specs.Words.{Check};
+ghost use Rattle.wcc_commands.specs.Commands.{wanted_of, Refuses, Makes};
 ghost use Rattle.wcc_commands.specs.Ends.{IsEnd, IsRefusal};
 ghost use Rattle.wcc_commands.specs.Checking.{row_status, no_status, yes_outputs, RefusesCheck, MakesYes};
 ghost use Rattle.wcc_commands.specs.Outputs.{outputs_of};
@@ -12,9 +15,11 @@ use crate::make::Made;
 use crate::printing::text_of;
 use crate::report::fault_of;
 use crate::run::fault_of_image;
+use crate::tables::charged;
+use command_words::CheckRequest;
 use dual_check::Row;
 use report_check::{Cause, Checked, check_report};
-use rv_core::default_costs;
+use rv_core::Costs;
 use std::alloc::Global;
 use wcc_base::{Items, Memory, Status};
 
@@ -75,30 +80,49 @@ fn outputs<'a>(alloc: Global, checked: Checked) -> Result<Made<'a>, Memory>
     })
 }
 
-// Checks the report of the image with the default costs.
+// Checks the report of the image with these costs.
 #[tactic(auto, using(crate::proofs::CheckRuns::refuses_check))]
-fn check_files(alloc: Global, image: &[u8], report: &[u8]) -> Result<Checked, Status>
-    ensures { MatchResult result (IsChecked default_table image.now report.now)
-        (λ s. (s ≡ status.Memory) ⊎ (IsRefusal s × RefusesCheck image.now report.now s)) }
+fn check_files(alloc: Global, costs: &Costs, image: &[u8], report: &[u8]) -> Result<Checked, Status>
+    ensures { MatchResult result (IsChecked (table_of costs.now) image.now report.now)
+        (λ s. (s ≡ status.Memory) ⊎ (IsRefusal s × RefusesCheck (table_of costs.now) image.now report.now s)) }
 {
-    let costs = default_costs();
-    match check_report(alloc, &costs, image, report) {
+    match check_report(alloc, costs, image, report) {
         Ok(checked) => Ok(checked),
         Err(cause) => Err(no_status(cause)),
     }
 }
 
-/// Says whether the report holds of the image with the default costs.
-pub fn make_yes<'a>(alloc: Global, contents: (Items<u8>, Items<u8>)) -> Result<Made<'a>, Status>
-    ensures { MatchResult result (λ m. IsEnd m.status × MakesYes contents.0 contents.1 (outputs_of m))
-        (λ s. (s ≡ status.Memory) ⊎ (IsRefusal s × RefusesCheck contents.0 contents.1 s)) }
+// Says whether the report holds of the image with these costs.
+fn yes_with<'a>(
+    alloc: Global,
+    image: Items<u8>,
+    report: Items<u8>,
+    costs: Costs,
+) -> Result<Made<'a>, Status>
+    ensures { MatchResult result (λ m. IsEnd m.status × MakesYes (table_of costs) image report (outputs_of m))
+        (λ s. (s ≡ status.Memory) ⊎ (IsRefusal s × RefusesCheck (table_of costs) image report s)) }
 {
-    let (image, report) = contents;
-    match check_files(alloc, image.as_slice(), report.as_slice()) {
+    match check_files(alloc, &costs, image.as_slice(), report.as_slice()) {
         Ok(checked) => match outputs(alloc, checked) {
             Ok(made) => Ok(made),
             Err(_) => Err(Status::Memory),
         },
+        Err(status) => Err(status),
+    }
+}
+
+/// Says whether the report holds of the image, with the costs of the table where one is named.
+pub fn make_yes<'a>(
+    alloc: Global,
+    asked: CheckRequest,
+    contents: Vec<Items<u8>>,
+) -> Result<Made<'a>, Status>
+    requires { length contents.items ≡ length (wanted_of (Check (check_request asked))) }
+    ensures { MatchResult result (λ m. IsEnd m.status × Makes (Check (check_request asked.entry)) contents.items (outputs_of m))
+        (λ s. (s ≡ status.Memory) ⊎ (IsRefusal s × Refuses (Check (check_request asked.entry)) contents.items s)) }
+{
+    match charged(alloc, asked.table, contents) {
+        Ok((image, report, costs)) => yes_with(alloc, image, report, costs),
         Err(status) => Err(status),
     }
 }

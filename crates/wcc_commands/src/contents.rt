@@ -21,3 +21,14 @@ pub fn two(contents: Vec<Items<u8>>) -> (Items<u8>, Items<u8>)
     let second = contents.pop().unwrap();
     (one(contents), second)
 }
+
+/// All three files' contents.
+pub fn three(contents: Vec<Items<u8>>) -> (Items<u8>, Items<u8>, Items<u8>)
+    requires { length contents.items ≡ 3 }
+    ensures { contents.items ≡ result.0 ∷ result.1 ∷ result.2 ∷ [] }
+{
+    let mut contents = contents;
+    let third = contents.pop().unwrap();
+    let (first, second) = two(contents);
+    (first, second, third)
+}

@@ -4,7 +4,7 @@ ghost use Rattle.c_front.specs.Fronts.{IsSource};
 ghost use Rattle.c_typed.specs.View.{program_of};
 ghost use Rattle.wcc_commands.specs.Lines.{all_shown, value_line, undefined_line};
 ghost use Rattle.wcc_base.specs.declared.status.Status.TheVariants as status;
-ghost use Rattle.wcc_commands.specs.Asked.{eval_names};
+ghost use Rattle.command_words.specs.Held.{eval_request};
 ghost use Rattle.wcc_commands.specs.Ends.{IsEnd, IsRefusal};
 ghost use Rattle.wcc_commands.specs.Evaluating.{lex_status, parse_status, rule_number, type_status, call_status, flow_status, refusal_status, broken_outputs, run_outputs, RefusesProgram, IsRun, MakesRun};
 ghost use Rattle.wcc_commands.specs.Outputs.{outputs_of};
@@ -12,7 +12,6 @@ ghost use Rattle.wcc_commands.specs.Outputs.{outputs_of};
 use crate::lines::{Part, broken_line, undefined_line, value_line};
 use crate::make::{Made, Output};
 use crate::printing::text_of;
-use crate::words::EvalNames;
 use c_facts::{CallFault, FlowFault};
 use c_front::{Refusal, Source, read_source};
 use c_lexer::LexFault;
@@ -20,6 +19,7 @@ use c_meaning::eval;
 use c_parser::ParseFault;
 use c_rules::{Rule, TypeFault};
 use c_semantics::{SourceRun, Unkept};
+use command_words::EvalRequest;
 use std::alloc::Global;
 use wcc_base::{Bound, Items, Memory, Status};
 
@@ -170,17 +170,17 @@ fn undefined<'a>(alloc: Global, rule: u8, at: u32) -> Result<Made<'a>, Memory>
 // A run that is done: its output, and the line of its value.
 fn done<'a>(
     alloc: Global,
-    names: EvalNames<'a>,
+    asked: EvalRequest<'a>,
     output: Items<u8>,
     value: i32,
 ) -> Result<Made<'a>, Memory>
-    ensures { IfOk result (λ m. outputs_of m ≡ record { status = status.Done; files = ((eval_names names.entry).output, output) ∷ []; lines = value_line value (length output) }) }
+    ensures { IfOk result (λ m. outputs_of m ≡ record { status = status.Done; files = ((eval_request asked.entry).output, output) ∷ []; lines = value_line value (length output) }) }
 {
     let line = value_line(value, output.as_slice().len() as u64);
     let lines = text_of(alloc, &line)?;
     let mut files = Vec::new(alloc);
     files.push(Output {
-        name: names.output,
+        name: asked.output,
         bytes: output,
     })?;
     Ok(Made {
@@ -191,11 +191,11 @@ fn done<'a>(
 }
 
 // What a run comes to.
-fn outputs<'a>(alloc: Global, names: EvalNames<'a>, run: SourceRun) -> Result<Made<'a>, Memory>
-    ensures { IfOk result (λ m. outputs_of m ≡ run_outputs (eval_names names.entry) run) }
+fn outputs<'a>(alloc: Global, asked: EvalRequest<'a>, run: SourceRun) -> Result<Made<'a>, Memory>
+    ensures { IfOk result (λ m. outputs_of m ≡ run_outputs (eval_request asked.entry) run) }
 {
     match run {
-        SourceRun::Done { output, value, .. } => done(alloc, names, output, value),
+        SourceRun::Done { output, value, .. } => done(alloc, asked, output, value),
         SourceRun::Undefined { rule, at } => undefined(alloc, rule, at),
         SourceRun::Broken { what } => broken(alloc, what),
     }
@@ -227,15 +227,15 @@ fn run_source(alloc: Global, source: &[u8], input: &[u8]) -> Result<SourceRun, S
 /// Does on the input what the source says.
 pub fn make_evaluated<'a>(
     alloc: Global,
-    names: EvalNames<'a>,
+    asked: EvalRequest<'a>,
     contents: (Items<u8>, Items<u8>),
 ) -> Result<Made<'a>, Status>
-    ensures { MatchResult result (λ m. IsEnd m.status × MakesRun (eval_names names.entry) contents.0 contents.1 (outputs_of m))
+    ensures { MatchResult result (λ m. IsEnd m.status × MakesRun (eval_request asked.entry) contents.0 contents.1 (outputs_of m))
         (λ s. (s ≡ status.Memory) ⊎ (IsRefusal s × RefusesProgram contents.0 s)) }
 {
     let (source, input) = contents;
     match run_source(alloc, source.as_slice(), input.as_slice()) {
-        Ok(run) => match outputs(alloc, names, run) {
+        Ok(run) => match outputs(alloc, asked, run) {
             Ok(made) => Ok(made),
             Err(_) => Err(Status::Memory),
         },

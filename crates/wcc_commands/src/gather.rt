@@ -1,7 +1,9 @@
 // The first step of a command: it reads the files that the words name.
-ghost use Rattle.std.specs.Prelude.{◌≡◌, ◌≤◌, [], ◌∷◌, map, length, IfOk, IfSome, MatchResult};
+ghost use Rattle.std.specs.Prelude.{◌≡◌, ◌≤◌, ◌+◌, [], ◌∷◌, map, length, IfOk, IfSome, MatchResult};
 ghost use Rattle.wcc_base.specs.Outside.{bytes_of};
 ghost use Rattle.wcc_base.specs.Limits.{greatest_of};
+ghost use Rattle.command_words.specs.Held.{table_name};
+ghost use Rattle.wcc_commands.specs.Tables.{wanted_table};
 ghost use Rattle.wcc_commands.specs.Asked.{command_of};
 ghost use Rattle.wcc_commands.specs.Commands.{wanted_of};
 ghost use Rattle.wcc_commands.specs.Gathering.{wanted, Gathered, NotGathered, OnlyRead};
@@ -68,6 +70,26 @@ fn read_each<S: Store>(
     Ok(contents)
 }
 
+// Reads two files, and behind them the table of costs where one is named.
+fn read_charged<S: Store>(
+    alloc: Global,
+    store: &mut S,
+    files: (Wanted, Wanted),
+    table: Option<&str>,
+) -> Result<Vec<Items<u8>>, Status>
+    ensures files { MatchResult result
+        (λ contents. Gathered (wanted files.entry.0 ∷ wanted files.entry.1 ∷ wanted_table (table_name table.entry)) (S.state store.old).files contents.items)
+        (λ s. NotGathered (wanted files.entry.0 ∷ wanted files.entry.1 ∷ wanted_table (table_name table.entry)) (S.state store.old) (S.state store.new) s) }
+    ensures count { IfOk result (λ contents. length contents.items ≡ 2 + length (wanted_table (table_name table.entry))) }
+    ensures reads { OnlyRead (S.state store.old) (S.state store.new) }
+{
+    let (first, second) = files;
+    match table {
+        Some(table) => read_each(alloc, store, &[first, second, want(table, Bound::Table)]),
+        None => read_each(alloc, store, &[first, second]),
+    }
+}
+
 /// Reads the files of a command, in order.
 pub fn gather<S: Store>(
     alloc: Global,
@@ -81,31 +103,33 @@ pub fn gather<S: Store>(
     ensures reads { OnlyRead (S.state store.old) (S.state store.new) }
 {
     match command {
-        Command::Compile(names) => read_each(alloc, store, &[want(names.source, Bound::Source)]),
-        Command::Check(names) => read_each(
+        Command::Compile(asked) => read_each(alloc, store, &[want(asked.source, Bound::Source)]),
+        Command::Check(asked) => read_charged(
+            alloc,
+            store,
+            (
+                want(asked.image, Bound::Image),
+                want(asked.report, Bound::Report),
+            ),
+            asked.table,
+        ),
+        Command::Run(asked) => read_charged(
+            alloc,
+            store,
+            (
+                want(asked.image, Bound::Image),
+                want(asked.input, Bound::Input),
+            ),
+            asked.table,
+        ),
+        Command::Eval(asked) => read_each(
             alloc,
             store,
             &[
-                want(names.image, Bound::Image),
-                want(names.report, Bound::Report),
+                want(asked.source, Bound::Source),
+                want(asked.input, Bound::Input),
             ],
         ),
-        Command::Run(names) => read_each(
-            alloc,
-            store,
-            &[
-                want(names.image, Bound::Image),
-                want(names.input, Bound::Input),
-            ],
-        ),
-        Command::Eval(names) => read_each(
-            alloc,
-            store,
-            &[
-                want(names.source, Bound::Source),
-                want(names.input, Bound::Input),
-            ],
-        ),
-        Command::Report(names) => read_each(alloc, store, &[want(names.report, Bound::Report)]),
+        Command::Report(asked) => read_each(alloc, store, &[want(asked.report, Bound::Report)]),
     }
 }

@@ -27,8 +27,11 @@ mod report;
 mod run;
 mod status_lines;
 mod straight;
+mod tables;
 mod words;
 
-pub use laws::{accepted_is_done, evaluation_is_done, exit_is_done, plain_source_is_done, summary_is_done};
+pub use laws::{
+    accepted_is_done, evaluation_is_done, exit_is_done, plain_source_is_done, summary_is_done,
+};
 pub use performing::perform;
 pub use status_lines::report_status;

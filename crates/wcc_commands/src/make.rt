@@ -47,10 +47,10 @@ pub fn make<'a>(
         (λ s. (s ≡ status.Memory) ⊎ (IsRefusal s × Refuses (command_of command.entry) contents.items s)) }
 {
     match command {
-        Command::Compile(names) => make_compiled(alloc, names, one(contents)),
-        Command::Check(_) => make_yes(alloc, two(contents)),
-        Command::Run(names) => make_run(alloc, names, two(contents)),
-        Command::Eval(names) => make_evaluated(alloc, names, two(contents)),
+        Command::Compile(asked) => make_compiled(alloc, asked, one(contents)),
+        Command::Check(asked) => make_yes(alloc, asked, contents),
+        Command::Run(asked) => make_run(alloc, asked, contents),
+        Command::Eval(asked) => make_evaluated(alloc, asked, two(contents)),
         Command::Report(_) => make_summary(alloc, one(contents)),
     }
 }

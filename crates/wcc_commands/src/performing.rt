@@ -40,9 +40,12 @@ pub fn perform<S: Store, O: Sink>(
 ) -> Status
     ensures { EndsWith (asked_by (map string_bytes words.now)) (S.state store.old) (S.state store.new) (O.state out.old) (O.state out.new) result }
 {
-    let Some(command) = read_command(words) else {
-        return report_status(out, Status::Usage);
-    };
-    let made = work(alloc, store, command);
-    finish(store, out, made)
+    match read_command(alloc, words) {
+        Ok(Some(command)) => {
+            let made = work(alloc, store, command);
+            finish(store, out, made)
+        }
+        Ok(None) => report_status(out, Status::Usage),
+        Err(_) => report_status(out, Status::Memory),
+    }
 }

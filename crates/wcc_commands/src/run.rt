@@ -1,7 +1,10 @@
-// The command `run IMAGE INPUT OUTPUT`.
-ghost use Rattle.std.specs.Prelude.{◌≡◌, ◌⊎◌, IfOk, MatchResult};
+// The command `run IMAGE INPUT OUTPUT [--limit N] [--table FILE]`.
+ghost use Rattle.std.specs.Prelude.{◌≡◌, ◌≤◌, ◌^◌, ◌⊎◌, length, IfOk, MatchResult};
 ghost use Rattle.wcc_base.specs.declared.status.Status.TheVariants as status;
-ghost use Rattle.wcc_commands.specs.Asked.{run_names};
+ghost use Rattle.rv_core.specs.Table.{table_of};
+ghost use Rattle.command_words.specs.Held.{run_request};
+ghost use Rattle.wcc_commands.specs.Words.{Run};
+ghost use Rattle.wcc_commands.specs.Commands.{wanted_of, job_of, Refuses, Makes};
 ghost use Rattle.wcc_commands.specs.Ends.{IsEnd, IsRefusal};
 ghost use Rattle.elf_image.specs.Faults.{StopsAs};
 ghost use Rattle.wcc_commands.specs.Running.{Simulates, RefusesImage, MakesOutput, run_status, ran_outputs, fault_number, fault_index};
@@ -10,14 +13,13 @@ ghost use Rattle.wcc_commands.specs.Outputs.{outputs_of};
 use crate::lines::run_line;
 use crate::make::{Made, Output};
 use crate::printing::text_of;
-use crate::words::RunNames;
+use crate::tables::charged;
+use command_words::RunRequest;
 use elf_image::{ElfFault, read};
-use rv_core::default_costs;
+use rv_core::Costs;
 use rv_sim::{Ending, Machine};
 use std::alloc::Global;
 use wcc_base::{Items, Memory, Status};
-
-const CYCLES_MOST: u64 = 1_000_000_000;
 
 const OUTPUT_MOST: u32 = 16_777_216;
 
@@ -32,16 +34,23 @@ pub struct Ran {
 }
 
 // Runs the image that the bytes load to.
-fn simulate(alloc: Global, image: &[u8], input: Vec<u8>) -> Result<Ran, ElfFault>
-    ensures { MatchResult result (λ r. Simulates image.now input.items r.machine r.ending) (StopsAs image.now) }
+fn simulate(
+    alloc: Global,
+    image: &[u8],
+    input: Vec<u8>,
+    costs: Costs,
+    cycles: u64,
+) -> Result<Ran, ElfFault>
+    requires { cycles ≤ 2 ^ 62 }
+    ensures { MatchResult result (λ r. Simulates (record { image = image.now; input = input.items; costs = table_of costs; cycles = cycles }) r.machine r.ending) (StopsAs image.now) }
 {
     let image = match read(alloc, image) {
         Ok(image) => image,
         Err(fault) => return Err(fault),
     };
-    match Machine::new(alloc, &image, default_costs(), input, OUTPUT_MOST) {
+    match Machine::new(alloc, &image, costs, input, OUTPUT_MOST) {
         Ok(mut machine) => {
-            let ending = machine.run(CYCLES_MOST);
+            let ending = machine.run(cycles);
             Ok(Ran { machine, ending })
         }
         Err(_) => Err(ElfFault::Memory),
@@ -100,8 +109,8 @@ fn no_image(fault: ElfFault) -> Status
 }
 
 // The output, whatever the ending.
-fn outputs<'a>(alloc: Global, names: RunNames<'a>, ran: Ran) -> Result<Made<'a>, Memory>
-    ensures { IfOk result (λ m. outputs_of m ≡ ran_outputs (run_names names.entry) ran.machine ran.ending) }
+fn outputs<'a>(alloc: Global, output: &'a str, ran: Ran) -> Result<Made<'a>, Memory>
+    ensures { IfOk result (λ m. outputs_of m ≡ ran_outputs output.entry.now ran.machine ran.ending) }
 {
     let ending = ran.ending;
     let pc = ran.machine.pc();
@@ -110,7 +119,7 @@ fn outputs<'a>(alloc: Global, names: RunNames<'a>, ran: Ran) -> Result<Made<'a>,
     let lines = text_of(alloc, &line)?;
     let mut files = Vec::new(alloc);
     files.push(Output {
-        name: names.output,
+        name: output,
         bytes: Items::new(ran.machine.into_output()),
     })?;
     Ok(Made {
@@ -120,22 +129,40 @@ fn outputs<'a>(alloc: Global, names: RunNames<'a>, ran: Ran) -> Result<Made<'a>,
     })
 }
 
-/// Runs the image on the input with the default costs.
-pub fn make_run<'a>(
+// Runs the image on the input with these costs.
+fn run_with<'a>(
     alloc: Global,
-    names: RunNames<'a>,
-    contents: (Items<u8>, Items<u8>),
+    asked: RunRequest<'a>,
+    image: Items<u8>,
+    input: Items<u8>,
+    costs: Costs,
 ) -> Result<Made<'a>, Status>
-    ensures { MatchResult result (λ m. IsEnd m.status × MakesOutput (run_names names.entry) contents.0 contents.1 (outputs_of m))
-        (λ s. (s ≡ status.Memory) ⊎ (IsRefusal s × RefusesImage contents.0 s)) }
+    ensures { MatchResult result (λ m. IsEnd m.status × MakesOutput (run_request asked.entry).output (job_of (run_request asked.entry) (table_of costs) image input) (outputs_of m))
+        (λ s. (s ≡ status.Memory) ⊎ (IsRefusal s × RefusesImage image s)) }
 {
-    let (image, input) = contents;
-    match simulate(alloc, image.as_slice(), input.into_vec()) {
-        Ok(ran) => match outputs(alloc, names, ran) {
+    let limit = asked.cycle_limit();
+    match simulate(alloc, image.as_slice(), input.into_vec(), costs, limit) {
+        Ok(ran) => match outputs(alloc, asked.output, ran) {
             Ok(made) => Ok(made),
             Err(_) => Err(Status::Memory),
         },
         Err(ElfFault::Memory) => Err(Status::Memory),
         Err(fault) => Err(no_image(fault)),
+    }
+}
+
+/// Runs the image on the input, with the costs of the table where one is named.
+pub fn make_run<'a>(
+    alloc: Global,
+    asked: RunRequest<'a>,
+    contents: Vec<Items<u8>>,
+) -> Result<Made<'a>, Status>
+    requires { length contents.items ≡ length (wanted_of (Run (run_request asked))) }
+    ensures { MatchResult result (λ m. IsEnd m.status × Makes (Run (run_request asked.entry)) contents.items (outputs_of m))
+        (λ s. (s ≡ status.Memory) ⊎ (IsRefusal s × Refuses (Run (run_request asked.entry)) contents.items s)) }
+{
+    match charged(alloc, asked.table, contents) {
+        Ok((image, input, costs)) => run_with(alloc, asked, image, input, costs),
+        Err(status) => Err(status),
     }
 }

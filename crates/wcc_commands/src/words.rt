@@ -1,139 +1,63 @@
-// The words of a command line.
-ghost use Rattle.std.specs.Prelude.{◌≡◌, map, MatchOption, Some, None, string_bytes};
-ghost use Rattle.wcc_commands.specs.Words.{one_of, two_of, three_of, asked_by};
+// The commands that are built.
+ghost use Rattle.std.specs.Prelude.{◌≡◌, IfOk, map, option_map, string_bytes};
+ghost use Rattle.command_words.specs.Held.{compile_request, request_of};
+ghost use Rattle.wcc_commands.specs.Words.{has_options, built, asked_by};
 ghost use Rattle.wcc_commands.specs.Asked.{command_of};
 
-/// The files of `compile SOURCE IMAGE REPORT`.
-#[derive(Clone, Copy)]
-pub struct CompileNames<'a> {
-    pub source: &'a str,
-    pub image: &'a str,
-    pub report: &'a str,
-}
+use command_words::{
+    CheckRequest, CompileRequest, EvalRequest, ReportRequest, Request, RunRequest, read_words,
+};
+use std::alloc::Global;
+use wcc_base::Memory;
 
-/// The files of `check IMAGE REPORT`.
-#[derive(Clone, Copy)]
-pub struct CheckNames<'a> {
-    pub image: &'a str,
-    pub report: &'a str,
-}
-
-/// The files of `run IMAGE INPUT OUTPUT`.
-#[derive(Clone, Copy)]
-pub struct RunNames<'a> {
-    pub image: &'a str,
-    pub input: &'a str,
-    pub output: &'a str,
-}
-
-/// The files of `eval SOURCE INPUT OUTPUT`.
-#[derive(Clone, Copy)]
-pub struct EvalNames<'a> {
-    pub source: &'a str,
-    pub input: &'a str,
-    pub output: &'a str,
-}
-
-/// The file of `report REPORT`.
-#[derive(Clone, Copy)]
-pub struct ReportNames<'a> {
-    pub report: &'a str,
-}
-
-/// A command with the files that it names, of which no two are equal.
+/// A command that is built, with what it is asked.
 #[derive(Clone, Copy)]
 pub enum Command<'a> {
-    Compile(CompileNames<'a>),
-    Check(CheckNames<'a>),
-    Run(RunNames<'a>),
-    Eval(EvalNames<'a>),
-    Report(ReportNames<'a>),
+    Compile(CompileRequest<'a>),
+    Check(CheckRequest<'a>),
+    Run(RunRequest<'a>),
+    Eval(EvalRequest<'a>),
+    Report(ReportRequest<'a>),
 }
 
-// A name.
-fn one<'a>(names: &'a [String]) -> Option<&'a str>
-    ensures { MatchOption result (one_of (map string_bytes names.now) ≡ None)
-        (λ n. one_of (map string_bytes names.now) ≡ Some n.now) }
+// Whether an option of `compile` is given.
+fn has_options(r: &CompileRequest) -> bool
+    ensures { result ≡ has_options (compile_request r.now) }
 {
-    if names.len() != 1 {
-        return None;
-    }
-    Some(names[0].as_str())
+    r.spm.is_some() || r.unroll.is_some() || r.inline.is_some() || r.table.is_some() || r.derive
 }
 
-// Two names that differ.
-fn two<'a>(names: &'a [String]) -> Option<(&'a str, &'a str)>
-    ensures { MatchOption result (two_of (map string_bytes names.now) ≡ None)
-        (λ n. two_of (map string_bytes names.now) ≡ Some (n.0.now, n.1.now)) }
+// The command of a request, where it and its options are built.
+fn built<'a>(request: Request<'a>) -> Option<Command<'a>>
+    ensures { option_map command_of result ≡ built (request_of request.entry) }
 {
-    if names.len() != 2 {
-        return None;
+    match request {
+        Request::Compile(r) => {
+            if has_options(&r) {
+                return None;
+            }
+            Some(Command::Compile(r))
+        }
+        Request::Check(r) => Some(Command::Check(r)),
+        Request::Run(r) => Some(Command::Run(r)),
+        Request::Eval(r) => {
+            if r.derive {
+                return None;
+            }
+            Some(Command::Eval(r))
+        }
+        Request::Report(r) => Some(Command::Report(r)),
+        Request::Make(_) | Request::Respond(_) => None,
     }
-    let first = names[0].as_str();
-    let second = names[1].as_str();
-    if first == second {
-        return None;
-    }
-    Some((first, second))
-}
-
-// Three names, of which no two are equal.
-fn three<'a>(names: &'a [String]) -> Option<(&'a str, &'a str, &'a str)>
-    ensures { MatchOption result (three_of (map string_bytes names.now) ≡ None)
-        (λ n. three_of (map string_bytes names.now) ≡ Some (n.0.now, n.1.now, n.2.now)) }
-{
-    if names.len() != 3 {
-        return None;
-    }
-    let first = names[0].as_str();
-    let second = names[1].as_str();
-    let third = names[2].as_str();
-    if first == second || first == third || second == third {
-        return None;
-    }
-    Some((first, second, third))
 }
 
 /// What the words ask, if they ask for a command.
-pub fn read_command<'a>(words: &'a [String]) -> Option<Command<'a>>
-    ensures { MatchOption result (asked_by (map string_bytes words.now) ≡ None)
-        (λ c. asked_by (map string_bytes words.now) ≡ Some (command_of c)) }
+pub fn read_command<'a>(alloc: Global, words: &'a [String]) -> Result<Option<Command<'a>>, Memory>
+    ensures { IfOk result (λ o. option_map command_of o ≡ asked_by (map string_bytes words.now)) }
 {
-    let Some((command, names)) = words.split_first() else {
-        return None;
-    };
-    let command = command.as_str();
-    if command == "compile" {
-        let (source, image, report) = three(names)?;
-        return Some(Command::Compile(CompileNames {
-            source,
-            image,
-            report,
-        }));
+    match read_words(alloc, words) {
+        Ok(Some(request)) => Ok(built(request)),
+        Ok(None) => Ok(None),
+        Err(_) => Err(Memory),
     }
-    if command == "check" {
-        let (image, report) = two(names)?;
-        return Some(Command::Check(CheckNames { image, report }));
-    }
-    if command == "run" {
-        let (image, input, output) = three(names)?;
-        return Some(Command::Run(RunNames {
-            image,
-            input,
-            output,
-        }));
-    }
-    if command == "eval" {
-        let (source, input, output) = three(names)?;
-        return Some(Command::Eval(EvalNames {
-            source,
-            input,
-            output,
-        }));
-    }
-    if command == "report" {
-        let report = one(names)?;
-        return Some(Command::Report(ReportNames { report }));
-    }
-    None
 }

@@ -3,4 +3,4 @@ use Rattle.wcc_commands.proofs.CheckRuns.{accept_ends}
 use Rattle.wcc_commands.proofs.laws.accepted_is_done.Goals as goal
 
 pub returns : goal.returns
-returns c = λ names old p. accept_ends names old.files old refl p
+returns c = λ asked old p. accept_ends asked old.files old refl p

@@ -4,7 +4,7 @@ use Rattle.wcc_commands.proofs.laws.evaluation_is_done.Goals as goal
 
 pub returns : goal.returns
 returns c = record {
-  run = λ names old run e. run_ends names run old.files old refl e;
-  refusal = λ names old s e. refusal_ends names s old.files old refl e;
+  run = λ asked old run e. run_ends asked run old.files old refl e;
+  refusal = λ asked old s e. refusal_ends asked s old.files old refl e;
   made = one_made;
 }

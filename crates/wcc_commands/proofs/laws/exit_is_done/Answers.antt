@@ -3,4 +3,4 @@ use Rattle.wcc_commands.proofs.Leaving.{exit_ends}
 use Rattle.wcc_commands.proofs.laws.exit_is_done.Goals as goal
 
 pub returns : goal.returns
-returns c = λ names old p. exit_ends names old.files old refl p
+returns c = λ asked old p. exit_ends asked old.files old refl p

@@ -3,4 +3,4 @@ use Rattle.wcc_commands.proofs.Leaving.{plain_ends}
 use Rattle.wcc_commands.proofs.laws.plain_source_is_done.Goals as goal
 
 pub returns : goal.returns
-returns c = λ names old p. plain_ends names old.files old refl p
+returns c = λ asked old p. plain_ends asked old.files old refl p

@@ -3,4 +3,4 @@ use Rattle.wcc_commands.proofs.CheckRuns.{summary_ends}
 use Rattle.wcc_commands.proofs.laws.summary_is_done.Goals as goal
 
 pub returns : goal.returns
-returns c = λ names old p. summary_ends names old.files old refl p
+returns c = λ asked old p. summary_ends asked old.files old refl p

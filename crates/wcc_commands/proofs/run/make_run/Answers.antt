@@ -1,12 +1,10 @@
-use Rattle.wcc_commands.specs.Asked.{run_names}
-use Rattle.wcc_commands.specs.Outputs.{outputs_of}
-use Rattle.wcc_commands.proofs.RunRuns.{makes_output, ran_ends}
+use Rattle.rv_core.specs.Table.{table_of}
+use Rattle.command_words.specs.Held.{run_request}
+use Rattle.wcc_commands.proofs.Charges.{run_charged, run_uncharged}
 use Rattle.wcc_commands.proofs.run.make_run.Goals as goal
 
-pub returns-in-Ok-outputs : goal.returns-in-Ok-outputs
-returns-in-Ok-outputs c =
-    let s = rw (c.as_slice.ensures, c.into_vec.ensures) at c.in-Ok.ensures in
-    let names = run_names c.args.names in
-    let ran = c.in-Ok.ran in
-    let made = outputs_of c.in-Ok-outputs.made in
-    (ran_ends names ran.machine ran.ending made c.in-Ok-outputs.ensures, makes_output names _ _ ran.machine ran.ending made s c.in-Ok-outputs.ensures)
+pub returns-in-Ok : goal.returns-in-Ok
+returns-in-Ok c = run_charged (run_request c.args.asked) c.args.contents.items c.in-Ok.image c.in-Ok.input (table_of c.in-Ok.costs) c.run_with.result c.in-Ok.ensures c.run_with.ensures
+
+pub returns-in-Err : goal.returns-in-Err
+returns-in-Err c = run_uncharged (run_request c.args.asked) c.args.contents.items c.in-Err.status c.in-Err.ensures

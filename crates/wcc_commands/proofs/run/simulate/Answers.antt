@@ -7,4 +7,4 @@ returns-in-Err c = stops_as _ c.read.result _ c.in-Err.is c.read.ensures.not_elf
 
 pub returns-in-Ok-new : goal.returns-in-Ok-new
 returns-in-Ok-new c =
-    simulates _ _ _ _ c.in-Ok-new.machine _ _ (loads _ c.read.result _ c.in-Ok.is c.read.ensures.ok) c.in-Ok.ensures.image c.default_costs.ensures c.in-Ok-new.ensures.started c.in-Ok-new.ensures.first c.run-ending.ensures.runs c.run-ending.ensures.exits c.run-ending.ensures.finishes
+    simulates _ _ c.in-Ok-new.machine _ _ (loads _ c.read.result _ c.in-Ok.is c.read.ensures.ok) c.in-Ok.ensures.image c.in-Ok-new.ensures.started c.in-Ok-new.ensures.first c.run-ending.ensures.runs c.run-ending.ensures.exits c.run-ending.ensures.finishes
