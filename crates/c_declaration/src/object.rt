@@ -13,13 +13,13 @@ ghost use Rattle.c_tree.specs.View.{declaration_of, object_of, row_of, shape_of}
 
 use super::parameter::end_shaped_param;
 use c_begun::begun::{Declarator, Head, NameAt, Proto, Purpose, Receiver, Stack, State};
-use c_begun::declaration::{
-    end_declaration, end_object, listed_object, object, object_declaration,
-};
 use c_begun::list::{and_object, no_objects, no_parts};
 use c_begun::part::{DeclarationPart, ObjectPart, ObjectParts, Parts, ShapePart};
 use c_begun::refusal::Refusal;
 use c_lexeme::{Lexeme, Word};
+use c_nodes::declaration::{
+    end_declaration, end_object, listed_object, object, object_declaration,
+};
 use c_operand::operand::begin_operand;
 use c_tree::declaration::Shape;
 use c_tree::expression::Specifier;

@@ -10,11 +10,11 @@ ghost use Rattle.c_tree.specs.Tree.{Prototype};
 
 use super::object::go_on_declared;
 use c_begun::begun::{Braces, Declarator, Header, NamedParam, Proto, Scope, State};
-use c_begun::declaration::{end_declaration, parameter, prototype};
 use c_begun::list::{and_param, and_specifier, no_items, no_params, one_specifier};
 use c_begun::part::{ParamPart, ParamParts, ShapePart};
 use c_begun::refusal::Refusal;
 use c_lexeme::{Lexeme, Word};
+use c_nodes::declaration::{end_declaration, parameter, prototype};
 use c_operand::role::specifier_said;
 use c_tree::expression::Specifier;
 use c_tree::token::TokenKind;

@@ -11,11 +11,11 @@ ghost use Rattle.c_lexeme.specs.Lexemes.{lexeme_of};
 
 use super::leave::go_on_with;
 use c_begun::begun::{NameAt, Stack, State};
-use c_begun::expression::call_of_none;
 use c_begun::list::{and_specifier, no_parts, one_specifier};
 use c_begun::part::Part;
 use c_begun::refusal::Refusal;
 use c_lexeme::{Lexeme, Word};
+use c_nodes::expression::call_of_none;
 use c_operand::operand::begin_operand;
 use c_operand::role::{role_of, specifier_said};
 use c_tree::expression::Specifier;

@@ -11,10 +11,10 @@ ghost use Rattle.c_begun.specs.declared.refusal.Refusal.TheVariants.{Memory};
 
 use super::take::take;
 use c_begun::begun::{NameAt, Stack, State};
-use c_begun::expression::{assign, binary, call, cast, conditional, index, paren, prefix};
 use c_begun::list::and_expr;
 use c_begun::part::{Part, Parts};
 use c_begun::refusal::Refusal;
+use c_nodes::expression::{assign, binary, call, cast, conditional, index, paren, prefix};
 use c_operand::demand::demand_of;
 use c_operand::operand::enter_role;
 use c_operand::role::{Role, reach_of};

@@ -8,11 +8,11 @@ ghost use Rattle.c_begun.specs.View.{Gives, Names, braces_of, declarator_of, fra
 use c_begun::begun::{
     Braces, Declarator, Frames, Loop, Purpose, Receiver, StartedFor, State, Test, TestedFor,
 };
-use c_begun::declaration::{end_object, object_with, valued_object};
 use c_begun::list::{and_case, and_expr};
 use c_begun::part::{ItemParts, MaybePart, Part, Parts, ShapePart, StartPart};
 use c_begun::refusal::Refusal;
-use c_begun::statement::{begin_for_body, do_loop, evaluate, return_value};
+use c_nodes::declaration::{end_object, object_with, valued_object};
+use c_nodes::statement::{begin_for_body, do_loop, evaluate, return_value};
 use c_tree::declaration::Shape;
 use c_tree::statement::ForStart;
 use c_tree::token::TokenKind;

@@ -9,10 +9,10 @@ ghost use Rattle.c_begun.specs.View.{Gives, Names, part_of, stack_of};
 
 use super::role::{Role, operator_level, tree_level};
 use c_begun::begun::{NameAt, Stack, State};
-use c_begun::expression::{character, name, number, postfix};
 use c_begun::part::Part;
 use c_begun::refusal::Refusal;
 use c_lexeme::{Lexeme, Word};
+use c_nodes::expression::{character, name, number, postfix};
 use c_tree::expression::{AssignOperator, BinaryOperator, Expr, PostfixOperator, PrefixOperator};
 use c_tree::token::TokenKind;
 use std::alloc::Global;

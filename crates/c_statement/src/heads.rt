@@ -9,8 +9,8 @@ use c_begun::begun::{Frames, Loop, Purpose, Scope, Stack, StartedFor, State, Tes
 use c_begun::list::one_specifier;
 use c_begun::part::{MaybePart, StartPart, StatementPart};
 use c_begun::refusal::Refusal;
-use c_begun::statement::{begin_for_body, leaf};
 use c_lexeme::{Lexeme, Word};
+use c_nodes::statement::{begin_for_body, leaf};
 use c_operand::operand::begin_operand;
 use c_operand::role::specifier_said;
 use c_tree::statement::{ForStart, Statement};

@@ -10,12 +10,12 @@ ghost use Rattle.c_begun.specs.View.{Gives, Names, braces_of, externals_of, fram
 
 use super::begins::begin_any_statement;
 use c_begun::begun::{Braces, Frames, Purpose, Scope, Stack, State};
-use c_begun::function::and_function;
 use c_begun::list::{and_default, and_restricting, and_restriction, no_items, one_specifier};
 use c_begun::part::{ExternalParts, ItemParts, Part};
 use c_begun::refusal::Refusal;
-use c_begun::statement::{block, switch};
 use c_lexeme::{Lexeme, Word};
+use c_nodes::function::and_function;
+use c_nodes::statement::{block, switch};
 use c_operand::role::specifier_said;
 use c_tree::pragma::Pragma;
 use c_tree::token::TokenKind;

@@ -12,8 +12,8 @@ use c_begun::begun::{Braces, Frames, Loop, State, Test};
 use c_begun::list::and_statement;
 use c_begun::part::{ItemParts, Part, StatementPart};
 use c_begun::refusal::Refusal;
-use c_begun::statement::{for_loop, if_else, if_then, while_loop};
 use c_lexeme::{Lexeme, Word};
+use c_nodes::statement::{for_loop, if_else, if_then, while_loop};
 use c_tree::token::TokenKind;
 use std::alloc::Global;
 

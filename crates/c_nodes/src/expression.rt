@@ -4,9 +4,9 @@ ghost use Rattle.c_tree.specs.Tree.{Assign, Binary, Call, Cast, Character, Condi
 ghost use Rattle.c_tree.specs.View.{expr_of, exprs_of};
 ghost use Rattle.c_begun.specs.declared.refusal.Refusal.TheVariants.{Memory};
 
-use super::begun::NameAt;
-use super::part::{Part, Parts};
-use super::refusal::Refusal;
+use c_begun::begun::NameAt;
+use c_begun::part::{Part, Parts};
+use c_begun::refusal::Refusal;
 use c_tree::expression::{
     AssignOperator, BinaryOperator, Expr, PostfixOperator, PrefixOperator, Specifier,
 };

@@ -9,13 +9,13 @@ ghost use Rattle.c_begun.specs.Depths.{head_depth};
 ghost use Rattle.c_begun.specs.View.{Gives, Names, head_of, object_part_of, scope_of};
 ghost use Rattle.c_begun.specs.declared.refusal.Refusal.TheVariants.{Memory};
 
-use super::begun::{Head, NameAt, Scope, State};
-use super::list::{and_declaration, and_declaring, and_expr, and_object};
-use super::part::{
+use c_begun::begun::{Head, NameAt, Scope, State};
+use c_begun::list::{and_declaration, and_declaring, and_expr, and_object};
+use c_begun::part::{
     DeclarationPart, ObjectPart, ObjectParts, ParamPart, ParamParts, Part, Parts, ShapePart,
     StartPart,
 };
-use super::refusal::Refusal;
+use c_begun::refusal::Refusal;
 use c_tree::declaration::{Declaration, Initial, Object, Param};
 use c_tree::expression::{NameId, Specifier};
 use c_tree::statement::ForStart;
@@ -213,7 +213,7 @@ fn and_further(head: Head, object: ObjectPart) -> Result<State, Refusal>
 }
 
 /// The object is the last of its declaration.
-#[tactic(auto, using(crate::proofs::Deeper::scope_deeper))]
+#[tactic(auto, using(c_begun::proofs::Deeper::scope_deeper))]
 fn end_objects(head: Head, object: ObjectPart) -> Result<State, Refusal>
     requires { head_depth head object.depth ≤ 256 }
     ensures { (f : Names) → Gives f result (object_ends (Plain Semicolon) (head_of f head) (object_part_of f object)) }

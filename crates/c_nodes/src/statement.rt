@@ -9,9 +9,9 @@ ghost use Rattle.c_grammar.specs.Machine.{Goes};
 ghost use Rattle.c_begun.specs.View.{Gives, Names, frames_of, maybe_of, start_part_of};
 ghost use Rattle.c_begun.specs.declared.refusal.Refusal.TheVariants.{Memory};
 
-use super::begun::{Frames, HeadedFor, Loop, State};
-use super::part::{ItemParts, Part, StatementPart};
-use super::refusal::Refusal;
+use c_begun::begun::{Frames, HeadedFor, Loop, State};
+use c_begun::part::{ItemParts, Part, StatementPart};
+use c_begun::refusal::Refusal;
 use c_tree::statement::{ForHead, Statement};
 use std::alloc::Global;
 

@@ -4,9 +4,9 @@ ghost use Rattle.c_tree.specs.Tree.{NoItem, Nothing, Then};
 ghost use Rattle.c_tree.specs.View.{external_of, items_of, param_of, row_of};
 ghost use Rattle.c_begun.specs.declared.refusal.Refusal.TheVariants.{Memory};
 
-use super::begun::Header;
-use super::part::{ExternalParts, ItemParts};
-use super::refusal::Refusal;
+use c_begun::begun::Header;
+use c_begun::part::{ExternalParts, ItemParts};
+use c_begun::refusal::Refusal;
 use c_tree::external::{External, Function};
 
 /// One function more, at file level.
