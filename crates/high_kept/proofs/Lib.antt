@@ -1,0 +1,12 @@
+pub mod Cells
+pub mod Steps
+pub mod Stores
+pub mod Operators
+pub mod Holding
+pub mod Finishing
+pub mod Places
+pub mod Plain
+pub mod Jumps
+pub mod Changes
+pub mod Calling
+pub mod Expressions

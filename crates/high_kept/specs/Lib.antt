@@ -1,0 +1,4 @@
+pub mod Cells
+pub mod Meets
+pub mod Fits
+pub mod Claims
