@@ -1,0 +1,15 @@
+pub mod Sequences
+pub mod Branches
+pub mod Loops
+pub mod Entering
+pub mod Constants
+pub mod Leaving
+pub mod Continuing
+pub mod Turns
+pub mod Marks
+pub mod Items
+pub mod Switching
+pub mod Repeating
+pub mod Filling
+pub mod Declaring
+pub mod Following
