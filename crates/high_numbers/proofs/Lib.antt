@@ -1,0 +1,4 @@
+pub mod Free
+pub mod Ids
+pub mod Statements
+pub mod Programs
