@@ -50,7 +50,7 @@ target_more : (m n : ℕ) (target : Target) → m ≤ n → TargetBelow m target
 target_more m n (InFrame x) le h = omega (arith, le, h)
 target_more m n (InMemory array index) le h = omega (arith, le, h)
 
-slack_most : (e : c.Expr) → slack e ≤ 1
+pub slack_most : (e : c.Expr) → slack e ≤ 1
 slack_most (c.Number constant at) = omega arith
 slack_most (c.Character word at) = omega arith
 slack_most (c.Read place) = omega arith

@@ -1,4 +1,4 @@
--- Typed trees in which no conversion that C implies stands right over another.
+-- Typed trees in which no conversion that C implies stands right over another, and in which arrays that are filled have written sizes.
 use Rattle.std.specs.Prelude.{◌≡◌, ◌≤◌, List, [], ◌∷◌, Option, Some, None}
 use Rattle.c_tree.specs.Size.{size_items}
 use Rattle.c_tree.specs.Tree as source
@@ -44,9 +44,20 @@ InitialSingle c.Absent = Unit {0}
 InitialSingle (c.Value e) = Single e
 InitialSingle (c.Listed values comma filling) = AllSingle values
 
+abbrev pub IsSized : c.Shape → Type 0
+IsSized c.Single = ⊥
+IsSized c.Unsized = ⊥
+IsSized (c.Sized size) = Unit {0}
+
+abbrev pub FillingSized : c.Shape → c.Initial → Type 0
+FillingSized shape c.Absent = Unit {0}
+FillingSized shape (c.Value e) = Unit {0}
+FillingSized shape (c.Listed values comma None) = Unit {0}
+FillingSized shape (c.Listed values comma (Some number)) = IsSized shape
+
 abbrev pub ObjectsSingle : List c.Object → Type 0
 ObjectsSingle [] = Unit {0}
-ObjectsSingle (c.Declared object shape initial at ∷ rest) = InitialSingle initial × ObjectsSingle rest
+ObjectsSingle (c.Declared object shape initial at ∷ rest) = InitialSingle initial × ObjectsSingle rest × FillingSized shape initial
 
 abbrev pub DeclarationSingle : c.Declaration → Type 0
 DeclarationSingle (c.Objects specifiers objects at) = ObjectsSingle objects
