@@ -1,0 +1,4 @@
+pub mod Pieces
+pub mod Statements
+pub mod Programs
+pub mod Numbers
