@@ -1,0 +1,5 @@
+pub mod FirstElements
+pub mod Effects
+pub mod Behind
+pub mod Stacks
+pub mod Steps

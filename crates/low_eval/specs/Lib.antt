@@ -1,0 +1,4 @@
+pub mod First
+pub mod Direct
+pub mod Progress
+pub mod Evaluated

@@ -1,0 +1,126 @@
+// The arrays of a run.
+ghost use Rattle.std.specs.Prelude.{◌≡◌, Option, Some, None, IfOk, if◌then◌else◌};
+ghost use Rattle.low_ir.specs.Effects.{can_store, contents, element, is_element, with_element};
+ghost use Rattle.low_ir.specs.Kinds.{kind_number, same_kind};
+ghost use Rattle.low_ir.specs.View.{object_of};
+ghost use Rattle.low_eval.specs.First.{first_element, first_word};
+
+use low_ir::object::{Kind, Object, Storage};
+use std::alloc::Global;
+use std::marker::Model;
+use wcc_base::Memory;
+
+fn number(kind: Kind) -> u8
+    ensures { result ≡ kind_number kind }
+{
+    match kind {
+        Kind::Unsigned8 => 0,
+        Kind::Signed8 => 1,
+        Kind::Unsigned16 => 2,
+        Kind::Signed16 => 3,
+        Kind::Word => 4,
+    }
+}
+
+fn can_store(storage: Storage) -> bool
+    ensures { result ≡ can_store storage }
+{
+    match storage {
+        Storage::Constant => false,
+        Storage::Global => true,
+        Storage::Local => true,
+    }
+}
+
+/// An array as a run goes on.
+#[derive(Drop)]
+pub struct Cells {
+    kind: Kind,
+    storage: Storage,
+    elements: Vec<Option<u32>>,
+}
+
+impl Model for Cells {
+    ghost use Rattle.low_ir.specs.Effects.{Contents};
+
+    ghost Value = { Contents };
+
+    ghost view = { λ c. record { kind = c.kind; storage = c.storage; elements = c.elements.items } };
+}
+
+/// The first word of an element of a global or a constant.
+fn first_word(object: &Object, index: u32) -> u32
+    ensures { result ≡ first_word (object_of object.now) index }
+{
+    match object.values.get(index as usize) {
+        None => 0,
+        Some(word) => object.kind.convert(*word),
+    }
+}
+
+fn first_element(object: &Object, index: u32) -> Option<u32>
+    ensures { result ≡ first_element object.now.storage (object_of object.now) index }
+{
+    match object.storage {
+        Storage::Constant => Some(first_word(object, index)),
+        Storage::Global => Some(first_word(object, index)),
+        Storage::Local => None,
+    }
+}
+
+impl Cells {
+    /// An array at first.
+    pub fn new(alloc: Global, object: &Object) -> Result<Cells, Memory>
+        ensures { IfOk result (λ c. c ≡ contents (object_of object.now)) }
+    {
+        let mut elements = Vec::new(alloc);
+        for index in 0..object.length {
+            elements.push(first_element(object, index))?;
+        }
+        Ok(Cells {
+            kind: object.kind,
+            storage: object.storage,
+            elements,
+        })
+    }
+
+    /// Whether an access of the kind, so many bytes behind the first, is one of an element.
+    fn is_element(&self, kind: Kind, bytes: u32) -> bool
+        ensures { result ≡ is_element kind bytes self.now }
+    {
+        number(self.kind) == number(kind) && bytes % kind.bytes() == 0
+    }
+
+    /// The word of an element, where it is there and was written.
+    pub fn load(&self, kind: Kind, bytes: u32) -> Option<u32>
+        ensures { result ≡ element kind bytes self.now }
+    {
+        if !self.is_element(kind, bytes) {
+            return None;
+        }
+        match self.elements.get((bytes / kind.bytes()) as usize) {
+            None => None,
+            Some(element) => *element,
+        }
+    }
+
+    /// Stores a word in an element, where that may be.
+    pub fn store(&mut self, kind: Kind, bytes: u32, word: u32) -> bool
+        ensures { with_element kind bytes word self.old ≡ (if result then Some self.new else None) }
+    {
+        if !self.is_element(kind, bytes) {
+            return false;
+        }
+        if !can_store(self.storage) {
+            return false;
+        }
+        let word = kind.convert(word);
+        match self.elements.get_mut((bytes / kind.bytes()) as usize) {
+            None => false,
+            Some(element) => {
+                *element = Some(word);
+                true
+            }
+        }
+    }
+}

@@ -1,0 +1,18 @@
+//! An evaluator of programs in the low form.
+//!
+//! Proved: [`evaluate`] answers how far the run of a program on an input is after so many steps. It is
+//! the definition's own program, for tests: it keeps each block that a run passes.
+//!
+//! This crate knows no layout and no source language.
+#![tactic(auto)]
+
+mod bank;
+mod cells;
+mod evaluation;
+mod running;
+mod stack;
+#[cfg(test)]
+mod tests;
+mod world;
+
+pub use evaluation::{Evaluated, Outcome, evaluate};
