@@ -1,0 +1,8 @@
+//! Why the plan of a source carries it.
+//!
+//! `specs/Sources` says what a source shows, counts and bounds, as passes see programs in the high form, and what becomes of its marks
+//! and loops in its plan. Proved in `proofs/`: where the plan keeps to the form, its loops are numbered as the source's, and each kept
+//! run is a good run of it, the plan carries the source, with these copies; and what a source shows is what it means.
+//!
+//! This crate has no code.
+#![tactic(auto)]
