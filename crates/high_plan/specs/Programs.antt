@@ -1,5 +1,5 @@
 -- The program in the high form that a typed program becomes.
-use Rattle.std.specs.Prelude.{ℕ, ◌+◌, ◌-◌, max, List, [], ◌∷◌, length, take, drop, slice_index_or}
+use Rattle.std.specs.Prelude.{ℕ, ◌+◌, ◌-◌, max, List, [], ◌∷◌, length, take, drop, Option, Some, None, slice_index_or}
 use Rattle.c_facts.specs.declared.facts.Facts.{Facts}
 use Rattle.c_typed.specs.Tree as c
 use Rattle.c_typed.specs.declared.variable.Variable.{Variable}
@@ -20,11 +20,17 @@ abbrev pub function_by : (body : high.Statement) → (parameters own : List Vari
 function_by body parameters own rank =
     record { values = frame_scalars parameters; arrays = passed_arrays parameters; locals = max (frame_scalars own) (frame_needed body) - frame_scalars parameters; rank = rank; body = body }
 
+-- how many parameters are objects: a lone unnamed `void` is none (C11 6.7.6.3, paragraph 10)
+abbrev pub named_params : List c.Param → ℕ
+named_params [] = 0
+named_params (c.Parameter specifiers None shape at ∷ rest) = named_params rest
+named_params (c.Parameter specifiers (Some name) shape at ∷ rest) = named_params rest + 1
+
 -- a function, whose objects end before this number
 abbrev pub function_planned : Plan → List Variable → (behind rank : ℕ) → c.Function → high.Function
 function_planned plan variables behind rank (c.Defined specifiers name name_at params first body body_at at) =
     let own = between variables first behind in
-    function_by (body_planned plan body (frame_scalars own)) (between variables first (first + length params)) own rank
+    function_by (body_planned plan body (frame_scalars own)) (between variables first (first + named_params params)) own rank
 
 -- where the objects of functions end: at those of the next function
 abbrev pub end_of : List c.Function → (all : ℕ) → ℕ
