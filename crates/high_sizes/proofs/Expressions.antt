@@ -1,23 +1,22 @@
 -- What the code of expressions costs: at most so much for each node of the source.
-use Rattle.std.proofs.Common.{◌≡◌, ℕ, suc, ◌+◌, ◌*◌, ◌≤◌, Bool, true, false, List, [], ◌∷◌, length, Option, Some, None, refl, arith}
+use Rattle.std.proofs.Common.{ℕ, suc, ◌+◌, ◌*◌, ◌≤◌, Bool, List, arith}
 use Rattle.c_facts.specs.Most.{call_most, expr_most, exprs_most, place_most}
 use Rattle.c_facts.specs.declared.facts.Bounds.{Bounds}
 use Rattle.c_typed.specs.Tree as c
-use Rattle.c_value.specs.declared.kind.Kind.{Kind as CType}
 use Rattle.high_ir.specs.Size.{expr_nodes}
-use Rattle.high_ir.specs.Tree.{Expr, Constant, Variable, Set, Seq, Block, Statements, End, Then}
+use Rattle.high_ir.specs.Tree.{Constant, Variable, Set, Seq, Block, Statements, Then}
 use Rattle.high_code.specs.Code.{joined, alone}
 use Rattle.high_plan.specs.declared.home.Home.{Home}
 use Rattle.high_plan.specs.declared.purpose.Purpose.{Purpose}
 use Rattle.high_plan.specs.declared.purpose.Purpose.TheVariants.{Value, Effect, Unless, When}
 use Rattle.high_plan.specs.Homes.{home_of, loaded}
-use Rattle.high_plan.specs.Values.{Valued, Aimed, aimed, argument, array_named, assigned, both, called, choice, finished, for_operand, in_block, is_joint, known, made, operated_on, passing, placed, step_operator, stepped, updated}
+use Rattle.high_plan.specs.Values.{Valued, aimed, array_named, assigned, both, called, choice, finished, for_operand, in_block, is_joint, known, made, operated_on, passing, placed, step_operator, stepped, updated}
 use Rattle.high_levels.specs.Levels.{slack}
 use Rattle.high_levels.specs.Conversions.{AllSingle, PlaceSingle, Single}
 use Rattle.high_levels.proofs.Expressions.{slack_most}
 use Rattle.high_sizes.specs.Costs.{Rates, cost_all}
 use Rattle.high_sizes.specs.Covers.{Covers}
-use Rattle.high_sizes.proofs.Pieces.{AimedFits, DoneFor, FitsFor, PassingFits, code_cost, convert_fits, cost-joined, done, finished_fits, loaded_nodes, scalar_nodes, target_nodes, wider}
+use Rattle.high_sizes.proofs.Pieces.{AimedFits, FitsFor, PassingFits, code_cost, convert_fits, cost-joined, done, finished_fits, loaded_nodes, scalar_nodes, wider}
 use Rattle.high_sizes.proofs.Parts.{argument_fits, assigned_fits, called_fits, choice_cost, compound_fits, operate_fits, signed_fits, stepped_fits}
 
 module _ (rates : Rates) (callee calls : ℕ → ℕ) (planned bounds : List Bounds) (node spare : ℕ) (covers : Covers rates callee calls planned bounds node spare) (homes : List Home) where

@@ -1,5 +1,5 @@
 -- What the parts of expressions cost.
-use Rattle.std.proofs.Common.{◌≡◌, ℕ, zero, suc, ◌+◌, ◌*◌, ◌≤◌, Bool, true, false, not, List, [], ◌∷◌, length, Option, Some, None, refl, arith}
+use Rattle.std.proofs.Common.{ℕ, ◌+◌, ◌*◌, ◌≤◌, Bool, true, false, not, List, [], ◌∷◌, length, Option, Some, None, arith}
 use Rattle.std.specs.Prelude.{◌&&◌, ◌||◌}
 use Rattle.c_facts.specs.Most.{call_most}
 use Rattle.c_facts.specs.declared.facts.Bounds.{Bounds}
@@ -16,15 +16,15 @@ use Rattle.c_value.specs.declared.operator.Sign.{Sign}
 use Rattle.c_value.specs.declared.operator.Sign.TheVariants.{Negate, Plus, Complement, Not}
 use Rattle.high_ir.specs.declared.object.Array.{Array}
 use Rattle.high_ir.specs.Size.{expr_nodes}
-use Rattle.high_ir.specs.Tree.{Expr, Constant, Variable, Element, Set, Put, Get, Keep, Seq, If, Block, Leave, Call, Statements, End, Then}
+use Rattle.high_ir.specs.Tree.{Expr, Constant, Variable, Element, Set, Put, Get, Keep, Seq, If, Leave, Call, Statements, End, Then}
 use Rattle.high_code.specs.Code.{joined, alone, is_empty}
 use Rattle.high_plan.specs.declared.home.Home.{Home}
 use Rattle.high_plan.specs.declared.purpose.Purpose.{Purpose}
 use Rattle.high_plan.specs.declared.purpose.Purpose.TheVariants.{Value, Effect, Unless, When}
 use Rattle.high_plan.specs.Homes.{Target, InFrame, InMemory}
 use Rattle.high_plan.specs.Operators.{convert, operated, signed}
-use Rattle.high_plan.specs.Values.{Valued, Passing, argument, assigned, called, changed_by, changed_in, choice, chosen, chosen_by_jumps, finished, firm, first_value, for_operand, held, in_block, is_changed, is_leaf, is_variable, kept, kept_in, known, leaf, leaf_for, operated_on, placed, put, set_to, signed_for, stepped, stepped_behind, updated}
-use Rattle.high_sizes.specs.Costs.{Rates, all_passed, cost, cost_all, values_nodes}
+use Rattle.high_plan.specs.Values.{Valued, Passing, argument, assigned, called, changed_by, changed_in, choice, finished, firm, first_value, for_operand, is_changed, is_leaf, is_variable, kept, kept_in, known, leaf, operated_on, put, set_to, signed_for, stepped, stepped_behind, updated}
+use Rattle.high_sizes.specs.Costs.{Rates, cost_all, values_nodes}
 use Rattle.high_sizes.specs.Covers.{Covers}
 use Rattle.high_sizes.proofs.Pieces.{DoneFor, FitsFor, PassingFits, code_cost, convert_nodes, cost-joined, done, finished_fits, firm_value, held_cost, leaf_value, operated_nodes, passed_most, signed_nodes, target_nodes}
 

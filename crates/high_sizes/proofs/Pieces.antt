@@ -1,5 +1,5 @@
 -- What pieces of code cost, and how many nodes their values have.
-use Rattle.std.proofs.Common.{◌≡◌, ℕ, zero, suc, ◌+◌, ◌*◌, ◌≤◌, Bool, true, false, not, List, [], ◌∷◌, length, refl, sym, ap, ◌∙◌, arith}
+use Rattle.std.proofs.Common.{◌≡◌, ℕ, zero, suc, ◌+◌, ◌*◌, ◌≤◌, Bool, true, false, not, length, refl, arith}
 use Rattle.std.specs.Prelude.{◌||◌}
 use Rattle.std.proofs.lemmas.Bool.{false≢true}
 use Rattle.c_value.specs.declared.kind.Kind.{Kind as CType}
@@ -10,7 +10,7 @@ use Rattle.c_value.specs.declared.operator.Sign.TheVariants as signs
 use Rattle.high_ir.specs.declared.object.Kind.{Kind}
 use Rattle.high_ir.specs.declared.object.Kind.TheVariants.{Unsigned8, Signed8, Unsigned16, Signed16, Word}
 use Rattle.high_ir.specs.Size.{expr_nodes}
-use Rattle.high_ir.specs.Tree.{Expr, Constant, Variable, Element, Unary, Binary, Statement, Set, If, Leave, Statements, End, Then}
+use Rattle.high_ir.specs.Tree.{Expr, Constant, Variable, Element, Unary, Binary, Set, If, Leave, Statements, End, Then}
 use Rattle.high_code.specs.Code.{joined, alone, nothing}
 use Rattle.high_plan.specs.declared.home.Home.{Home}
 use Rattle.high_plan.specs.declared.home.Home.TheVariants.{Frame, Memory}

@@ -1,5 +1,5 @@
 -- The nodes and the weight of a plan.
-use Rattle.std.proofs.Common.{◌≡◌, ℕ, zero, suc, ◌+◌, ◌*◌, ◌≤◌, max, Bool, List, [], ◌∷◌, length, Option, Some, None, refl, arith}
+use Rattle.std.proofs.Common.{◌≡◌, ℕ, zero, suc, ◌+◌, ◌*◌, ◌≤◌, max, List, [], ◌∷◌, length, refl, arith}
 use Rattle.std.specs.Prelude.{slice_get, slice_index_or, sum_by}
 use Rattle.std.proofs.Math.Nat.{mul-le-mul_left}
 use Rattle.std.proofs.lemmas.List.Sums.{sum_by-cons}
@@ -9,12 +9,12 @@ use Rattle.c_facts.specs.declared.facts.Bounds.{Bounds}
 use Rattle.c_typed.specs.Tree as c
 use Rattle.c_typed.specs.declared.variable.Variable.{Variable}
 use Rattle.high_ir.specs.Size.{expr_nodes, function_nodes, nodes, nodes_all}
-use Rattle.high_ir.specs.Tree.{Expr, Statement, Set, Put, Get, Keep, Mark, Seq, If, Loop, Block, Leave, Call, Return, Statements, End, Then, Function}
+use Rattle.high_ir.specs.Tree.{Expr, Statement, Set, Put, Get, Keep, Mark, Seq, If, Loop, Block, Leave, Call, Return, Statements, End, Then}
 use Rattle.high_ir.specs.Weight.{body_weight, most_starts, weight_of, weight_of_all, weights}
 use Rattle.high_plan.specs.Layouts.{frame_scalars}
 use Rattle.high_plan.specs.Programs.{between, end_of, function_planned, functions_planned}
 use Rattle.high_plan.specs.Statements.{Plan, body_planned}
-use Rattle.high_sizes.specs.Costs.{Rates, all_passed, by_nodes, by_weight, cost, cost_all, values_nodes}
+use Rattle.high_sizes.specs.Costs.{all_passed, by_nodes, by_weight, cost, cost_all, values_nodes}
 use Rattle.high_sizes.specs.Covers.{Covers}
 use Rattle.high_sizes.specs.Programs.{FunctionsSingle, functions_nodes}
 use Rattle.high_sizes.proofs.Statements.{body_fits}

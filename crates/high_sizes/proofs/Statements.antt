@@ -1,32 +1,32 @@
 -- What the code of statements costs.
-use Rattle.std.proofs.Common.{◌≡◌, ℕ, suc, ◌+◌, ◌-◌, ◌*◌, ◌≤◌, Bool, true, false, not, List, [], ◌∷◌, Option, Some, None, refl, arith}
+use Rattle.std.proofs.Common.{ℕ, suc, ◌+◌, ◌-◌, ◌*◌, ◌≤◌, Bool, true, false, not, List, [], ◌∷◌, Option, Some, None, arith}
 use Rattle.std.specs.Prelude.{◌||◌}
 use Rattle.std.proofs.Math.Nat.{mul-le-mul, mul-le-mul_left}
-use Rattle.c_facts.specs.Most.{bounds_at, declaration_most, expr_most, exprs_most, filling_most, initial_most, items_most, object_most, objects_most, option_most, place_most, shape_most, start_most, statement_most, times}
+use Rattle.c_facts.specs.Most.{bounds_at, declaration_most, expr_most, exprs_most, initial_most, items_most, objects_most, option_most, place_most, shape_most, start_most, statement_most, times}
 use Rattle.c_facts.specs.Sites.{count_exprs}
-use Rattle.c_facts.specs.Starts.{is_always, is_always_or_absent, most_starts, starts}
+use Rattle.c_facts.specs.Starts.{is_always, is_always_or_absent, starts}
 use Rattle.c_facts.specs.declared.facts.Bounds.{Bounds}
 use Rattle.c_facts.specs.declared.facts.Starts.{Starts}
 use Rattle.c_typed.specs.Tree as c
 use Rattle.high_ir.specs.declared.expression.BinaryOperator.TheVariants as binary
 use Rattle.high_ir.specs.Size.{expr_nodes}
-use Rattle.high_ir.specs.Tree.{Expr, Constant, Variable, Binary, Statement, Set, Seq, If, Loop, Block, Leave, Return, Statements, End, Then}
+use Rattle.high_ir.specs.Tree.{Expr, Constant, Binary, Set, Seq, If, Leave, Return, Statements, End, Then}
 use Rattle.high_code.specs.Code.{joined, alone, nothing}
 use Rattle.high_plan.specs.declared.home.Home.{Home}
 use Rattle.high_plan.specs.declared.home.Home.TheVariants.{Frame, Memory}
 use Rattle.high_plan.specs.declared.purpose.Purpose.TheVariants.{Value, Effect, Unless}
 use Rattle.high_plan.specs.Homes.{home_of}
-use Rattle.high_plan.specs.Statements.{Exits, Parts, Plan, all_declared, all_planned, and_before, at_label, body_planned, chosen_else, chosen_if, continues, declared, deeper, default_number, ends_in_block, filled, filling, guarded, in_loop, in_switch, initialised, label_tests, last_in_block, leaving_unless, listed, loops_before, looped, parts_planned, planned, returned, round_of, rounded, started, stepped, stored_at, switched, tested}
-use Rattle.high_plan.specs.Values.{Valued, chosen, chosen_by_jumps, firm, held, in_block, is_changed, is_joint, is_leaf, is_variable, made}
-use Rattle.high_levels.specs.Conversions.{AllSingle, DeclarationSingle, FillingSized, InitialSingle, IsSized, ItemsSingle, ObjectsSingle, OptionSingle, Single, StartSingle, StatementSingle}
+use Rattle.high_plan.specs.Statements.{Exits, Parts, Plan, all_declared, all_planned, and_before, body_planned, chosen_else, chosen_if, continues, declared, deeper, default_number, ends_in_block, filled, guarded, in_loop, in_switch, initialised, label_tests, last_in_block, leaving_unless, listed, loops_before, looped, parts_planned, planned, returned, round_of, rounded, started, stepped, stored_at, switched, tested}
+use Rattle.high_plan.specs.Values.{Valued, chosen, chosen_by_jumps, firm, in_block, is_changed, is_joint, is_leaf, is_variable, made}
+use Rattle.high_levels.specs.Conversions.{AllSingle, DeclarationSingle, FillingSized, InitialSingle, ItemsSingle, ObjectsSingle, OptionSingle, Single, StartSingle, StatementSingle}
 use Rattle.high_sizes.specs.Costs.{Rates, cost, cost_all}
 use Rattle.high_sizes.specs.Covers.{Covers}
-use Rattle.high_sizes.proofs.Pieces.{code_cost, cost-joined, firm_value, held_cost}
+use Rattle.high_sizes.proofs.Pieces.{cost-joined, firm_value, held_cost}
 use Rattle.high_sizes.proofs.Expressions.{effect_fits, unless_fits, value_fits}
 
 -- an expression is a node at least
 mutual
-  some_place : (calls : ℕ → ℕ) (place : c.Place) → 1 ≤ place_most calls place
+  pub some_place : (calls : ℕ → ℕ) (place : c.Place) → 1 ≤ place_most calls place
   some_place calls (c.Scalar object at) = omega arith
   some_place calls (c.Element array index at) = omega arith
   some_place calls (c.Within inner at) = omega arith
