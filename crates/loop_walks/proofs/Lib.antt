@@ -1,0 +1,6 @@
+pub mod LargerLemmas
+pub mod EachLemmas
+pub mod WalkLemmas
+pub mod TurnLemmas
+pub mod PairLemmas
+pub mod LevelLemmas
