@@ -1,0 +1,4 @@
+pub mod OffsetLemmas
+pub mod MoveLemmas
+pub mod StandingLemmas
+pub mod PlacedLemmas
