@@ -1,0 +1,4 @@
+pub mod Facts
+pub mod Main
+pub mod Planned
+pub mod Weights
