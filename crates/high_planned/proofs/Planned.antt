@@ -33,7 +33,7 @@ use Rattle.high_forms.specs.Forms.{ItemsAllowed}
 use Rattle.high_forms.specs.Programs.{BodiesAllowed, FunctionFormed, body_of, limits_in}
 use Rattle.high_forms.proofs.Programs.{functions_form, length_planned}
 use Rattle.high_levels.proofs.Statements.{body_below}
-use Rattle.high_numbers.specs.Numbers.{functions_loops}
+use Rattle.high_numbers.specs.Numbers.{FunctionsNumbered, functions_loops}
 use Rattle.high_numbers.proofs.Programs.{functions_count}
 use Rattle.high_sizes.specs.Programs.{functions_nodes}
 use Rattle.high_sizes.proofs.Programs.{functions_nodes_most}
@@ -189,3 +189,10 @@ unit_is_high names (Whole items at) passes shallow p is facts are =
 -- the plan of a source that fails no rule, is within the limits and at most 256 deep, and has facts
 pub planned_is_high : (names : List (List ℕ)) (program : typed.Program) (facts : Facts) → IsChecked names program facts → IsHigh (program_planned program facts (main_of program names))
 planned_is_high names program facts h = unit_is_high names h.unit h.passes h.shallow program h.program_is facts h.facts_are
+
+-- its typed tree numbers its loops in the order of the source
+unit_numbered : (names : List (List ℕ)) (unit : TranslationUnit ℕ) (p : typed.Program) → p ≡ typed_of names unit → FunctionsNumbered 0 p.functions
+unit_numbered names (Whole items at) p is = subst (λ q. FunctionsNumbered 0 q.functions) (sym is) (functions_numbered items (started (outline_of names (Whole items at))) [] refl tt)
+
+pub program_numbered : (names : List (List ℕ)) (program : typed.Program) (facts : Facts) → IsChecked names program facts → FunctionsNumbered 0 program.functions
+program_numbered names program facts h = unit_numbered names h.unit program h.program_is
