@@ -1,0 +1,15 @@
+-- A program that is the typed tree of a unit at which no rule fails.
+use Rattle.std.specs.Prelude.{◌≡◌, ℕ, [], None}
+use Rattle.c_tree.specs.Tree.{Row, External}
+use Rattle.c_typed.specs.Tree as typed
+use Rattle.c_rules.specs.Scope.{Outline, started}
+use Rattle.c_rules.specs.Sights.{after_external, definitions, externals_nodes, first_fault}
+use Rattle.c_rules.specs.Typing.{and_external, typed_row}
+use Rattle.high_layout.specs.Fronts.{behind, functions_of}
+
+pub record IsUnit (outline : Outline) (items : Row (External ℕ)) (program : typed.Program) : Type 0 where
+  pub faultless : first_fault (externals_nodes items (started outline)) ≡ None
+  pub listed : outline.definitions ≡ definitions items
+  pub items_are : program.items ≡ typed_row after_external and_external items (started outline) []
+  pub functions_are : program.functions ≡ functions_of items (started outline)
+  pub variables_are : program.variables ≡ (behind outline items).variables
