@@ -1,0 +1,9 @@
+pub mod Kept
+pub mod Widths
+pub mod Reading
+pub mod Elements
+pub mod Standing
+pub mod Values
+pub mod Shares
+pub mod Tests
+pub mod Passing
