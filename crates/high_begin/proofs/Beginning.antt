@@ -26,10 +26,10 @@ use Rattle.c_rules.specs.Typing.{and_external, and_object, filling_of, typed_ext
 use Rattle.high_plan.specs.Layouts.{Given, givens, givens_of, initial_words}
 use Rattle.high_plan.specs.Layouts as plans
 use Rattle.high_plan.specs.Operators.{kind_of}
-use Rattle.high_fit.specs.Growing.{Grows, statics}
-use Rattle.high_fit.proofs.Growing.{external_grows, grows_declared, grows_same, grows_then, slice_get-last}
+use Rattle.high_seen.specs.Growing.{Grows, statics}
+use Rattle.high_seen.proofs.Growing.{external_grows, grows_declared, grows_same, grows_then, slice_get-last}
 use Rattle.high_fit.proofs.Objects.{keeps_at}
-use Rattle.high_fit.proofs.Rules.{NoFault, faultless_first, faultless_second, parts_keep}
+use Rattle.high_seen.proofs.Rules.{NoFault, faultless_first, faultless_second, parts_keep}
 use Rattle.high_layout.specs.Fronts.{Definition, behind, ended_by, external_by}
 use Rattle.high_layout.specs.Layouts.{layout_of, signatures_of}
 use Rattle.high_layout.specs.Units.{IsUnit}

@@ -21,15 +21,15 @@ use Rattle.high_plan.specs.Programs.{end_of, function_planned, functions_planned
 use Rattle.high_calls.specs.Serves.{source_with}
 use Rattle.high_program.specs.Kept.{Begins, BeginsAlike}
 use Rattle.high_fit.specs.Places.{IsHandedOver, IsHome, IsParameterBase}
-use Rattle.high_fit.proofs.Rules.{no_rule, none_first, none_second}
+use Rattle.high_seen.proofs.Rules.{no_rule, none_first, none_second}
 use Rattle.high_layout.specs.Fronts.{Definition, IsFront, behind, external_by, function_by, functions_of}
 use Rattle.high_layout.specs.Layouts.{constant_by, constant_in, first_in, owner_of, parameters_in, rest_of, signatures_of}
 use Rattle.high_layout.specs.Units.{IsUnit}
 use Rattle.high_layout.proofs.Fronts.{among, front_faultless, front_less, part_faultless}
-use Rattle.high_layout.proofs.Known.{and3, keeps_head, named, none_listed}
+use Rattle.high_served.proofs.Known.{and3, keeps_head, named, none_listed}
 use Rattle.high_layout.proofs.Lists.{slice_get-behind, slice_get-some}
 use Rattle.high_layout.proofs.Placed.{is_passed_extent, memory_there, memory_within, placed, static_extent}
-use Rattle.high_layout.proofs.Served.{planned_at}
+use Rattle.high_served.proofs.Served.{planned_at}
 use Rattle.high_layout.proofs.Statics.{laid}
 use Rattle.high_layout.proofs.Trees.{not_broken, of_tree}
 use Rattle.std.specs.Prelude.{◌||◌, if◌then◌else◌, slice_get, slice_index_or, codes}
@@ -60,7 +60,7 @@ use Rattle.high_plan.specs.Layouts as plans
 use Rattle.high_plan.specs.Operators.{kind_of}
 use Rattle.high_kept.specs.Cells.{cell, size}
 use Rattle.high_kept.specs.Meets.{Holds, Layout, MeetsWorld, home, kind_at, type_in}
-use Rattle.high_fit.specs.Growing.{statics}
+use Rattle.high_seen.specs.Growing.{statics}
 use Rattle.high_layout.specs.Layouts.{is_constant_given, layout_of}
 use Rattle.high_begin.specs.Rows.{row_of}
 use Rattle.high_begin.proofs.Arrays.{array_at, array_of}

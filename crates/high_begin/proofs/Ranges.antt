@@ -28,8 +28,8 @@ use Rattle.high_plan.specs.Operators as plan
 use Rattle.high_kept.specs.Fits.{Function, Signatures, Suits, range_of}
 use Rattle.high_kept.specs.Meets.{Layout}
 use Rattle.high_kept.proofs.Operators.{converted-Word}
-use Rattle.high_fit.proofs.Expressions.{range_converted}
-use Rattle.high_fit.proofs.Widths.{conditional-Word, constant-Word, sign-Word, value-Word}
+use Rattle.high_seen.proofs.Expressions.{range_converted}
+use Rattle.high_seen.proofs.Widths.{conditional-Word, constant-Word, sign-Word, value-Word}
 use Rattle.high_begin.specs.Rows.{AreRanged, row_of}
 use Rattle.high_begin.proofs.Constants.{constant_range}
 use Rattle.high_begin.proofs.Forms.{one_part, value_form}

@@ -33,14 +33,14 @@ use Rattle.high_plan.specs.Operators as plan
 use Rattle.high_kept.specs.Fits.{Function, IsArrayHome, IsNamed, IsScalar, Signatures, Suits, range_of}
 use Rattle.high_kept.specs.Meets.{Layout, home, kind_at, type_in}
 use Rattle.high_flow.specs.Fits.{FillingFits, FitInitial, FitObjects, FitValue, FitValues, IsArrayObject, IsDeclared, among}
-use Rattle.high_fit.specs.Growing.{Grows}
-use Rattle.high_fit.specs.Seen.{Callable, IsObjectSeen, Knows, LivesAs, Sees}
+use Rattle.high_seen.specs.Growing.{Grows}
+use Rattle.high_seen.specs.Seen.{Callable, IsObjectSeen, Knows, LivesAs, Sees}
 use Rattle.high_fit.specs.Places.{AreBounds, IsHandedOver, IsHome, IsInFrame, IsInMemory, IsLaid, IsObjectBase, IsParameterBase, IsPlan, IsStored}
-use Rattle.high_fit.proofs.Rules.{NoFault, faultless_first, faultless_second, no_rule, none_first, none_second, not_when, parts_keep}
-use Rattle.high_fit.proofs.Names.{calls_first, calls_second}
-use Rattle.high_fit.proofs.Expressions.{calls_converted, fit_converted, fit_expr, range_converted, range_is}
-use Rattle.high_fit.proofs.Growing.{grows_declared, grows_same, grows_then, in_same, inside_declared, slice_get-last}
-use Rattle.high_fit.proofs.Seeing.{knows_before, sees_object, sees_same}
+use Rattle.high_seen.proofs.Rules.{NoFault, faultless_first, faultless_second, no_rule, none_first, none_second, not_when, parts_keep}
+use Rattle.high_seen.proofs.Names.{calls_first, calls_second}
+use Rattle.high_seen.proofs.Expressions.{calls_converted, fit_converted, fit_expr, range_converted, range_is}
+use Rattle.high_seen.proofs.Growing.{grows_declared, grows_same, grows_then, in_same, inside_declared, slice_get-last}
+use Rattle.high_seen.proofs.Seeing.{knows_before, sees_object, sees_same}
 use Rattle.high_fit.proofs.Loops.{bounds_first, bounds_row}
 
 abbrev is_passed_extent : Extent → Bool

@@ -20,14 +20,14 @@ use Rattle.high_plan.specs.Operators as plan
 use Rattle.high_kept.specs.Fits.{Fit, Function, Signatures}
 use Rattle.high_kept.specs.Meets.{Layout}
 use Rattle.high_flow.specs.Fits.{FitDeclaration, FitItems, FitOption, FitReturn, FitStart, FitStatement, block_declares, declares, start_declares, with_live}
-use Rattle.high_fit.specs.Growing.{Beside, Grows}
-use Rattle.high_fit.specs.Seen.{Callable}
+use Rattle.high_seen.specs.Growing.{Beside, Grows}
+use Rattle.high_seen.specs.Seen.{Callable}
 use Rattle.high_fit.specs.Places.{AreBounds, IsPlan}
-use Rattle.high_fit.proofs.Rules.{NoFault, faultless_first, faultless_second, parts_keep}
-use Rattle.high_fit.proofs.Names.{calls_first, calls_second}
-use Rattle.high_fit.proofs.Expressions.{calls_converted, fit_converted, fit_expr}
-use Rattle.high_fit.proofs.Growing.{beside, declaration_grows, grows_same, grows_then, in_entered, in_same, inside_items, inside_start}
-use Rattle.high_fit.proofs.Seeing.{knows_before, sees_entered, sees_routine, sees_same, sees_wider}
+use Rattle.high_seen.proofs.Rules.{NoFault, faultless_first, faultless_second, parts_keep}
+use Rattle.high_seen.proofs.Names.{calls_first, calls_second}
+use Rattle.high_seen.proofs.Expressions.{calls_converted, fit_converted, fit_expr}
+use Rattle.high_seen.proofs.Growing.{beside, declaration_grows, grows_same, grows_then, in_entered, in_same, inside_items, inside_start}
+use Rattle.high_seen.proofs.Seeing.{knows_before, sees_entered, sees_routine, sees_same, sees_wider}
 use Rattle.high_fit.proofs.Loops.{bounds_behind, bounds_first, bounds_items, bounds_second, loops_start, loops_statement}
 use Rattle.high_fit.proofs.Objects.{At, at_later, at_row, fit_objects, fit_value}
 

@@ -17,7 +17,7 @@ use Rattle.high_plan.specs.declared.home.Home.{Home}
 use Rattle.high_plan.specs.declared.home.Home.TheVariants.{Frame, Memory}
 use Rattle.high_kept.specs.Fits.{Signatures}
 use Rattle.high_kept.specs.Meets.{Layout, home}
-use Rattle.high_fit.specs.Seen.{Knows}
+use Rattle.high_seen.specs.Seen.{Knows}
 
 abbrev pub IsObjectBase : Base → Type 0
 IsObjectBase (Object n) = Unit {0}

@@ -2,9 +2,5 @@ pub mod Lists
 pub mod Homes
 pub mod Fronts
 pub mod Statics
-pub mod Known
 pub mod Placed
-pub mod Params
-pub mod Sites
-pub mod Served
 pub mod Trees

@@ -26,9 +26,9 @@ use Rattle.high_plan.specs.declared.home.Home.TheVariants.{Frame, Memory}
 use Rattle.high_plan.specs.Layouts.{Next, ahead, begun, firsts_of, home_by, homes_from, homes_of, next_by}
 use Rattle.high_plan.specs.Operators.{kind_of}
 use Rattle.high_kept.specs.Meets.{IsLayout, Layout, home, type_in}
-use Rattle.high_fit.specs.Growing.{statics, static_count}
+use Rattle.high_seen.specs.Growing.{statics, static_count}
 use Rattle.high_fit.specs.Places.{IsHome}
-use Rattle.high_fit.proofs.Growing.{external_grows, statics-append}
+use Rattle.high_seen.proofs.Growing.{external_grows, statics-append}
 use Rattle.high_layout.specs.Fronts.{Definition, IsFront, behind, ended_by, external_by, function_by, functions_of}
 use Rattle.high_layout.specs.Layouts.{layout_of, owner_of}
 use Rattle.high_layout.specs.Units.{IsUnit}

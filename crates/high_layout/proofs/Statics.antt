@@ -27,12 +27,12 @@ use Rattle.high_plan.specs.declared.home.Home.{Home}
 use Rattle.high_plan.specs.declared.home.Home.TheVariants.{Frame}
 use Rattle.high_kept.specs.Fits.{Formal, Function as Place}
 use Rattle.high_kept.specs.Meets.{Layout, home}
-use Rattle.high_fit.specs.Growing.{Grows, statics, static_count}
-use Rattle.high_fit.specs.Seen.{IsObjectSeen, LivesAs, Sees}
+use Rattle.high_seen.specs.Growing.{Grows, statics, static_count}
+use Rattle.high_seen.specs.Seen.{IsObjectSeen, LivesAs, Sees}
 use Rattle.high_fit.specs.Places.{IsHome, IsInMemory, IsLaid, IsStored}
-use Rattle.high_fit.proofs.Growing.{external_grows, grows_declared, grows_same, grows_then, innermost-push, slice_get-last, statics-append}
+use Rattle.high_seen.proofs.Growing.{external_grows, grows_declared, grows_same, grows_then, innermost-push, slice_get-last, statics-append}
 use Rattle.high_fit.proofs.Objects.{laid_kind, static_array, static_scalar}
-use Rattle.high_fit.proofs.Seeing.{sees_object, sees_routine, sees_same}
+use Rattle.high_seen.proofs.Seeing.{sees_object, sees_routine, sees_same}
 use Rattle.high_layout.specs.Fronts.{Definition, IsFront, behind, ended_by, external_by}
 use Rattle.high_layout.specs.Layouts.{constant_by, constant_in, constant_of, first_in, layout_of, owner_of, parameters_in}
 use Rattle.high_layout.proofs.Fronts.{defined_outer, file_level, inside_ended, object_outer, row_outer}

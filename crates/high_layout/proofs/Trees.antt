@@ -1,7 +1,6 @@
 -- A typed tree is that of a unit at which no rule fails.
 use Rattle.std.proofs.Common.{◌≡◌, refl, ap, sym, ℕ, List, Option, Some, None}
 use Rattle.std.proofs.lemmas.Option.{none-some}
-use Rattle.c_facts.specs.FlowFacts.{AreFacts}
 use Rattle.c_facts.specs.declared.facts.Facts.{Facts}
 use Rattle.c_rules.specs.Limits.{broken, limits_before, limits_behind, tally_unit, variables_of}
 use Rattle.c_rules.specs.Scope.{started}
@@ -10,16 +9,13 @@ use Rattle.c_rules.specs.declared.fault.Fault.{Fault}
 use Rattle.c_rules.specs.declared.fault.TypeFault.TheVariants.{Rule as BreaksRule}
 use Rattle.c_tree.specs.Size.{size_unit}
 use Rattle.c_tree.specs.Tree.{Row, External, TranslationUnit, Whole}
-use Rattle.c_types.specs.Typed.{CallsDefined, IsTypedTree, fault_behind, fault_of, typed_of}
+use Rattle.c_types.specs.Typed.{IsTypedTree, fault_behind, fault_of, typed_of}
 use Rattle.c_typed.specs.Tree as typed
-use Rattle.high_plan.specs.Programs.{program_planned}
 use Rattle.high_kept.specs.Meets.{IsLayout}
-use Rattle.high_calls.specs.Serves.{AllServe}
-use Rattle.high_fit.proofs.Rules.{none_first, none_second, parts_keep}
-use Rattle.high_layout.specs.Layouts.{layout_of, rest_of, signatures_of}
+use Rattle.high_seen.proofs.Rules.{none_first, none_second, parts_keep}
+use Rattle.high_layout.specs.Layouts.{layout_of}
 use Rattle.high_layout.specs.Units.{IsUnit}
 use Rattle.high_layout.proofs.Placed.{placed}
-use Rattle.high_layout.proofs.Served.{all_serve}
 
 pub not_broken : (o : Option Fault) → broken o ≡ None → o ≡ None
 not_broken None h = refl
@@ -59,10 +55,3 @@ pub is_layout : (names : List (List ℕ)) (program : typed.Program) (facts : Fac
 is_layout names program facts tree =
     let u = of_tree names program tree in
     placed (outline_of names (Whole u.items u.at)) u.items program facts u.is_unit
-
--- each function of a well-typed program is served by its plan
-pub serves : (names : List (List ℕ)) (program : typed.Program) (facts : Facts) (main : ℕ) → IsTypedTree names program → CallsDefined program → AreFacts program names facts →
-    AllServe (layout_of program facts) (signatures_of program) (rest_of program facts) (program_planned program facts main).functions
-serves names program facts main tree calls are =
-    let u = of_tree names program tree in
-    all_serve names (outline_of names (Whole u.items u.at)) u.items program facts u.is_unit are calls main

@@ -17,7 +17,7 @@ use Rattle.high_plan.specs.Operators.{kind_of}
 use Rattle.high_kept.specs.Fits.{Formal, OfWord, OfArray, Signatures}
 use Rattle.high_kept.specs.Meets.{Layout}
 use Rattle.high_flow.specs.Flows.{Rest}
-use Rattle.high_fit.specs.Growing.{statics}
+use Rattle.high_seen.specs.Growing.{statics}
 
 -- what a call hands over for a parameter of a definition
 abbrev pub formal_of : List Specifier → c.Shape → Formal

@@ -16,8 +16,8 @@ use Rattle.high_plan.specs.Operators.{kind_of}
 use Rattle.high_plan.specs.Values.{array_named}
 use Rattle.high_kept.specs.Fits.{Function, IsArgument, IsArrayHome, IsScalar}
 use Rattle.high_kept.specs.Meets.{Layout, home, kind_at}
-use Rattle.high_fit.specs.Seen.{Callable, HasType, IsObjectSeen, IsSeen, Sees}
-use Rattle.high_fit.proofs.Widths.{same_types}
+use Rattle.high_seen.specs.Seen.{Callable, HasType, IsObjectSeen, IsSeen, Sees}
+use Rattle.high_seen.proofs.Widths.{same_types}
 
 pub among-first : (g : ℕ) (xs ys : List ℕ) → Among g xs → Among g (xs ++ ys)
 among-first g [] ys h = absurd h

@@ -23,7 +23,7 @@ use Rattle.high_fit.proofs.Loops.{bounds_first, bounds_second, loops_declaration
 use Rattle.high_layout.specs.Fronts.{Definition, IsFront, begun_by, behind, ended_by, external_by, function_by, functions_of}
 use Rattle.high_layout.specs.Units.{IsUnit}
 use Rattle.high_layout.proofs.Fronts.{among, front_faultless, front_itself, front_less, is_nothing}
-use Rattle.high_layout.proofs.Known.{named}
+use Rattle.high_served.proofs.Known.{named}
 use Rattle.high_layout.proofs.Lists.{slice_get-behind}
 
 -- facts of a program have the bounds that its sites give

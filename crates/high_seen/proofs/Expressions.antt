@@ -36,10 +36,10 @@ use Rattle.high_plan.specs.Operators as plan
 use Rattle.high_plan.specs.Values.{array_named}
 use Rattle.high_kept.specs.Fits.{Fit, FitArguments, FitPlace, Formal, OfArray, Function, IsCallable, Signatures, Suits, call_kind, place_constant, place_kind, range_of}
 use Rattle.high_kept.specs.Meets.{Layout}
-use Rattle.high_fit.specs.Seen.{Callable, IsKnown, IsSeen, Knows, Sees, formal_by, formals}
-use Rattle.high_fit.proofs.Rules.{NoFault, faultless_first, faultless_second, keeps_rules, parts_keep}
-use Rattle.high_fit.proofs.Widths.{conditional-Word, constant-Word, or_int-kind, same_types, sign-Word, value-Word}
-use Rattle.high_fit.proofs.Names.{IsArrayHere, among-second, type_by, IsScalarHere, array_argument, array_here, calls_first, calls_second, drop_at_item, scalar_here, seen_by}
+use Rattle.high_seen.specs.Seen.{Callable, IsKnown, IsSeen, Knows, Sees, formal_by, formals}
+use Rattle.high_seen.proofs.Rules.{NoFault, faultless_first, faultless_second, keeps_rules, parts_keep}
+use Rattle.high_seen.proofs.Widths.{conditional-Word, constant-Word, or_int-kind, same_types, sign-Word, value-Word}
+use Rattle.high_seen.proofs.Names.{IsArrayHere, among-second, type_by, IsScalarHere, array_argument, array_here, calls_first, calls_second, drop_at_item, scalar_here, seen_by}
 
 -- of a value of this type
 abbrev RangeIs : Layout → Signatures → typed.Expr → CType → Type 0

@@ -38,24 +38,24 @@ use Rattle.high_kept.specs.Fits.{Formal, OfWord, OfArray, Function, Signatures}
 use Rattle.high_kept.specs.Meets.{Layout, home, type_in}
 use Rattle.high_flow.specs.Fits.{FitItems, block_declares, with_live}
 use Rattle.high_calls.specs.Serves.{AllServe, AreParameters, FunctionServed, IsServed, are_from, arrays_in, at_entry, out_of_body, words_in}
-use Rattle.high_fit.specs.Growing.{Grows, statics}
+use Rattle.high_seen.specs.Growing.{Grows, statics}
 use Rattle.high_fit.specs.Places.{IsHome, IsPlan, IsStored}
-use Rattle.high_fit.specs.Seen.{IsObjectSeen, Sees}
-use Rattle.high_fit.proofs.Growing.{grows_object, grows_same, grows_then, in_entered, in_same, inside_param, row_inside, slice_get-last}
-use Rattle.high_fit.proofs.Names.{among-second}
+use Rattle.high_seen.specs.Seen.{IsObjectSeen, Sees}
+use Rattle.high_seen.proofs.Growing.{grows_object, grows_same, grows_then, in_entered, in_same, inside_param, row_inside, slice_get-last}
+use Rattle.high_seen.proofs.Names.{among-second}
 use Rattle.high_fit.proofs.Objects.{At, laid_kind, lives_as}
-use Rattle.high_fit.proofs.Seeing.{knows_before, sees_entered, sees_object, sees_routine, sees_same, sees_wider}
+use Rattle.high_seen.proofs.Seeing.{knows_before, sees_entered, sees_object, sees_routine, sees_same, sees_wider}
 use Rattle.high_fit.proofs.Statements.{fit_items}
 use Rattle.high_layout.specs.Fronts.{Definition, IsDefined, IsFront, begun_by, behind, ended_by, external_by, function_by, functions_of}
 use Rattle.high_layout.specs.Layouts.{constant_by, constant_in, constant_of, first_in, formal_of, formals_of, is_constant_formal, layout_of, owner_of, parameters_in, rest_of, result_in, signatures_of}
 use Rattle.high_layout.specs.Units.{IsUnit}
 use Rattle.high_layout.proofs.Fronts.{IsAmong, among, begun_block, defined, front_grows, front_less, items_behind, inside_begun, part_faultless}
 use Rattle.high_layout.proofs.Homes.{AreOwn, frame_within, plain_homes}
-use Rattle.high_layout.proofs.Known.{body_faultless, knows}
+use Rattle.high_served.proofs.Known.{body_faultless, knows}
 use Rattle.high_layout.proofs.Lists.{extended, slice_get-before, slice_get-behind}
-use Rattle.high_layout.proofs.Params.{AddList, Match, add_list, arrays_counted, match_length, named_count, parameters_stand, words_counted}
+use Rattle.high_served.proofs.Params.{AddList, Match, add_list, arrays_counted, match_length, named_count, parameters_stand, words_counted}
 use Rattle.high_layout.proofs.Placed.{length-homes, own_at, owned_by, there_by}
-use Rattle.high_layout.proofs.Sites.{bounds_are, bounds_body}
+use Rattle.high_served.proofs.Sites.{bounds_are, bounds_body}
 use Rattle.high_layout.proofs.Statics.{HaveGivens, home_at, laid, sees_front}
 
 -- what a call of a function hands over, from a parameter on

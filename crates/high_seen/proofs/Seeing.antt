@@ -16,10 +16,10 @@ use Rattle.high_ir.specs.declared.object.Base.{Base}
 use Rattle.high_ir.specs.declared.object.Base.TheVariants.{Object, Parameter}
 use Rattle.high_kept.specs.Fits.{Function, IsArrayHome, IsNamed, IsScalar, Signatures}
 use Rattle.high_kept.specs.Meets.{Layout, home}
-use Rattle.high_fit.specs.Growing.{Grows}
-use Rattle.high_fit.specs.Seen.{HasType, IsKnown, IsObjectSeen, IsSeen, Knows, LivesAs, Sees}
-use Rattle.high_fit.proofs.Growing.{grows_routine}
-use Rattle.high_fit.proofs.Names.{seen_by, type_by}
+use Rattle.high_seen.specs.Growing.{Grows}
+use Rattle.high_seen.specs.Seen.{HasType, IsKnown, IsObjectSeen, IsSeen, Knows, LivesAs, Sees}
+use Rattle.high_seen.proofs.Growing.{grows_routine}
+use Rattle.high_seen.proofs.Names.{seen_by, type_by}
 
 -- a name in a scope in which another was bound last
 lookup_bound : (scope : Scope) (n : ℕ) (b : Binding) (name : ℕ) (c : Binding) → lookup (nat_eq name) (bound scope n b) ≡ Some c → ((name ≡ n) × (b ≡ c)) ⊎ (lookup (nat_eq name) scope ≡ Some c)

@@ -21,10 +21,10 @@ use Rattle.high_plan.specs.Programs.{named_params}
 use Rattle.high_kept.specs.Fits.{Formal, OfWord, OfArray}
 use Rattle.high_kept.specs.Meets.{Layout, home, kind_at}
 use Rattle.high_calls.specs.Serves.{AreParameters, arrays_in, words_in}
-use Rattle.high_fit.proofs.Growing.{in_same, inside_param, row_inside}
+use Rattle.high_seen.proofs.Growing.{in_same, inside_param, row_inside}
 use Rattle.high_layout.specs.Layouts.{formal_of, formals_of}
 use Rattle.high_layout.proofs.Homes.{plain_homes}
-use Rattle.high_layout.proofs.Known.{none_listed}
+use Rattle.high_served.proofs.Known.{none_listed}
 
 -- the objects of parameters, one behind the other
 abbrev pub Match : List Formal → List Variable → Type 0

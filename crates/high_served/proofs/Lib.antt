@@ -1,0 +1,5 @@
+pub mod Known
+pub mod Params
+pub mod Sites
+pub mod Served
+pub mod Programs
