@@ -1,5 +1,5 @@
 -- Statements one after another, as the code keeps them and as the views have them.
-use Rattle.std.proofs.Common.{◌≡◌, ℕ, suc, List, [], ◌∷◌, ◌++◌, length, Bool, true, false, refl, sym, ap, ◌∙◌, subst, arith}
+use Rattle.std.proofs.Common.{◌≡◌, ℕ, suc, List, [], ◌∷◌, ◌++◌, length, true, false, refl, sym, ap, ◌∙◌, subst, arith}
 use Rattle.std.specs.Prelude.{Vec, ◌==◌}
 use Rattle.std.specs.Global.{Global}
 use Rattle.high_ir.proofs.Rows.{statement_of-Seq}

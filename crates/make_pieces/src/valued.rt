@@ -1,5 +1,5 @@
 // Code, and the value that it leaves.
-ghost use Rattle.std.specs.Prelude.{◌≡◌, IfNone, IfOk, IfSome, Ok, false, true};
+ghost use Rattle.std.specs.Prelude.{◌≡◌, IfNone, IfOk, IfSome, false, true};
 ghost use Rattle.make_pieces.specs.View.{code_of, is_loose, leaf_expr, steady_of, valued_of};
 ghost use Rattle.high_code.specs.Code.{alone, joined, nothing};
 ghost use Rattle.high_ir.specs.Tree.{Leave};
@@ -57,20 +57,6 @@ impl Valued {
         Valued {
             code: Code::new(alloc),
             value: Expr::Constant(word),
-        }
-    }
-
-    /// Code, with the value that was made of the value that it leaves.
-    pub fn with(code: Code, value: Result<Expr, Memory>) -> Result<Valued, Memory>
-        ensures code { IfOk result (λ v. code_of v.code ≡ code_of code) }
-        ensures value { IfOk result (λ v. value ≡ Ok v.value) }
-    {
-        match value {
-            Ok(value) => Ok(Valued { code, value }),
-            Err(memory) => {
-                code.let_go();
-                Err(memory)
-            }
         }
     }
 
