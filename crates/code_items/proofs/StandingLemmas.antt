@@ -14,11 +14,11 @@ use Rattle.rv_core.specs.Images.{Image, IsSegment, AreSegments, Apart, ApartFrom
 use Rattle.rv_core.specs.Memory.{block_of, loaded, holds_span, number_at, read_from}
 use Rattle.rv_core.specs.Machine.{fetched}
 use Rattle.rv_core.specs.Runs.{sets_upper}
-use Rattle.rv_core.specs.Code.{decoded, instruction_in}
+use Rattle.rv_core.specs.Code.{decoded}
 use Rattle.rv_core.proofs.Encoding.{row-small, fields-small, decode_of-word_of}
 use Rattle.rv_core.proofs.Framing.{block_of-length}
 use Rattle.code_items.specs.Items.{in_rows}
-use Rattle.code_items.specs.Standing.{IsCodeOf, StandsIn, links_none, IsAllCode, LinksNone}
+use Rattle.code_items.specs.Standing.{IsCodeOf, StandsIn, links_none, LinksNone}
 
 pack_small : (w : Fields) → AreFields w → pack w < 2 ^ 32
 unfolding pack

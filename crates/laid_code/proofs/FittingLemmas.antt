@@ -1,7 +1,7 @@
 -- The loops and functions of laid code fit its flow system.
-use Rattle.std.proofs.Common.{◌≡◌, ◌≢◌, ◌⊎◌, ⊎_elim, inl, inr, ℕ, zero, suc, ◌+◌, ◌≤◌, ◌<◌, Bool, true, false, List, [], ◌∷◌, All, Contains, Option, Some, refl, sym, ap, ◌∙◌, subst, arith}
+use Rattle.std.proofs.Common.{◌≡◌, ◌≢◌, ◌⊎◌, ⊎_elim, inl, inr, ℕ, zero, suc, ◌+◌, ◌≤◌, ◌<◌, Bool, true, false, List, [], ◌∷◌, All, Contains, sym, ap, ◌∙◌, subst, arith}
 use Rattle.std.specs.Prelude.{◌==◌, if◌then◌else◌}
-use Rattle.std.proofs.lemmas.Bool.{cases_eq, cases_Bool}
+use Rattle.std.proofs.lemmas.Bool.{cases_eq}
 use Rattle.std.proofs.lemmas.Bool.Decides.{leb_tells, nat_tests}
 use Rattle.std.proofs.lemmas.List.Elements.{All-nil, All-cons, All-head, All-tail, All-weaker, All-contains_itself}
 use Rattle.rv_core.specs.Images.{Image}
@@ -14,10 +14,9 @@ use Rattle.flow_system.specs.Reach.{IsReached}
 use Rattle.flow_system.specs.Systems.{System, moves_from, IsSystemOf}
 use Rattle.flow_system.specs.Shapes.{AreShapesOf, IsInLoop, AreNested, AreAllNested, EntersAtHeader, IsLoop, onward, is_back, GoesUp, IsInSpan, AreApart, AreAllApart, IsInOne, StaysIn, BeginsEarlier, CallsEarlier, Fits}
 use Rattle.code_items.specs.Placings.{Placing, start_of, end_of}
-use Rattle.code_items.specs.Outcomes.{GoesWell, CallsWell}
 use Rattle.laid_code.specs.Graphs.{Loop, Graph}
 use Rattle.laid_code.specs.Laid.{IsShapeOf, IsShapeIn, AreShapes, span_of, spans_from, last_of, IsImageOf}
-use Rattle.laid_code.proofs.WayLemmas.{one_of, IsGood}
+use Rattle.laid_code.proofs.WayLemmas.{one_of}
 use Rattle.laid_code.proofs.ReachedLemmas.{IsSomeWord, reached, callee_in, moves_good}
 use Rattle.laid_code.proofs.RangeLemmas.{Known, Well, RangesNest, known_start, in_function, one_function, block_range, latch_in, header_in, ranged, goes_into, stays_in, ranges_nest}
 use Rattle.laid_code.proofs.BackLemmas.{jumps_back, goes_up}

@@ -1,12 +1,12 @@
 -- Placed items are laid code.
-use Rattle.std.proofs.Common.{◌≡◌, ◌⊎◌, ⊎_elim, inl, inr, ℕ, zero, suc, ◌+◌, ◌%◌, ◌^◌, ◌≤◌, ◌<◌, List, [], ◌∷◌, length, refl, sym, ap, ◌∙◌, subst, arith}
+use Rattle.std.proofs.Common.{◌≡◌, ◌⊎◌, ⊎_elim, inl, inr, ℕ, zero, suc, ◌+◌, ◌%◌, ◌^◌, ◌≤◌, ◌<◌, List, [], ◌∷◌, length, refl, sym, subst, arith}
 use Rattle.std.specs.Prelude.{slice_index, slice_index_or}
 use Rattle.std.proofs.lemmas.Bool.Decides.{leb_tells}
 use Rattle.flow_system.specs.Moves.{Code}
 use Rattle.code_items.specs.declared.item.Item.{Item}
 use Rattle.code_items.specs.Offsets.{IsCodeAddress}
-use Rattle.code_items.specs.Items.{size, total}
-use Rattle.code_items.specs.Placings.{Blocks, Placing, starts_from, blocks_size, blocks_of, block_of, base_of, start_of, end_of}
+use Rattle.code_items.specs.Items.{total}
+use Rattle.code_items.specs.Placings.{Blocks, Placing, starts_from, blocks_size, blocks_of, block_of, base_of, start_of}
 use Rattle.code_items.proofs.MoveLemmas.{size_aligned}
 use Rattle.code_items.proofs.PlacedLemmas.{items_stand, block_stands}
 use Rattle.laid_code.specs.Graphs.{Graph, IsShaped}

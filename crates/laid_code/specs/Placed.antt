@@ -1,5 +1,5 @@
 -- A program's items that are placed in the code of an image.
-use Rattle.std.specs.Prelude.{◌≡◌, ◌≢◌, ◌⊎◌, ℕ, ◌%◌, ◌^◌, ◌<◌, ◌≤◌, Bool, false, List, [], ◌∷◌, length, Contains}
+use Rattle.std.specs.Prelude.{◌≡◌, ◌≢◌, ◌⊎◌, ℕ, ◌%◌, ◌^◌, ◌<◌, ◌≤◌, Bool, false, [], ◌∷◌, length, Contains}
 use Rattle.rv_core.specs.Runs.{sets_upper}
 use Rattle.flow_system.specs.Moves.{Code}
 use Rattle.code_items.specs.declared.item.Item.TheVariants.{Jump}
