@@ -29,7 +29,8 @@ use Rattle.high_loops.specs.Loops.{Planned, functions_loops}
 use Rattle.high_program.specs.Kept.{same_mark}
 use Rattle.high_program.proofs.Main.{kept_runs}
 use Rattle.high_layout.specs.Layouts.{layout_of, rest_of, signatures_of}
-use Rattle.high_layout.proofs.Trees.{is_layout, serves}
+use Rattle.high_layout.proofs.Trees.{is_layout}
+use Rattle.high_served.proofs.Programs.{serves}
 use Rattle.high_begin.proofs.Begins.{begins}
 use Rattle.high_carried.specs.Sources.{loop_entry, planned_listing, source_behaviour, source_marks, source_shown}
 use Rattle.high_carried.proofs.Carried.{carried}
