@@ -1,0 +1,4 @@
+pub mod GraphLemmas
+pub mod KeepLemmas
+pub mod SizeLemmas
+pub mod ItemLemmas

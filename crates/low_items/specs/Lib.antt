@@ -1,0 +1,7 @@
+pub mod Numbers
+pub mod Frames
+pub mod Operands
+pub mod Emission
+pub mod Functions
+pub mod Formed
+pub mod Laws

@@ -1,0 +1,41 @@
+//! The items of a program in the low form over places: the code of each instruction, of blocks, of functions
+//! and of the start.
+//!
+//! `specs/` is to be read in this order: which machine registers are used, and how words and addresses stand
+//! in immediates (`Numbers`); frames, one place in RAM for each function (`Frames`); how operands come into
+//! registers and results to their places (`Operands`); the code of instructions and calls (`Emission`); of
+//! blocks, functions and the start, and the graph that they keep to (`Functions`); what is taken from the
+//! form of the program (`Formed`).
+//!
+//! A function saves, at its entry, the registers that it changes and others need, and loads them before it
+//! returns; a call saves those that it keeps and passes arguments in. An argument goes straight into the
+//! callee's register where no later one reads that, and else through a word of the callee's frame.
+//!
+//! Proved, each by a call with an empty body: [`graphs_are_shaped`], that the graph is reducible and calls go
+//! to lower numbers; [`items_keep`], that each block's items keep to it; [`latches_jump`], that a loop's latch
+//! is its one jump back; [`code_has_room`], that no instruction takes more than its room.
+//!
+//! The crate knows no addresses of code and no machine's runs.
+#![tactic(auto)]
+
+ghost use Rattle.low_items.specs.Laws.{GraphsAreShaped, ItemsKeep, LatchesJump, CodeHasRoom};
+
+/// The graph of a program's items is reducible, and its calls go to lower numbers.
+pub fn graphs_are_shaped()
+    ensures { GraphsAreShaped }
+{}
+
+/// Each block has items, and they keep to the graph.
+pub fn items_keep()
+    ensures { ItemsKeep }
+{}
+
+/// The items of a loop's latch are one jump back to its header.
+pub fn latches_jump()
+    ensures { LatchesJump }
+{}
+
+/// No instruction that goes on takes more machine instructions than its room.
+pub fn code_has_room()
+    ensures { CodeHasRoom }
+{}
