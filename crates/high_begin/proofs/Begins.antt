@@ -12,7 +12,7 @@ use Rattle.c_rules.specs.Specifiers.{kind_spelled}
 use Rattle.c_rules.specs.declared.fault.Rule.TheVariants as rules
 use Rattle.c_tree.specs.Size.{size_unit}
 use Rattle.c_tree.specs.Tree.{Row, Nothing, Then, External, Restriction, Declaring, Function, Whole}
-use Rattle.c_types.specs.Typed.{IsTypedTree, fault_behind}
+use Rattle.c_types.specs.Typed.{fault_behind}
 use Rattle.c_value.specs.Kinds.{same_kind}
 use Rattle.c_value.specs.declared.kind.Kind.TheVariants.{Int}
 use Rattle.high_ir.specs.declared.object.Kind.{Kind}
@@ -24,7 +24,7 @@ use Rattle.high_fit.specs.Places.{IsHandedOver, IsHome, IsParameterBase}
 use Rattle.high_seen.proofs.Rules.{no_rule, none_first, none_second}
 use Rattle.high_layout.specs.Fronts.{Definition, IsFront, behind, external_by, function_by, functions_of}
 use Rattle.high_layout.specs.Layouts.{constant_by, constant_in, first_in, owner_of, parameters_in, rest_of, signatures_of}
-use Rattle.high_layout.specs.Units.{IsUnit}
+use Rattle.high_layout.specs.Units.{HasTree, IsUnit}
 use Rattle.high_layout.proofs.Fronts.{among, front_faultless, front_less, part_faultless}
 use Rattle.high_served.proofs.Known.{and3, keeps_head, named, none_listed}
 use Rattle.high_layout.proofs.Lists.{slice_get-behind, slice_get-some}
@@ -276,7 +276,7 @@ is_found : (b : Bool) → (if b then None else Some rules.Main) ≡ None → b �
 is_found true h = refl
 is_found false h = absurd (none-some rules.Main (sym h))
 
-pub begins : (names : List (List ℕ)) (program : typed.Program) (facts : Facts) → IsTypedTree names program → AreFacts program names facts →
+pub begins : (names : List (List ℕ)) (program : typed.Program) (facts : Facts) → HasTree names program → AreFacts program names facts →
     Begins (layout_of program facts) (signatures_of program) (rest_of program facts) (program_planned program facts (main_of program names)) (source_runs.start program (length facts.markers))
 begins names program facts tree are =
     let u = of_tree names program tree in

@@ -1,16 +1,16 @@
 -- The plan of a source carries it.
-use Rattle.std.proofs.Common.{◌≡◌, ℕ, ◌+◌, ◌≤◌, List, [], ◌∷◌, ◌++◌, length, refl, sym, ◌∙◌, subst, arith, All}
+use Rattle.std.proofs.Common.{◌≡◌, ℕ, ◌+◌, ◌≤◌, List, [], ◌∷◌, ◌++◌, None, length, refl, sym, ◌∙◌, subst, arith, All}
 use Rattle.std.specs.List.{range_with_len}
 use Rattle.std.specs.Prelude.{get_or, sum_by}
 use Rattle.std.proofs.lemmas.List.Elements.{All-cons, All-map, All-nil}
 use Rattle.std.proofs.lemmas.List.Sums.{sum_by-cons}
-use Rattle.c_facts.specs.FlowFacts.{AreFacts, main_of}
+use Rattle.c_facts.specs.FlowFacts.{main_of}
 use Rattle.c_facts.specs.declared.facts.Facts.{Facts}
 use Rattle.c_semantics.specs.Runs.{start}
-use Rattle.c_tree.specs.Size.{size_unit}
 use Rattle.c_tree.specs.Tree.{TranslationUnit, Whole}
 use Rattle.c_typed.specs.Tree.{Program}
-use Rattle.c_types.specs.Typed.{CallsDefined, IsTypedTree, typed_of}
+use Rattle.c_types.specs.Typed.{CallsDefined, fault_of, typed_of}
+use Rattle.c_types.proofs.Seals.{calls_defined}
 use Rattle.c_rules.specs.Scope.{started}
 use Rattle.c_rules.specs.Sights.{outline_of}
 use Rattle.high_ir.specs.Runs.{hrun}
@@ -29,6 +29,7 @@ use Rattle.high_loops.specs.Loops.{Planned, functions_loops}
 use Rattle.high_program.specs.Kept.{same_mark}
 use Rattle.high_program.proofs.Main.{kept_runs}
 use Rattle.high_layout.specs.Layouts.{layout_of, rest_of, signatures_of}
+use Rattle.high_layout.specs.Units.{HasTree}
 use Rattle.high_layout.proofs.Trees.{is_layout}
 use Rattle.high_served.proofs.Programs.{serves}
 use Rattle.high_begin.proofs.Begins.{begins}
@@ -39,19 +40,22 @@ use Rattle.high_law.specs.Plans.{KeepsSource}
 numbered : (names : List (List ℕ)) (unit : TranslationUnit ℕ) → FunctionsNumbered 0 (typed_of names unit).functions
 numbered names (Whole items at) = functions_numbered items (started (outline_of names (Whole items at))) [] refl tt
 
-module _ (names : List (List ℕ)) (program : Program) (facts : Facts) (tree : IsTypedTree names program) (shallow : (size_unit tree.unit).depth ≤ 256) (calls : CallsDefined program) (are : AreFacts program names facts) where
-  checked : IsChecked names program facts
-  checked = record { unit = tree.unit; passes = tree.passes; program_is = tree.program_is; shallow = shallow; facts_are = are }
+calls : (names : List (List ℕ)) (unit : TranslationUnit ℕ) → fault_of names unit ≡ None → CallsDefined (typed_of names unit)
+calls names (Whole items at) passes = calls_defined names items at passes
+
+module _ (names : List (List ℕ)) (program : Program) (facts : Facts) (checked : IsChecked names program facts) where
+  tree : HasTree names program
+  tree = record { unit = checked.unit; passes = checked.passes; program_is = checked.program_is }
 
   -- each kept run is a good run of the plan, and shows the same
   pub runs_alike : (input : List ℕ) → RunsAlike (planned_listing program facts) (source_shown program names facts input) (hrun (program_planned program facts (main_of program names)) input)
   runs_alike input =
       kept_runs (layout_of program facts) (is_layout names program facts tree) (signatures_of program) (rest_of program facts) (program_planned program facts (main_of program names))
-      (serves names program facts (main_of program names) tree calls are) (λ bytes. start program (length facts.markers) bytes) (begins names program facts tree are) (facts.functions ++ facts.markers) facts.restrictions (planned_listing program facts) refl refl input
+      (serves names program facts (main_of program names) tree (subst CallsDefined (sym checked.program_is) (calls names checked.unit checked.passes)) checked.facts_are) (λ bytes. start program (length facts.markers) bytes) (begins names program facts tree checked.facts_are) (facts.functions ++ facts.markers) facts.restrictions (planned_listing program facts) refl refl input
 
   pub planned_carries : Carries (source_behaviour program names facts) (program_planned program facts (main_of program names)) (planned_listing program facts)
   planned_carries =
-      carried program names facts (planned_is_high names program facts checked) (subst (λ p. FunctionsNumbered 0 p.functions) (sym tree.program_is) (numbered names tree.unit)) runs_alike
+      carried program names facts (planned_is_high names program facts checked) (subst (λ p. FunctionsNumbered 0 p.functions) (sym checked.program_is) (numbered names checked.unit)) runs_alike
 
   alone_sum : (f : ℕ → ℕ) (m : ℕ) → sum_by f (m ∷ []) ≡ f m
   alone_sum f m = sum_by-cons f m [] ∙ none (f m)

@@ -9,12 +9,12 @@ use Rattle.c_rules.specs.declared.fault.Fault.{Fault}
 use Rattle.c_rules.specs.declared.fault.TypeFault.TheVariants.{Rule as BreaksRule}
 use Rattle.c_tree.specs.Size.{size_unit}
 use Rattle.c_tree.specs.Tree.{Row, External, TranslationUnit, Whole}
-use Rattle.c_types.specs.Typed.{IsTypedTree, fault_behind, fault_of, typed_of}
+use Rattle.c_types.specs.Typed.{fault_behind, fault_of, typed_of}
 use Rattle.c_typed.specs.Tree as typed
 use Rattle.high_kept.specs.Meets.{IsLayout}
 use Rattle.high_seen.proofs.Rules.{none_first, none_second, parts_keep}
 use Rattle.high_layout.specs.Layouts.{layout_of}
-use Rattle.high_layout.specs.Units.{IsUnit}
+use Rattle.high_layout.specs.Units.{HasTree, IsUnit}
 use Rattle.high_layout.proofs.Placed.{placed}
 
 pub not_broken : (o : Option Fault) → broken o ≡ None → o ≡ None
@@ -28,7 +28,7 @@ pub record OfUnit (names : List (List ℕ)) (program : typed.Program) : Type 0 w
   pub is_unit : IsUnit (outline_of names (Whole items at)) items program
   pub passes : fault_of names (Whole items at) ≡ None
 
-pub of_tree : (names : List (List ℕ)) (program : typed.Program) → IsTypedTree names program → OfUnit names program
+pub of_tree : (names : List (List ℕ)) (program : typed.Program) → HasTree names program → OfUnit names program
 of_tree names program tree = of tree.unit tree.passes tree.program_is
   where
     of : (unit : TranslationUnit ℕ) → fault_of names unit ≡ None → program ≡ typed_of names unit → OfUnit names program
@@ -51,7 +51,7 @@ of_tree names program tree = of tree.unit tree.passes tree.program_is
         }
 
 -- no two objects of a well-typed program live at one place
-pub is_layout : (names : List (List ℕ)) (program : typed.Program) (facts : Facts) → IsTypedTree names program → IsLayout (layout_of program facts)
+pub is_layout : (names : List (List ℕ)) (program : typed.Program) (facts : Facts) → HasTree names program → IsLayout (layout_of program facts)
 is_layout names program facts tree =
     let u = of_tree names program tree in
     placed (outline_of names (Whole u.items u.at)) u.items program facts u.is_unit

@@ -1,11 +1,18 @@
 -- A program that is the typed tree of a unit at which no rule fails.
-use Rattle.std.specs.Prelude.{◌≡◌, ℕ, [], None}
-use Rattle.c_tree.specs.Tree.{Row, External}
+use Rattle.std.specs.Prelude.{◌≡◌, ℕ, List, [], None}
+use Rattle.c_tree.specs.Tree.{Row, External, TranslationUnit}
 use Rattle.c_typed.specs.Tree as typed
+use Rattle.c_types.specs.Typed.{fault_of, typed_of}
 use Rattle.c_rules.specs.Scope.{Outline, started}
 use Rattle.c_rules.specs.Sights.{after_external, definitions, externals_nodes, first_fault}
 use Rattle.c_rules.specs.Typing.{and_external, typed_row}
 use Rattle.high_layout.specs.Fronts.{behind, functions_of}
+
+-- a program is the typed tree of a unit that fails no rule and is within the limits
+pub record HasTree (names : List (List ℕ)) (program : typed.Program) : Type 0 where
+  pub unit : TranslationUnit ℕ
+  pub passes : fault_of names unit ≡ None
+  pub program_is : program ≡ typed_of names unit
 
 pub record IsUnit (outline : Outline) (items : Row (External ℕ)) (program : typed.Program) : Type 0 where
   pub faultless : first_fault (externals_nodes items (started outline)) ≡ None

@@ -4,16 +4,17 @@ use Rattle.c_facts.specs.FlowFacts.{AreFacts}
 use Rattle.c_facts.specs.declared.facts.Facts.{Facts}
 use Rattle.c_rules.specs.Sights.{outline_of}
 use Rattle.c_tree.specs.Tree.{Whole}
-use Rattle.c_types.specs.Typed.{CallsDefined, IsTypedTree}
+use Rattle.c_types.specs.Typed.{CallsDefined}
 use Rattle.c_typed.specs.Tree as typed
 use Rattle.high_plan.specs.Programs.{program_planned}
 use Rattle.high_calls.specs.Serves.{AllServe}
 use Rattle.high_layout.specs.Layouts.{layout_of, rest_of, signatures_of}
+use Rattle.high_layout.specs.Units.{HasTree}
 use Rattle.high_layout.proofs.Trees.{of_tree}
 use Rattle.high_served.proofs.Served.{all_serve}
 
 -- each function of a well-typed program is served by its plan
-pub serves : (names : List (List ℕ)) (program : typed.Program) (facts : Facts) (main : ℕ) → IsTypedTree names program → CallsDefined program → AreFacts program names facts →
+pub serves : (names : List (List ℕ)) (program : typed.Program) (facts : Facts) (main : ℕ) → HasTree names program → CallsDefined program → AreFacts program names facts →
     AllServe (layout_of program facts) (signatures_of program) (rest_of program facts) (program_planned program facts main).functions
 serves names program facts main tree calls are =
     let u = of_tree names program tree in
