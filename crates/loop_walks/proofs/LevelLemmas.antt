@@ -270,7 +270,7 @@ module _ (low : ℤ) (n : ℕ) (ms : List Step) (l : Loop) (steps : AreSteps n m
 
 -- ---- all loops
 
-weighed-long : (low : ℤ) (ms : List Step) (weights : List ℤ) (ls : List Loop) → length (weighed low ms weights ls) ≡ length weights
+pub weighed-long : (low : ℤ) (ms : List Step) (weights : List ℤ) (ls : List Loop) → length (weighed low ms weights ls) ≡ length weights
 weighed-long low ms weights [] = refl
 weighed-long low ms weights (l ∷ ls) =
     let r = weighed-long low ms weights ls in

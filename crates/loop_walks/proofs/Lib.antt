@@ -4,3 +4,4 @@ pub mod WalkLemmas
 pub mod TurnLemmas
 pub mod PairLemmas
 pub mod LevelLemmas
+pub mod UntouchedLemmas
