@@ -1,0 +1,3 @@
+pub mod SpreadLemmas
+pub mod TotalLemmas
+pub mod FlowLemmas

@@ -1,0 +1,4 @@
+pub mod Passes
+pub mod Hands
+pub mod Flows
+pub mod Laws
