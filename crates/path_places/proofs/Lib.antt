@@ -1,0 +1,6 @@
+pub mod RankLemmas
+pub mod HeaderLemmas
+pub mod PlaceLemmas
+pub mod BeforeLemmas
+pub mod LoopLemmas
+pub mod FunctionLemmas
