@@ -1,0 +1,5 @@
+mod PartLemmas
+mod NestLemmas
+mod ShapeLemmas
+mod ApartLemmas
+mod CoverLemmas
