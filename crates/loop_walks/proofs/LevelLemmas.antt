@@ -23,12 +23,12 @@ use Rattle.loop_walks.proofs.PairLemmas.{Covers, pair_covers, first_to_last}
 set_at : (ws : List ℤ) (a : ℕ) (z : ℤ) → a < length ws → worth_at (slice_set ws a z) a ≡ z
 set_at ws a z h = get_or-set_at ws a a z (pos 0) refl h
 
-set_other : (ws : List ℤ) (a b : ℕ) (z : ℤ) → b ≢ a → worth_at (slice_set ws a z) b ≡ worth_at ws b
+pub set_other : (ws : List ℤ) (a b : ℕ) (z : ℤ) → b ≢ a → worth_at (slice_set ws a z) b ≡ worth_at ws b
 set_other ws a b z d = get_or-set_other ws a b z (pos 0) d
 
 -- ---- the jump back's worth is raised
 
-raised-long : (ws : List ℤ) (l : Loop) (o : Option ℕ) (z : ℤ) → length (raised ws l o z) ≡ length ws
+pub raised-long : (ws : List ℤ) (l : Loop) (o : Option ℕ) (z : ℤ) → length (raised ws l o z) ≡ length ws
 raised-long ws l None z = refl
 raised-long ws l (Some b) z = by_test (b == l.header)
   where
@@ -80,7 +80,7 @@ raised_grows ws l (Some b) z a h = by_test (b == l.header)
 -- ---- one loop
 
 -- the ways of a turn, by places
-abbrev ways_of : ℤ → List ℤ → Loop → List Step → ℕ → Option ℤ
+abbrev pub ways_of : ℤ → List ℤ → Loop → List Step → ℕ → Option ℤ
 ways_of low turn_weights l ms a = way_at (turn_ways low turn_weights l ms) (a - l.header)
 
 module _ (low : ℤ) (n : ℕ) (ms : List Step) (l : Loop) (steps : AreSteps n ms) (fits : IsLoopOf n ms l) where
@@ -128,16 +128,16 @@ pub record Before (low : ℤ) (n : ℕ) (ms : List Step) (v : Level) (l : Loop) 
   pub heads : Each (λ m. ((m.price +ℤ worth_at v.worths m.on) +ℤ weight_of l p) ≤ℤ worth_at v.worths l.header) (head_steps l ms)
 
 module _ (low : ℤ) (n : ℕ) (ms : List Step) (l : Loop) (steps : AreSteps n ms) (fits : IsLoopOf n ms l) (v : Level) (turn_weights : List ℤ) (p : Pair) (k : Before low n ms v l turn_weights p) where
-  abbrev weights' : List ℤ
+  abbrev pub weights' : List ℤ
   weights' = slice_set v.weights l.header (weight_of l p)
 
-  abbrev back' : ℤ
+  abbrev pub back' : ℤ
   back' = back_worth l (worth_at v.worths l.header) p
 
-  abbrev start' : List ℤ
+  abbrev pub start' : List ℤ
   start' = raised v.worths l l.back back'
 
-  abbrev worths' : List ℤ
+  abbrev pub worths' : List ℤ
   worths' = relaxed weights' start' (body_steps l ms)
 
   long_start : n < length start'
@@ -184,7 +184,7 @@ module _ (low : ℤ) (n : ℕ) (ms : List Step) (l : Loop) (steps : AreSteps n m
   turn_parts : Each (PaysTurn low turn_weights l.header (turn_ways low turn_weights l ms)) (head_steps l ms) × Each (PaysTurn low turn_weights l.header (turn_ways low turn_weights l ms)) (body_steps l ms)
   turn_parts = each_apart (PaysTurn low turn_weights l.header (turn_ways low turn_weights l ms)) l.head l.body l.rest ms fits.order.0 fits.order.1 (turns_pay low n ms l steps fits turn_weights)
 
-  beneath : AllBeneath worths' (worth_at v.worths) (ways_of low turn_weights l ms) back'
+  pub beneath : AllBeneath worths' (worth_at v.worths) (ways_of low turn_weights l ms) back'
   beneath = relaxed_beneath low weights' start' n (worth_at v.worths) (ways_of low turn_weights l ms) back' (body_steps l ms) long_start body_are
       (each_both (λ m. (l.header < m.at) × (m.at < l.end)) (Pays v.weights v.worths) (PaysBy weights' (worth_at v.worths)) (body_steps l ms)
       (λ m h paid. let c = same_cost m (λ e. absurd (omega (arith, h.0, e))) in rw c paid) fits.body (each_between (Pays v.weights v.worths) l.body l.rest ms k.paid))
@@ -227,7 +227,7 @@ module _ (low : ℤ) (n : ℕ) (ms : List Step) (l : Loop) (steps : AreSteps n m
           (subst (λ (c : ℤ). WayAtMost (further low c (ways_of low turn_weights l ms m.on)) (way_at (turn_ways low turn_weights l ms) (m.at - l.header))) no_weight way)
 
   -- all steps stay paid
-  level_paid : ArePaid (level_by ms v l p) ms
+  pub level_paid : ArePaid (level_by ms v l p) ms
   level_paid = each_whole (Pays weights' worths') l.head l.rest ms (let o0 = fits.order.0 in let o1 = fits.order.1 in omega (arith, o0, o1))
       (each_both (Pays v.weights v.worths) (λ m. (KeepsOut l m) × (m.at ≢ l.header)) (Pays weights' worths') (take l.head ms) far_paid (each_take (Pays v.weights v.worths) l.head ms k.paid)
       (each_both (KeepsOut l) (λ m. m.at ≢ l.header) (λ m. (KeepsOut l m) × (m.at ≢ l.header)) (take l.head ms) (λ m a b. (a, b)) fits.before fits.others.0))
@@ -283,11 +283,11 @@ weighed_other low ms weights (l ∷ ls) a h =
     ∙ weighed_other low ms weights ls a h.1
 
 -- the place is the first header or behind it
-abbrev From : ℕ → List Loop → Type 0
+abbrev pub From : ℕ → List Loop → Type 0
 From a [] = ⊥
 From a (l ∷ ls) = l.header ≤ a
 
-from_above : (a b : ℕ) (ls : List Loop) → HeadersAbove b ls → From a ls → b < a
+pub from_above : (a b : ℕ) (ls : List Loop) → HeadersAbove b ls → From a ls → b < a
 from_above a b [] h f = absurd f
 from_above a b (l ∷ ls) h f = let h0 = h.0 in omega (arith, h0, f)
 
@@ -318,7 +318,7 @@ still_settled v w l p e f grows s = record { least = s.least; most = s.most; wei
     pays (Some b) h = (h.0, λ d. let x = h.1 d in let g = grows b in rw e (omega (arith, ints)))
 
 module _ (low : ℤ) (n : ℕ) (ms : List Step) (weights : List ℤ) (steps : AreSteps n ms) where
-  level_before : (v : Level) (l : Loop) (ls : List Loop) → IsLoopOf n ms l → HeadersAbove l.header ls → n < length weights → n < length v.worths → n < length v.weights → ArePaid v ms → HaveNone weights (l ∷ ls) →
+  pub level_before : (v : Level) (l : Loop) (ls : List Loop) → IsLoopOf n ms l → HeadersAbove l.header ls → n < length weights → n < length v.worths → n < length v.weights → ArePaid v ms → HaveNone weights (l ∷ ls) →
       ((a : ℕ) → l.header ≤ a → worth_at v.weights a ≡ worth_at (weighed low ms weights (l ∷ ls)) a) →
       Before low n ms v l (weighed low ms weights ls) (level_pair low ms v.worths l (gain low (weighed low ms weights ls) l ms))
   level_before v l ls fits above long long_worths long_weights paid none same = record {

@@ -19,12 +19,12 @@ IsInRange first n m = (first ≤ m.at) × ((m.at - first) < n)
 abbrev pub PaysTurn : ℤ → List ℤ → ℕ → List (Option ℤ) → Step → Type 0
 PaysTurn low weights first ts m = WayAtMost (further low (cost weights m) (way_at ts (m.on - first))) (way_at ts (m.at - first))
 
-turn_at : (low : ℤ) (weights : List ℤ) (first : ℕ) (ts : List (Option ℤ)) (m : Step) (i : ℕ) → (m.at - first) < length ts → i ≡ m.at - first →
+pub turn_at : (low : ℤ) (weights : List ℤ) (first : ℕ) (ts : List (Option ℤ)) (m : Step) (i : ℕ) → (m.at - first) < length ts → i ≡ m.at - first →
     way_at (turn_taken low weights first ts m) i ≡ greater (way_at ts i) (further low (cost weights m) (way_at ts (m.on - first)))
 turn_at low weights first ts m i h e = subst (λ j. way_at (turn_taken low weights first ts m) j ≡ greater (way_at ts j) (further low (cost weights m) (way_at ts (m.on - first)))) (sym e)
     (get_or-set_at ts (m.at - first) (m.at - first) _ None refl h)
 
-turn_other : (low : ℤ) (weights : List ℤ) (first : ℕ) (ts : List (Option ℤ)) (m : Step) (i : ℕ) → i ≢ m.at - first → way_at (turn_taken low weights first ts m) i ≡ way_at ts i
+pub turn_other : (low : ℤ) (weights : List ℤ) (first : ℕ) (ts : List (Option ℤ)) (m : Step) (i : ℕ) → i ≢ m.at - first → way_at (turn_taken low weights first ts m) i ≡ way_at ts i
 turn_other low weights first ts m i d = get_or-set_other ts (m.at - first) i _ None d
 
 pub turned-long : (low : ℤ) (weights : List ℤ) (first : ℕ) (ts : List (Option ℤ)) (ms : List Step) → length (turned low weights first ts ms) ≡ length ts

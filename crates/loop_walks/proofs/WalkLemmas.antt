@@ -33,7 +33,7 @@ taken_grows weights ws m a h = elim (eqb_tells a m.at) [
   | inr k ↦ let e = taken_other weights ws m a k.1 in rw e (omega (arith, ints))
 ]
 
-within : (weights ws : List ℤ) (n : ℕ) (m : Step) (ms : List Step) → IsStep n m → n < length ws → m.at < length (relaxed weights ws ms)
+pub within : (weights ws : List ℤ) (n : ℕ) (m : Step) (ms : List Step) → IsStep n m → n < length ws → m.at < length (relaxed weights ws ms)
 within weights ws n m ms h long = let l = relaxed-long weights ws ms in omega (arith, l, h.0, h.1)
 
 pub relaxed_grows : (weights ws : List ℤ) (n : ℕ) (ms : List Step) (a : ℕ) → n < length ws → Each (IsStep n) ms → worth_at ws a ≤ℤ worth_at (relaxed weights ws ms) a

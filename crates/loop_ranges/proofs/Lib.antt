@@ -1,0 +1,4 @@
+pub mod NearLemmas
+pub mod WalkRanges
+pub mod LevelRanges
+pub mod LevelsBelow
