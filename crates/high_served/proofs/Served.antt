@@ -37,7 +37,7 @@ use Rattle.high_plan.specs.Statements.{Plan, all_planned, body_planned}
 use Rattle.high_kept.specs.Fits.{Formal, OfWord, OfArray, Function, Signatures}
 use Rattle.high_kept.specs.Meets.{Layout, home, type_in}
 use Rattle.high_flow.specs.Fits.{FitItems, block_declares, with_live}
-use Rattle.high_calls.specs.Serves.{AllServe, AreParameters, FunctionServed, IsServed, are_from, arrays_in, at_entry, out_of_body, words_in}
+use Rattle.high_calls.specs.Serves.{AllServe, AreParameters, FunctionServed, IsServed, Serves, are_from, arrays_in, at_entry, out_of_body, words_in}
 use Rattle.high_seen.specs.Growing.{Grows, statics}
 use Rattle.high_fit.specs.Places.{IsHome, IsPlan, IsStored}
 use Rattle.high_seen.specs.Seen.{IsObjectSeen, Sees}
@@ -454,13 +454,10 @@ module _ (names : List (List ℕ)) (outline : Outline) (items : Row (External �
     passed_are : passed_arrays handed ≡ arrays_in (signatures.parameters number)
     passed_are = ap passed_arrays handed_is ∙ sym (arrays_counted given listed.added listed.match) ∙ ap arrays_in (sym parameters_are)
 
-    pub served : IsServed layout signatures (rest_of program facts) (functions_planned (plan_of program facts) program.variables facts.ranks.of_functions 0 program.functions) number first body
-    served = record {
-      function = made;
-      there =
-          ap (λ fs. slice_get (functions_planned (plan_of program facts) program.variables facts.ranks.of_functions 0 fs) number) (unit.functions_are ∙ a.functions_are)
-          ∙ planned_at (plan_of program facts) program.variables facts.ranks.of_functions 0 (functions_of front (started outline)) (function_by d now) a.later;
-      serves = record {
+    -- how the function serves, with as many variables as its own scalars
+    pub serves_own : (s : Serves layout signatures (rest_of program facts) number first body made) × (s.variables ≡ variables)
+    serves_own = (
+      record {
         variables = variables;
         parameters = subst (AreParameters layout first 0 0) (sym parameters_are) stands;
         owned = owned_parameters;
@@ -471,14 +468,24 @@ module _ (names : List (List ℕ)) (outline : Outline) (items : Row (External �
         body_is = refl;
         within = all_within-needed (made.values + made.locals) (all_planned (plan_of program facts) body variables out_of_body)
             (room (frame_scalars handed) variables (frame_needed (body_planned (plan_of program facts) body variables)) (frame_needed_all (all_planned (plan_of program facts) body variables out_of_body)) scalars_handed (needed (frame_needed_all (all_planned (plan_of program facts) body variables out_of_body))));
-      };
-    }
+      },
+      refl,
+    )
       where
         room : (v s n p : ℕ) → v ≤ s → p ≤ n → p ≤ v + (max s n - v)
         room v s n p le enough = omega (arith, le, enough)
 
         needed : (p : ℕ) → p ≤ max p (max 0 0)
         needed p = omega arith
+
+    pub served : IsServed layout signatures (rest_of program facts) (functions_planned (plan_of program facts) program.variables facts.ranks.of_functions 0 program.functions) number first body
+    served = record {
+      function = made;
+      there =
+          ap (λ fs. slice_get (functions_planned (plan_of program facts) program.variables facts.ranks.of_functions 0 fs) number) (unit.functions_are ∙ a.functions_are)
+          ∙ planned_at (plan_of program facts) program.variables facts.ranks.of_functions 0 (functions_of front (started outline)) (function_by d now) a.later;
+      serves = serves_own.0;
+    }
 
   pub all_serve : (main : ℕ) → AllServe layout signatures (rest_of program facts) (program_planned program facts main).functions
   all_serve main = record { by = λ number f e. of number f (defined outline items number f (ap (λ l. slice_get l number) (sym unit.functions_are) ∙ e)) }
