@@ -26,7 +26,7 @@ use Rattle.high_layout.specs.Fronts.{Definition, IsFront, begun_by, behind, exte
 use Rattle.high_layout.specs.Layouts.{layout_of, rest_of, signatures_of}
 use Rattle.high_layout.specs.Units.{IsUnit}
 use Rattle.high_layout.proofs.Fronts.{among, defined}
-use Rattle.high_layout.proofs.Served.{serves_own}
+use Rattle.high_served.proofs.Served.{serves_own}
 use Rattle.high_memory.specs.Memory.{FunctionsFramed}
 use Rattle.high_memory.proofs.Memory.{local_most}
 use Rattle.high_own.proofs.Entry.{serves_framed}
