@@ -1,0 +1,19 @@
+-- What the worths of a whole system pay for.
+use Rattle.std.specs.Prelude.{◌≡◌, ◌||◌, List, length, false, Contains}
+use Rattle.flow_system.specs.declared.moves.Move.{Move}
+use Rattle.flow_system.specs.declared.shapes.LoopShape.{LoopShape}
+use Rattle.flow_system.specs.declared.shapes.Span.{Span}
+use Rattle.flow_system.specs.Systems.{System}
+use Rattle.flow_system.specs.Shapes.{is_back}
+use Rattle.loop_walks.specs.Levels.{Level}
+use Rattle.loop_walks.specs.Rows.{IsPaid}
+use Rattle.path_places.specs.Places.{is_stop, step_of}
+use Rattle.path_rows.specs.Driver.{Prices, blank, functions_level}
+
+-- each move costs no more than the worth falls along it, the worth of a called function and the weight of a header counted, but for those of places that may not be visited and jumps back
+abbrev pub MovesArePaid : System → List LoopShape → Prices → Level → Type 0
+MovesArePaid s ls q v = (m : Move) → Contains s.moves m → (is_stop s.claims m.at || is_back ls m.at) ≡ false → IsPaid v (step_of q.of s.moves v.worths m)
+
+-- at any prices
+abbrev pub SettlingPaysMoves : System → List LoopShape → List Span → Type 0
+SettlingPaysMoves s ls ps = (q : Prices) → MovesArePaid s ls q (functions_level s ls q (blank (length s.moves) q.low) ps)

@@ -1,0 +1,11 @@
+// What the worths of a whole system pay for.
+ghost use Rattle.path_places.specs.Laws.{IsReachedWhole};
+ghost use Rattle.path_rows.specs.Laws.{SettlingPaysMoves};
+
+use flow_system::{LoopShape, Span, System};
+
+/// A law: at any prices, when all functions are settled, each move costs no more than the worth falls along it.
+pub fn moves_are_paid(system: &System, shapes: &[LoopShape], spans: &[Span])
+    requires { IsReachedWhole system.now shapes.now spans.now }
+    ensures { SettlingPaysMoves system.now shapes.now spans.now }
+{}
