@@ -1,4 +1,5 @@
 pub mod RankLemmas
+pub mod ReachedLemmas
 pub mod HeaderLemmas
 pub mod PlaceLemmas
 pub mod BeforeLemmas

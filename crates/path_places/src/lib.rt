@@ -3,7 +3,8 @@
 //! A place is the number of moves that begin before an address, so that a walk reads its worths by number. The steps of a
 //! function are its moves, without those of addresses that may not be visited and without the loops' jumps back.
 //!
-//! Proved, by a call with an empty body: where loops fit and every address is reached, each function's steps ascend, and
+//! Proved, each by a call with an empty body: every address of an image's system is reached by its moves
+//! (`systems_are_reached`); and where loops fit and every address is reached, each function's steps ascend, and
 //! its loops are loops over them, the outermost first (`functions_fit`). So in its function a loop's header is the first
 //! reached address of its range, and steps from outside go to it alone.
 //!
@@ -12,4 +13,4 @@
 
 mod laws;
 
-pub use laws::functions_fit;
+pub use laws::{functions_fit, systems_are_reached};
