@@ -15,9 +15,11 @@ use Rattle.flow_system.specs.Systems.{System, has_moves}
 use Rattle.flow_system.proofs.ReachLemmas.{in_destinations}
 use Rattle.flow_system.specs.Shapes.{onward, is_back, IsInSpan, AreApart, AreAllApart, IsInOne, StaysIn, CallsEarlier}
 use Rattle.loop_walks.specs.declared.step.Step.{Step}
+use Rattle.loop_walks.specs.declared.step.Loop.{Loop}
+use Rattle.loop_walks.specs.declared.step.Pair.{Pair}
 use Rattle.loop_walks.specs.Walks.{worth_at}
 use Rattle.loop_walks.specs.Levels.{Level, ground}
-use Rattle.loop_walks.specs.Rows.{Each, IsPaid, HaveNone, AreSteps, AreLoops}
+use Rattle.loop_walks.specs.Rows.{Each, IsPaid, HaveNone, AreSteps, AreLoops, IsSettled, AreSettled, PaysBack}
 use Rattle.loop_walks.proofs.LevelLemmas.{Held, settled_holds, weighed-long}
 use Rattle.loop_walks.proofs.WalkLemmas.{relaxed-long}
 use Rattle.loop_walks.proofs.UntouchedLemmas.{Avoids, settled_untouched}
@@ -29,7 +31,7 @@ use Rattle.path_places.proofs.PlaceLemmas.{place_below, place_tells}
 use Rattle.path_places.proofs.LoopLemmas.{steps_each, has_of, onward_arrives, first_or}
 use Rattle.path_places.proofs.FunctionLemmas.{back_inside, functions_are, walked_in}
 use Rattle.path_rows.specs.Driver.{Prices, blank, function_loops, function_level, function_pairs, functions_level}
-use Rattle.path_rows.specs.Laws.{SettlingPaysMoves}
+use Rattle.path_rows.specs.Laws.{SettlingPaysMoves, LoopsAreSettled, SettlingSettlesLoops}
 
 -- a step of a move that is walked is among the steps
 pub step_among : (P : Step → Type 0) (price : Move → ℤ) (all : List Move) (ws : List ℤ) (walked : ℕ → Bool) (ms : List Move) (m : Move) → Each P (steps_of price all ws walked ms) → Contains ms m → walked m.at ≡ true → P (step_of price all ws m)
@@ -215,6 +217,63 @@ module _ (s : System) (ls : List LoopShape) (ps : List Span) (whole : IsReachedW
               (functions_leave (function_level s ls q v r) rs (place_of s.moves t) rest (All-tail (λ p. IsElsewhere s p (place_of s.moves t)) r rs out)).0
               ∙ (function_leaves v r (place_of s.moves t) ir (All-head (λ p. IsElsewhere s p (place_of s.moves t)) r rs out)).0
 
+  -- ---- loops stay settled
+
+  still_settled : (v w : Level) (l : Loop) (p : Pair) → worth_at w.worths l.header ≡ worth_at v.worths l.header → worth_at w.weights l.header ≡ worth_at v.weights l.header → ((b : ℕ) → l.back ≡ Some b → worth_at w.worths b ≡ worth_at v.worths b) → IsSettled v l p → IsSettled w l p
+  still_settled v w l p e f back h = record { least = h.least; most = h.most; weight = f ∙ h.weight; back = pays l.back back h.back }
+    where
+      pays : (o : Option ℕ) → ((b : ℕ) → o ≡ Some b → worth_at w.worths b ≡ worth_at v.worths b) → PaysBack v.worths l p o → PaysBack w.worths l p o
+      pays None same h = tt
+      pays (Some b) same h = (h.0, λ d. let g = same b refl in rw (e, g) (h.1 d))
+
+  loops_stay : (v : Level) (r : Span) (rs : List Span) → Contains ps r → ((p : Span) → Contains rs p → Contains ps p) → All (AreApart r) rs → (ms : List Step) (cs : List LoopClaim) (ks : List LoopShape) → ((l : LoopShape) → Contains ks l → Contains ls l) → (qs : List Pair) →
+      AreSettled v (loops_of q.of q.low s.moves s.claims r ms cs ks) qs → AreSettled (functions_level s ls q v rs) (loops_of q.of q.low s.moves s.claims r ms cs ks) qs
+  loops_stay v r rs ir rest apart ms [] ks i qs h = tt
+  loops_stay v r rs ir rest apart ms (c ∷ cs) [] i qs h = tt
+  loops_stay v r rs ir rest apart ms (c ∷ cs) (l ∷ ks) i qs h = by_test (in_span r l.header) refl (has_moves s.moves l.header) refl qs (λ us. loops_stay v r rs ir rest apart ms cs ks (λ k j. i k (suc j.0, omega (arith, j.1), j.2)) us) h
+    where
+      same : (x : ℕ) → has_moves s.moves x ≡ true → IsInSpan r x → (worth_at (functions_level s ls q v rs).worths (place_of s.moves x) ≡ worth_at v.worths (place_of s.moves x)) × (worth_at (functions_level s ls q v rs).weights (place_of s.moves x) ≡ worth_at v.weights (place_of s.moves x))
+      same x there inside = functions_leave v rs (place_of s.moves x) rest (elsewhere_all r rs x there inside apart)
+
+      back_same : IsInSpan r l.header → (b : ℕ) → back_place s.moves s.claims l.back ≡ Some b → worth_at (functions_level s ls q v rs).worths b ≡ worth_at v.worths b
+      back_same inside b is = by_place (has_moves s.moves l.back) refl (not (is_stop s.claims l.back)) is
+        where
+          by_place : (t : Bool) → has_moves s.moves l.back ≡ t → (u : Bool) → cond (t && u) (Some (place_of s.moves l.back)) None ≡ Some b → worth_at (functions_level s ls q v rs).worths b ≡ worth_at v.worths b
+          by_place true there true e =
+              let f : place_of s.moves l.back ≡ b = cc in
+              subst (λ z. worth_at (functions_level s ls q v rs).worths z ≡ worth_at v.worths z) f
+              (same l.back there (back_inside s ls ps whole.fits whole.filled whole.reached whole.system.ascending q.of q.low [] r ir l (i l (zero, omega arith, refl)) inside there)).0
+          by_place true there false e = cc
+          by_place false there u e = cc
+
+      by_test : (t : Bool) → in_span r l.header ≡ t → (u : Bool) → has_moves s.moves l.header ≡ u → (qs : List Pair) →
+          ((us : List Pair) → AreSettled v (loops_of q.of q.low s.moves s.claims r ms cs ks) us → AreSettled (functions_level s ls q v rs) (loops_of q.of q.low s.moves s.claims r ms cs ks) us) →
+          AreSettled v (cond (t && u) (loop_of q.of q.low s.moves s.claims r ms c l ∷ loops_of q.of q.low s.moves s.claims r ms cs ks) (loops_of q.of q.low s.moves s.claims r ms cs ks)) qs →
+          AreSettled (functions_level s ls q v rs) (cond (t && u) (loop_of q.of q.low s.moves s.claims r ms c l ∷ loops_of q.of q.low s.moves s.claims r ms cs ks) (loops_of q.of q.low s.moves s.claims r ms cs ks)) qs
+      by_test true e true f [] later h = absurd h
+      by_test true e true f (p ∷ us) later h = (
+        still_settled v (functions_level s ls q v rs) (loop_of q.of q.low s.moves s.claims r ms c l) p (same l.header f (span_of r l.header e)).0 (same l.header f (span_of r l.header e)).1 (back_same (span_of r l.header e)) h.0,
+        later us h.1,
+      )
+      by_test true e false f us later h = later us h
+      by_test false e u f us later h = later us h
+
+  settled_from : (v : Level) (rs : List Span) → ((r : Span) → Contains rs r → Contains ps r) → AreAllApart rs → length s.moves < length v.worths → length s.moves < length v.weights → IsFresh v rs → LoopsAreSettled s ls q (functions_level s ls q v rs) v rs
+  settled_from v [] i apart long_worths long_weights fresh = tt
+  settled_from v (r ∷ rs) i apart long_worths long_weights fresh = (
+    loops_stay (function_level s ls q v r) r rs ir (λ p h. i p (suc h.0, omega (arith, h.1), h.2)) apart.0 (function_steps s ls q.of v.worths r) s.claims.loops ls (λ l h. h) (function_pairs s ls q v r) held.settled,
+    settled_from (function_level s ls q v r) rs (λ p h. i p (suc h.0, omega (arith, h.1), h.2)) apart.1
+        (let e = held.long_worths in let f = relaxed-long (ground q.low (function_steps s ls q.of v.worths r) v (function_loops s ls q v.worths r)).weights v.worths (function_steps s ls q.of v.worths r) in omega (arith, e, f, long_worths))
+        (let e = held.long_weights in let f = weighed-long q.low (function_steps s ls q.of v.worths r) v.weights (function_loops s ls q v.worths r) in omega (arith, e, f, long_weights))
+        (λ x h o. (function_leaves v r (place_of s.moves x) ir (inl (x, h, apart_one r rs x apart.0 o, refl))).1 ∙ fresh x h (inr o)),
+  )
+    where
+      ir : Contains ps r
+      ir = i r (zero, omega arith, refl)
+
+      held : Held q.low (function_steps s ls q.of v.worths r) (ground q.low (function_steps s ls q.of v.worths r) v (function_loops s ls q v.worths r)) (function_level s ls q v r) (function_loops s ls q v.worths r) (function_pairs s ls q v r)
+      held = function_holds v r ir long_worths long_weights (λ x h o. fresh x h (inl o))
+
 zero_at : (k a : ℕ) → worth_at (replicate k (pos 0)) a ≡ pos 0
 zero_at zero zero = refl
 zero_at zero (suc a) = refl
@@ -228,3 +287,10 @@ all_paid s ls ps whole q m im free = paid_from s ls ps whole q 0 (blank (length 
     (let a = length-append (replicate (length s.moves) q.low) (pos 0 ∷ []) in let b = length-replicate (length s.moves) q.low in omega (arith, a, b))
     (let b = length-replicate (length s.moves + 1) (pos 0) in omega (arith, b))
     (λ x h o. zero_at (length s.moves + 1) (place_of s.moves x)) m im free (All-contains (λ (x : Move). IsInOne ps x.at) s.moves m whole.fits.covered im)
+
+-- all loops are settled
+pub all_settled : (s : System) (ls : List LoopShape) (ps : List Span) → IsReachedWhole s ls ps → SettlingSettlesLoops s ls ps
+all_settled s ls ps whole q = settled_from s ls ps whole q (blank (length s.moves) q.low) ps (λ r h. h) whole.fits.apart
+    (let a = length-append (replicate (length s.moves) q.low) (pos 0 ∷ []) in let b = length-replicate (length s.moves) q.low in omega (arith, a, b))
+    (let b = length-replicate (length s.moves + 1) (pos 0) in omega (arith, b))
+    (λ x h o. zero_at (length s.moves + 1) (place_of s.moves x))
