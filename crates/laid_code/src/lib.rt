@@ -7,10 +7,10 @@
 //! each function in a place of its own, in any segments of the image.
 //!
 //! Proved, each by a call with an empty body: [`placed_is_laid`], that code is laid where the items of each
-//! function stand in a row, wherever that is (`specs/Placed.antt`); [`reached_is_code`], that a flow system of the image is
-//! not refused for what is reached; [`loops_fit`], that the loops and functions lie as a search for the
-//! greatest flow wants them; [`starts_are_apart`], that no two blocks begin at one address, so that how
-//! often a block begins is how often its address is visited.
+//! function stand in a row, wherever that is (`specs/Placed.antt`); [`reached_is_code`], that a flow system of
+//! the image is not refused for what is reached; [`loops_fit`], that the loops and functions lie as a search
+//! for the greatest flow wants them; [`starts_are_apart`], that no two blocks begin at one address, so that
+//! how often a block begins is how often its address is visited.
 //!
 //! The crate knows no compiler, and of items only what `code_items` says.
 #![tactic(auto)]

@@ -9,7 +9,7 @@ use Rattle.code_items.specs.declared.item.Item.TheVariants as items
 use Rattle.code_items.specs.Promises.{Keeps}
 use Rattle.laid_code.specs.Graphs as graphs
 use Rattle.low_ir.specs.declared.places.Place.{Place}
-use Rattle.low_ir.specs.Code.{Instr, Do, Call, Jump, Loop}
+use Rattle.low_ir.specs.Code.{Instr, Do, Call, Loop}
 use Rattle.low_ir.specs.Formed as formed
 use Rattle.low_ir.specs.Places.{Placed}
 use Rattle.low_items.specs.Frames.{Memory}

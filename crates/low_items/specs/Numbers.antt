@@ -1,5 +1,5 @@
 -- The registers of the machine that a layout uses, and words and addresses in the immediates of instructions (RISC-V unprivileged manual 2.4, 2.6).
-use Rattle.std.specs.Prelude.{ℕ, ◌+◌, ◌-◌, ◌*◌, ◌/◌, ◌%◌, ◌^◌, ◌==◌, ◌&&◌, ℤ, pos, ◌-ℤ◌, Bool, nat_lt, nat_le, if◌then◌else◌, List, [], ◌∷◌}
+use Rattle.std.specs.Prelude.{ℕ, ◌+◌, ◌*◌, ◌/◌, ◌%◌, ◌^◌, ◌==◌, ◌&&◌, ℤ, pos, ◌-ℤ◌, Bool, nat_lt, nat_le, if◌then◌else◌, List, [], ◌∷◌}
 use Rattle.wcc_base.specs.Signs.{signed_of}
 use Rattle.rv_core.specs.declared.op.Op.TheVariants.{Lw, Sw}
 use Rattle.rv_core.specs.Instructions.{Instruction, instruction, addi, lui}

@@ -5,7 +5,7 @@ use Rattle.rv_core.specs.Instructions.{Instruction, instruction}
 use Rattle.low_ir.specs.declared.places.Place.{Place}
 use Rattle.low_ir.specs.declared.places.Place.TheVariants.{Register as InRegister, Slot}
 use Rattle.low_ir.specs.Code.{Operand, Register, Constant, Base, Fixed, Through, Address}
-use Rattle.low_items.specs.Numbers.{base, first_free, second_free, machine_register, reach_code, reach_register, reach_offset, constant_code, load_word, store_word, move_code, is_short, load_upper, lower_of}
+use Rattle.low_items.specs.Numbers.{first_free, second_free, machine_register, reach_code, reach_register, reach_offset, constant_code, load_word, store_word, move_code, is_short, load_upper, lower_of}
 use Rattle.low_items.specs.Frames.{Frame, Memory, slot_at, object_at}
 
 -- a word of memory comes into a register, and the other way round by way of t
