@@ -1,0 +1,4 @@
+pub mod Numbering
+pub mod Serving
+pub mod Start
+pub mod Programs

@@ -1,0 +1,8 @@
+// What runs keep.
+ghost use Rattle.low_program.specs.Kept.{RunsAreKept};
+
+/// A good run of a program in the high form is a run of its low program that ends with the same
+/// value, the same output and the same marks in the same order.
+pub fn runs_are_kept()
+    ensures { RunsAreKept }
+{}
