@@ -1,0 +1,10 @@
+use Rattle.std.proofs.Common.{◌≡◌, drop}
+use Rattle.c_typed.specs.View.{exprs_of}
+use Rattle.high_code.specs.Code.{joined}
+use Rattle.high_plan.specs.Statements.{listed}
+use Rattle.make_pieces.specs.View.{code_of}
+use Rattle.make_statement.specs.Planned.{plan_said}
+use Rattle.make_statement.proofs.declaring.listed.Given as goal
+
+abbrev pub invariant-loop-i : goal.invariant-loop-i
+invariant-loop-i l = joined (code_of l.code) (listed (plan_said l.plan) l.home (exprs_of (drop l.i l.values)) l.i l.k) ≡ listed (plan_said l.plan) l.home (exprs_of l.values) 0 l.k

@@ -1,0 +1,7 @@
+use Rattle.std.proofs.Common.{◌≡◌, ◌+◌, drop}
+use Rattle.c_typed.specs.View.{items_of}
+use Rattle.high_plan.specs.Statements.{label_count}
+use Rattle.make_statement.proofs.labels.label_count.Given as goal
+
+abbrev pub invariant-loop-item : goal.invariant-loop-item
+invariant-loop-item l = l.count + label_count (items_of (drop l.item-index l.items)) ≡ label_count (items_of l.items)

@@ -1,0 +1,200 @@
+// Loops.
+ghost use Rattle.std.specs.Prelude.{◌≡◌, IfOk, map};
+ghost use Rattle.c_facts.specs.Most.{bounds_at};
+ghost use Rattle.c_tree.specs.Named.{map_option};
+ghost use Rattle.c_typed.specs.View.{initial_of, loop_of as number_of, object_of, start_of};
+ghost use Rattle.high_code.specs.Code.{nothing};
+ghost use Rattle.high_ir.specs.declared.expression.BinaryOperator.TheVariants as binary;
+ghost use Rattle.high_ir.specs.Tree.{Binary, Constant, If, Leave, Set, Variable};
+ghost use Rattle.high_ir.specs.View.{expr_of, statement_of};
+ghost use Rattle.high_plan.specs.Statements.{filled, fillings_in, fillings_of, loops_before, looped, stored_at};
+ghost use Rattle.make_pieces.specs.View.{code_of};
+ghost use Rattle.make_statement.specs.Planned.{filling_by, filling_round};
+
+use c_facts::{Bounds, Starts};
+use c_typed::declaration::{Declaration, Initial, Object};
+use c_typed::statement::{ForStart, LoopId};
+use high_ir::expression::{BinaryOperator, Expr};
+use high_ir::statement::Statement;
+use high_plan::Home;
+use make_pieces::Code;
+use make_pieces::expr::{binary, let_go as discard};
+use make_pieces::numbers::sum;
+use make_pieces::statements::{block, choice, let_go, loop_of, nothing};
+use std::alloc::Global;
+use wcc_base::Memory;
+
+/// The bounds of the loop of this number.
+pub fn bounds_at(bounds: &[Bounds], number: u32) -> Bounds
+    ensures { result ≡ bounds_at bounds.now number }
+{
+    let index = number.saturating_sub(1) as usize;
+    if index < bounds.len() {
+        return bounds[index];
+    }
+    Bounds { min: 0, max: 0 }
+}
+
+/// A loop, which is left by leaving the block around it.
+pub fn looped(alloc: Global, id: u32, starts: Starts, round: Code) -> Result<Code, Memory>
+    ensures { IfOk result (λ c. code_of c ≡ looped id starts (code_of round)) }
+{
+    let body = loop_of(alloc, id, starts.least, starts.most, round.seq())?;
+    Code::alone(alloc, block(alloc, body)?)
+}
+
+/// An element of an object.
+pub fn stored_at(home: Home, index: Expr, value: Expr) -> Statement
+    ensures { statement_of result ≡ stored_at home (expr_of index) (expr_of value) }
+{
+    match home {
+        Home::Frame(variable) => {
+            discard(index);
+            Statement::Set { variable, value }
+        }
+        Home::Memory(array) => Statement::Keep {
+            array,
+            index,
+            value,
+        },
+    }
+}
+
+/// One more than a variable.
+fn next_of(alloc: Global, k: u32) -> Result<Statement, Memory>
+    ensures { IfOk result (λ s. statement_of s ≡ Set k (Binary binary.Add (Variable k) (Constant 1))) }
+{
+    Ok(Statement::Set {
+        variable: k,
+        value: binary(
+            alloc,
+            BinaryOperator::Add,
+            Expr::Variable(k),
+            Expr::Constant(1),
+        )?,
+    })
+}
+
+/// Leaves the block where a variable has come to its end.
+fn leave_at(alloc: Global, k: u32, end: u32) -> Result<Statement, Memory>
+    ensures { IfOk result (λ s. statement_of s ≡ If (Binary binary.LessUnsigned (Variable k) (Constant end)) nothing (Leave 0)) }
+{
+    let test = binary(
+        alloc,
+        BinaryOperator::LessUnsigned,
+        Expr::Variable(k),
+        Expr::Constant(end),
+    )?;
+    choice(alloc, test, nothing(alloc), Statement::Leave { depth: 0 })
+}
+
+/// One start of the loop that fills elements with 0.
+fn filling_round(alloc: Global, home: Home, k: u32, end: u32) -> Result<Code, Memory>
+    ensures { IfOk result (λ c. code_of c ≡ filling_round home k end) }
+{
+    let zero = stored_at(home, Expr::Variable(k), Expr::Constant(0));
+    let code = Code::alone(alloc, zero)?;
+    match next_and_leave(alloc, k, end) {
+        Ok((next, leave)) => code.then_both(next, leave),
+        Err(memory) => {
+            code.let_go();
+            Err(memory)
+        }
+    }
+}
+
+fn next_and_leave(alloc: Global, k: u32, end: u32) -> Result<(Statement, Statement), Memory>
+    ensures next { IfOk result (λ p. statement_of p.0 ≡ Set k (Binary binary.Add (Variable k) (Constant 1))) }
+    ensures leave { IfOk result (λ p. statement_of p.1 ≡ If (Binary binary.LessUnsigned (Variable k) (Constant end)) nothing (Leave 0)) }
+{
+    let next = next_of(alloc, k)?;
+    match leave_at(alloc, k, end) {
+        Ok(leave) => Ok((next, leave)),
+        Err(memory) => {
+            let_go(next);
+            Err(memory)
+        }
+    }
+}
+
+/// Elements from `from` on are 0: a loop whose bounds are how many they are.
+fn filled(alloc: Global, home: Home, id: u32, from: u32, count: u32, k: u32) -> Result<Code, Memory>
+    ensures { IfOk result (λ c. code_of c ≡ filled home id from count k) }
+{
+    let starts = Starts {
+        least: count,
+        most: count,
+    };
+    let round = filling_round(alloc, home, k, sum(from, count)?)?;
+    let filling = looped(alloc, id, starts, round)?;
+    let first = Statement::Set {
+        variable: k,
+        value: Expr::Constant(from),
+    };
+    match Code::alone(alloc, first) {
+        Ok(code) => code.joined(filling),
+        Err(memory) => {
+            filling.let_go();
+            Err(memory)
+        }
+    }
+}
+
+/// The filling of the elements that a list leaves over.
+pub fn filling(
+    alloc: Global,
+    bounds: &[Bounds],
+    home: Home,
+    shift: u32,
+    number: Option<LoopId>,
+    from: u32,
+    k: u32,
+) -> Result<Code, Memory>
+    ensures { IfOk result (λ c. code_of c ≡ filling_by bounds.now home shift (map_option number_of number) from k) }
+{
+    match number {
+        None => Ok(Code::new(alloc)),
+        Some(number) => {
+            let id = number.0.saturating_sub(1).saturating_sub(shift);
+            let count = bounds_at(bounds, number.0).max;
+            filled(alloc, home, id, from, count, k)
+        }
+    }
+}
+
+fn fillings_of(initial: &Initial) -> u32
+    ensures { result ≡ fillings_of (initial_of initial.now) }
+{
+    match initial {
+        Initial::Absent => 0,
+        Initial::Value(_) => 0,
+        Initial::List { filling, .. } => match filling {
+            None => 0,
+            Some(_) => 1,
+        },
+    }
+}
+
+fn fillings_in(objects: &[Object]) -> Result<u32, Memory>
+    ensures { IfOk result (λ n. n ≡ fillings_in (map object_of objects.now)) }
+{
+    let mut fillings = 0;
+    for object in objects {
+        fillings = sum(fillings, fillings_of(&object.initial))?;
+    }
+    Ok(fillings)
+}
+
+/// How many loops stand in the head of a `for`.
+pub fn loops_before(start: &ForStart) -> Result<u32, Memory>
+    ensures { IfOk result (λ n. n ≡ loops_before (start_of start.now)) }
+{
+    match start {
+        ForStart::Absent => Ok(0),
+        ForStart::Expression(_) => Ok(0),
+        ForStart::Declaration(declaration) => match declaration {
+            Declaration::Objects { objects, .. } => Ok(fillings_in(objects)?),
+            Declaration::Prototype { .. } => Ok(0),
+        },
+    }
+}
