@@ -1,13 +1,13 @@
 -- Functions that are apart, pair by pair or because they are in order.
-use Rattle.std.proofs.Common.{◌≡◌, ◌≢◌, ℕ, zero, suc, ◌+◌, ◌<◌, ◌≤◌, ltb, inl, inr, arith, refl, sym, ap, ◌∙◌, subst, List, [], ◌∷◌, take, drop, length, get_or, All, Bool, true, false, ◌⊎◌, drop-cons, add-one}
+use Rattle.std.proofs.Common.{◌≡◌, ℕ, zero, suc, ◌+◌, ◌<◌, ◌≤◌, ltb, inl, inr, arith, sym, ap, ◌∙◌, subst, List, [], ◌∷◌, take, drop, length, get_or, All, true, false, ◌⊎◌, drop-cons, add-one}
 use Rattle.std.specs.List.{Any}
 use Rattle.std.specs.List.Sorted.{IsPartitionPoint, IsNonDecreasingBy}
-use Rattle.std.proofs.lemmas.Bool.Decides.{nat_tests, eqb_tells}
+use Rattle.std.proofs.lemmas.Bool.Decides.{nat_tests}
 use Rattle.std.proofs.lemmas.List.{get_or_default}
-use Rattle.std.proofs.lemmas.List.Elements.{All-head, All-tail, All-cons, All-nil, All-weaker}
+use Rattle.std.proofs.lemmas.List.Elements.{All-cons, All-nil, All-weaker}
 use Rattle.flow_lookup.proofs.RunLemmas.{Rises, non_decreasing}
 use Rattle.flow_system.specs.declared.shapes.Span.{Span}
-use Rattle.flow_system.specs.Shapes.{IsInSpan, AreApart, AreAllApart}
+use Rattle.flow_system.specs.Shapes.{AreApart, AreAllApart}
 use Rattle.loop_fit.specs.Spans.{AreInOrder}
 
 -- all functions are apart exactly where the rest of them is

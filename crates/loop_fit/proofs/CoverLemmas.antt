@@ -1,15 +1,15 @@
 -- Functions that have all moves, which stay in them and call those before them.
-use Rattle.std.proofs.Common.{◌≡◌, ◌≢◌, ℕ, zero, suc, ◌+◌, ◌<◌, ◌≤◌, inl, inr, arith, refl, sym, ap, ◌∙◌, subst, List, [], ◌∷◌, take, drop, length, get_or, All, Bool, true, false, ◌⊎◌, Option, Some, None, drop-cons, add-one}
+use Rattle.std.proofs.Common.{◌≡◌, ℕ, zero, suc, ◌+◌, ◌<◌, ◌≤◌, inl, inr, arith, refl, sym, ap, ◌∙◌, subst, List, [], ◌∷◌, take, drop, length, get_or, All, Bool, true, false, Option, Some, None, drop-cons, add-one}
 use Rattle.std.specs.Prelude.{◌&&◌, nat_le, nat_lt, filter, if◌then◌else◌}
 use Rattle.std.specs.List.{Any}
 use Rattle.std.proofs.lemmas.Bool.Decides.{nat_tests}
 use Rattle.std.proofs.lemmas.List.{get_or_default}
-use Rattle.std.proofs.lemmas.List.Elements.{All-head, All-tail, All-cons, All-nil, All-weaker}
+use Rattle.std.proofs.lemmas.List.Elements.{All-head, All-tail, All-cons, All-nil}
 use Rattle.flow_system.specs.declared.shapes.Span.{Span}
 use Rattle.flow_system.specs.declared.moves.Move.{Move}
 use Rattle.flow_system.specs.Systems.{System}
-use Rattle.flow_system.specs.Shapes.{IsInSpan, IsInOne, AreApart, AreAllApart, StaysIn, BeginsEarlier, CallsEarlier, onward}
-use Rattle.loop_fit.specs.Spans.{lies_within, CallsBefore, KeepsTo, KeepAt, KeepUpTo, SpansFit}
+use Rattle.flow_system.specs.Shapes.{IsInSpan, IsInOne, AreApart, AreAllApart, StaysIn, BeginsEarlier}
+use Rattle.loop_fit.specs.Spans.{lies_within, KeepsTo, KeepAt, KeepUpTo, SpansFit}
 use Rattle.loop_fit.proofs.PartLemmas.{filter_from, from_filter}
 
 -- a function's range as a test

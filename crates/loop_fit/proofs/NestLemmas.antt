@@ -1,10 +1,9 @@
 -- Ranges nest exactly where each, in the order in which they begin, is closed.
-use Rattle.std.proofs.Common.{◌≡◌, ℕ, zero, suc, ◌+◌, ◌-◌, ◌<◌, ◌≤◌, ltb, leb, inl, inr, arith, refl, sym, ap, ◌∙◌, subst, List, [], ◌∷◌, take, drop, length, get_or, All, Bool, true, false, ◌⊎◌, drop-cons, add-one}
+use Rattle.std.proofs.Common.{◌≡◌, ℕ, zero, suc, ◌+◌, ◌-◌, ◌<◌, ◌≤◌, leb, inl, inr, arith, sym, ap, subst, List, [], ◌∷◌, drop, length, get_or, All, true, false, ◌⊎◌, drop-cons, add-one}
 use Rattle.std.specs.Prelude.{nat_le}
 use Rattle.std.specs.List.Sorted.{IsPartitionPoint, IsNonDecreasingBy}
 use Rattle.std.proofs.lemmas.Bool.Decides.{nat_tests, eqb_tells}
 use Rattle.std.proofs.lemmas.List.{get_or_default}
-use Rattle.std.proofs.lemmas.List.Elements.{All-head, All-tail, All-cons, All-nil}
 use Rattle.flow_system.specs.declared.shapes.LoopShape.{LoopShape}
 use Rattle.flow_system.specs.Shapes.{AreNested, AreAllNested}
 use Rattle.loop_fit.specs.Nests.{IsFilled, FirstsAscend, IsClosed, AreClosedFrom}

@@ -1,5 +1,5 @@
 -- Loops that fit a system, without its functions.
-use Rattle.std.specs.Prelude.{◌≡◌, ℕ, ◌+◌, ◌<◌, ◌==◌, ◌&&◌, nat_le, List, [], ◌∷◌, length, Bool, false, Option, Some, None, All, slice_index_or}
+use Rattle.std.specs.Prelude.{◌≡◌, ℕ, ◌<◌, ◌==◌, ◌&&◌, nat_le, List, [], ◌∷◌, length, Bool, false, Option, Some, None, All, slice_index_or}
 use Rattle.std.specs.List.{AllAdjacentBelow}
 use Rattle.flow_system.specs.declared.shapes.LoopShape.{LoopShape}
 use Rattle.flow_system.specs.declared.moves.Move.{Move}

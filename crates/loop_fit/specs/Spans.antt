@@ -1,5 +1,5 @@
 -- Functions that fit a system, without its loops.
-use Rattle.std.specs.Prelude.{◌≡◌, ℕ, ◌<◌, ◌≤◌, ◌&&◌, nat_le, nat_lt, List, [], ◌∷◌, Bool, Option, Some, All, filter, take, slice_index_or}
+use Rattle.std.specs.Prelude.{◌≡◌, ℕ, ◌<◌, ◌≤◌, ◌&&◌, nat_le, nat_lt, List, [], ◌∷◌, Bool, Some, All, filter, take, slice_index_or}
 use Rattle.std.specs.List.{Any}
 use Rattle.flow_system.specs.declared.shapes.Span.{Span}
 use Rattle.flow_system.specs.declared.moves.Move.{Move}

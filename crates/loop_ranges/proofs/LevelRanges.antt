@@ -1,22 +1,19 @@
 -- How far worths reach: a loop that is settled adds no more than twice the greatest loose worth, the price of a block and its least number of starts.
-use Rattle.std.proofs.Common.{◌≡◌, ◌≢◌, ℕ, zero, suc, ◌+◌, ◌-◌, ◌*◌, ◌/◌, ◌≤◌, ◌<◌, ◌^◌, ℤ, pos, neg_ℤ, ◌+ℤ◌, ◌-ℤ◌, ◌*ℤ◌, ◌≤ℤ◌, ◌<ℤ◌, arith, refl, sym, ap, ◌∙◌, subst, List, [], ◌∷◌, Bool, true, false, cond, Option, Some, None, inl, inr, ◌⊎◌, unsigned_abs}
+use Rattle.std.proofs.Common.{◌≡◌, ℕ, suc, ◌+◌, ◌-◌, ◌*◌, ◌≤◌, ◌<◌, ◌^◌, ℤ, pos, ◌+ℤ◌, ◌-ℤ◌, ◌*ℤ◌, ◌≤ℤ◌, arith, refl, ap, ◌∙◌, List, [], ◌∷◌, Bool, true, false, cond, Option, Some, None, inl, inr, unsigned_abs}
 use Rattle.std.specs.Prelude.{nat_le, min}
-use Rattle.std.specs.Int.RustNames.{int_le, int_lt}
+use Rattle.std.specs.Int.RustNames.{int_lt}
 use lib.IntN.{negsuc}
 use Rattle.std.proofs.lemmas.Int.{ints}
 use Rattle.std.proofs.lemmas.Bool.Decides.{nat_tests}
 use Rattle.std.proofs.Math.Nat.{mul-le-mul_left}
-use Rattle.frac128.proofs.SignedLemmas.{mul-add, mul-sub}
 use Rattle.loop_walks.specs.declared.step.Step.{Step}
 use Rattle.loop_walks.specs.declared.step.Loop.{Loop}
-use Rattle.loop_walks.specs.declared.step.Pair.{Pair}
-use Rattle.loop_walks.specs.Walks.{larger, worth_at}
+use Rattle.loop_walks.specs.Walks.{worth_at}
 use Rattle.loop_walks.specs.Multipliers.{whole, over, least_of, pair_of, back_worth}
 use Rattle.loop_walks.specs.Levels.{onward}
 use Rattle.loop_walks.specs.Rows.{Each}
 use Rattle.loop_walks.proofs.LargerLemmas.{larger_least, Beneath}
-use Rattle.loop_walks.proofs.WalkLemmas.{AllBeneath}
-use Rattle.loop_ranges.specs.Near.{IsNear, IsNearWay, IsAtMost}
+use Rattle.loop_ranges.specs.Near.{IsNearWay, IsAtMost}
 use Rattle.loop_ranges.proofs.NearLemmas.{near_most}
 
 -- the greatest worth of a header's ways on

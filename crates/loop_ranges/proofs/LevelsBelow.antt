@@ -1,22 +1,22 @@
 -- How far worths reach when all loops of a function are settled.
-use Rattle.std.proofs.Common.{◌≡◌, ◌≢◌, ℕ, zero, suc, ◌+◌, ◌-◌, ◌≤◌, ◌<◌, ℤ, pos, ◌+ℤ◌, ◌-ℤ◌, ◌≤ℤ◌, ◌<ℤ◌, arith, refl, sym, ap, ◌∙◌, subst, List, [], ◌∷◌, length, Option, Some, None, Bool, true}
+use Rattle.std.proofs.Common.{◌≡◌, ℕ, ◌+◌, ◌-◌, ◌≤◌, ◌<◌, ℤ, pos, ◌+ℤ◌, ◌-ℤ◌, ◌≤ℤ◌, ◌<ℤ◌, arith, refl, ◌∙◌, List, [], ◌∷◌, length, Option, Some, None, true}
 use Rattle.std.specs.Prelude.{slice_set}
 use Rattle.std.proofs.lemmas.Int.{ints}
 use Rattle.std.proofs.Math.ListN.{length-set}
 use Rattle.loop_walks.specs.declared.step.Step.{Step}
 use Rattle.loop_walks.specs.declared.step.Loop.{Loop}
 use Rattle.loop_walks.specs.declared.step.Pair.{Pair}
-use Rattle.loop_walks.specs.Walks.{larger, worth_at, relaxed, head_steps, body_steps}
+use Rattle.loop_walks.specs.Walks.{worth_at, head_steps, body_steps}
 use Rattle.loop_walks.specs.Turns.{way_at, turn_ways, gain_by, gain}
 use Rattle.loop_walks.specs.Multipliers.{first_weight, weight_of, back_worth}
 use Rattle.loop_walks.specs.Levels.{weighed, gains, onward, Level, level_pair, raised, level_by, levels, ground}
-use Rattle.loop_walks.specs.Rows.{AreSteps, Each, IsLoopOf, AreLoops, ArePaid, HaveNone}
+use Rattle.loop_walks.specs.Rows.{AreSteps, Each, AreLoops, ArePaid, HaveNone}
 use Rattle.loop_walks.proofs.LargerLemmas.{larger_left}
 use Rattle.loop_walks.proofs.EachLemmas.{each_map, each_between, steps_are}
 use Rattle.loop_walks.proofs.WalkLemmas.{relaxed-long, relaxed_pays}
 use Rattle.loop_walks.proofs.LevelLemmas.{set_other, raised-long, weighed-long, From, from_above, Before, beneath, level_paid, level_before}
 use Rattle.loop_ranges.specs.Loose.{Loose, PaysLoosely, Turn, AreLooseTurns}
-use Rattle.loop_ranges.specs.Reach.{IsNearWeight, StartBelow, AreBelow, reach, IsLooseCode, WorthsStayNear, WorthsReach}
+use Rattle.loop_ranges.specs.Reach.{IsNearWeight, StartBelow, AreBelow, reach, WorthsStayNear, WorthsReach}
 use Rattle.loop_ranges.proofs.WalkRanges.{relaxed_near, weighed_near, ways_near}
 use Rattle.loop_ranges.proofs.LevelRanges.{onward_below, back_below, level_below}
 

@@ -1,17 +1,16 @@
 -- Sums, maxima and weights of worths that are near loose ones.
-use Rattle.std.proofs.Common.{◌≡◌, ℕ, zero, suc, ◌+◌, ◌-◌, ◌≤◌, ◌<◌, ℤ, pos, neg_ℤ, ◌+ℤ◌, ◌-ℤ◌, ◌*ℤ◌, ◌≤ℤ◌, ◌<ℤ◌, arith, refl, sym, ap, ◌∙◌, subst, inl, inr, ◌⊎◌, Bool, true, false, cond, Option, Some, None}
+use Rattle.std.proofs.Common.{◌≡◌, ℕ, zero, suc, ◌-◌, ◌≤◌, ◌<◌, ℤ, pos, neg_ℤ, ◌+ℤ◌, ◌-ℤ◌, ◌*ℤ◌, ◌≤ℤ◌, ◌<ℤ◌, arith, refl, ap, ◌∙◌, subst, inl, inr, Bool, true, false, cond, Option, Some, None}
 use Rattle.std.specs.Prelude.{nat_le}
 use Rattle.std.specs.Int.RustNames.{int_le, int_lt}
 use lib.IntN.{negsuc}
 use Rattle.std.proofs.lemmas.Int.{ints}
 use Rattle.std.proofs.lemmas.Bool.Decides.{nat_tests}
 use Rattle.std.proofs.Math.Nat.{mul-le-mul_left}
-use Rattle.frac128.proofs.SignedLemmas.{mul-add, mul-sub, mul-le, mul-neg, neg-mul}
+use Rattle.frac128.proofs.SignedLemmas.{mul-add, mul-le, mul-neg}
 use Rattle.loop_walks.specs.declared.step.Loop.{Loop}
 use Rattle.loop_walks.specs.Walks.{larger}
 use Rattle.loop_walks.specs.Turns.{greater, further, gain_by}
 use Rattle.loop_walks.specs.Multipliers.{first_weight}
-use Rattle.loop_walks.proofs.LargerLemmas.{larger_left, larger_right, larger_least}
 use Rattle.loop_ranges.specs.Near.{IsUpTo, IsNear, IsNearWay, PaysFurther, IsAtMost}
 
 pub near_up : (low v l k : ℤ) → l ≤ℤ k → IsNear low v l → IsNear low v k

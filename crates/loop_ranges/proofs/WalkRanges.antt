@@ -1,5 +1,5 @@
 -- Walks keep worths near the loose ones: to the ends, to a jump back, and the weights of headers.
-use Rattle.std.proofs.Common.{◌≡◌, ◌≢◌, ℕ, zero, suc, ◌+◌, ◌-◌, ◌*◌, ◌≤◌, ◌<◌, leb, ℤ, pos, ◌+ℤ◌, ◌-ℤ◌, ◌*ℤ◌, ◌≤ℤ◌, ◌<ℤ◌, arith, refl, sym, ap, ◌∙◌, subst, List, [], ◌∷◌, length, get_or, set, Option, Some, None, inl, inr, ◌⊎◌, get_or-set_other}
+use Rattle.std.proofs.Common.{◌≡◌, ◌≢◌, ℕ, zero, suc, ◌+◌, ◌-◌, ◌*◌, ◌≤◌, ◌<◌, ℤ, pos, ◌+ℤ◌, ◌*ℤ◌, ◌≤ℤ◌, ◌<ℤ◌, arith, refl, sym, ◌∙◌, subst, List, [], ◌∷◌, length, get_or, Option, Some, None, inl, inr, ◌⊎◌, get_or-set_other}
 use Rattle.std.specs.Prelude.{slice_set}
 use lib.IntN.{negsuc}
 use Rattle.std.proofs.lemmas.Int.{ints}
@@ -9,18 +9,18 @@ use Rattle.std.proofs.lemmas.Bool.Decides.{eqb_tells, leb_tells}
 use Rattle.std.proofs.Math.ListN.{length-set, replicate, get_or-eq_default}
 use Rattle.loop_walks.specs.declared.step.Step.{Step}
 use Rattle.loop_walks.specs.declared.step.Loop.{Loop}
-use Rattle.loop_walks.specs.Walks.{larger, worth_at, cost, taken, relaxed, between, range_steps}
-use Rattle.loop_walks.specs.Turns.{greater, further, way_at, turn_taken, turned, with_back, turn_start, turn_ways, gain_by, gain}
+use Rattle.loop_walks.specs.Walks.{worth_at, cost, relaxed, between, range_steps}
+use Rattle.loop_walks.specs.Turns.{further, way_at, turned, with_back, turn_start, turn_ways, gain}
 use Rattle.loop_walks.specs.Multipliers.{first_weight}
 use Rattle.loop_walks.specs.Levels.{weighed, gains}
-use Rattle.loop_walks.specs.Rows.{IsStep, AreSteps, Each, IsLoopOf, IsBack, AreLoops}
+use Rattle.loop_walks.specs.Rows.{IsStep, Each, IsLoopOf, IsBack, AreLoops}
 use Rattle.loop_walks.proofs.EachLemmas.{each_map, each_both, each_between, each_beside}
 use Rattle.loop_walks.proofs.WalkLemmas.{taken_at, taken_other, within}
-use Rattle.loop_walks.proofs.TurnLemmas.{turn_at, turn_other, turned-long, turn_start-long, IsInRange}
-use Rattle.loop_ranges.specs.Near.{IsUpTo, IsNear, IsNearWay, PaysFurther, IsAtMost, IsThere}
+use Rattle.loop_walks.proofs.TurnLemmas.{turn_at, turn_other, turned-long, turn_start-long}
+use Rattle.loop_ranges.specs.Near.{IsNear, IsNearWay, PaysFurther, IsThere}
 use Rattle.loop_ranges.specs.Reach.{IsNearWeight}
 use Rattle.loop_ranges.specs.Loose.{Loose, PaysLoosely, Turn, IsLooseTurn, AreLooseTurns}
-use Rattle.loop_ranges.proofs.NearLemmas.{near_up, near_sum, near_larger, near_low, way_near, further_near, gain_near, weight_near}
+use Rattle.loop_ranges.proofs.NearLemmas.{near_up, near_sum, near_larger, way_near, further_near, gain_near, weight_near}
 
 -- a step of a loop's range that is paid loosely, also on a way
 pub record IsTurn (low : ℤ) (x : Loose) (l : Loop) (t : Turn) (weights : List ℤ) (m : Step) : Type 0 where

@@ -1,4 +1,4 @@
-use Rattle.std.proofs.Common.{◌≤◌, ◌<◌, get_or, arith, None, refl, rules, length}
+use Rattle.std.proofs.Common.{◌≤◌, ◌<◌, get_or, arith, None, refl, rules}
 use Rattle.flow_system.specs.declared.shapes.LoopShape.{LoopShape}
 use Rattle.loop_fit.proofs.NestLemmas.{end_start, end_more, past_next, closed_end, closed_before, not_closed}
 use Rattle.loop_fit.proofs.nest.is_closed.Goals as goal

@@ -1,5 +1,4 @@
-use Rattle.std.proofs.Common.{◌≡◌, ◌+◌, ◌-◌, false, arith, refl, sym, ◌∙◌, subst, length, rules}
-use Rattle.loop_fit.specs.Nests.{AreClosedFrom}
+use Rattle.std.proofs.Common.{◌≡◌, false, arith, refl, sym, ◌∙◌, rules}
 use Rattle.loop_fit.proofs.NestLemmas.{closed_nest, nest_closed, closed_more}
 use Rattle.loop_fit.proofs.nest.nest_in_order.Goals as goal
 

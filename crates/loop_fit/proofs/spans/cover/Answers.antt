@@ -1,4 +1,4 @@
-use Rattle.std.proofs.Common.{◌≡◌, ◌+◌, drop, length, All, sym, ap, ◌∙◌, subst, arith, Fits, w64, rules}
+use Rattle.std.proofs.Common.{◌≡◌, length, All, sym, ap, ◌∙◌, subst, arith, Fits, w64, rules}
 use Rattle.flow_system.specs.declared.shapes.Span.{Span}
 use Rattle.flow_system.specs.Shapes.{IsInOne}
 use Rattle.loop_fit.proofs.ShapeLemmas.{is_eq, eq_is}

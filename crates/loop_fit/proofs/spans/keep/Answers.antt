@@ -1,6 +1,6 @@
 use Rattle.std.proofs.Common.{◌≡◌, false, refl, sym, ◌∙◌, subst, inl, inr, arith, rules}
 use Rattle.std.proofs.lemmas.Bool.Decides.{eqb_tells}
-use Rattle.loop_fit.specs.Spans.{KeepAt, KeepUpTo}
+use Rattle.loop_fit.specs.Spans.{KeepAt}
 use Rattle.loop_fit.proofs.spans.keep.Goals as goal
 
 pub returns-then-not-keep_at : goal.returns-then-not-keep_at
