@@ -19,6 +19,8 @@ ghost use Rattle.flow_system.specs.Shapes.{Fits};
 mod loops;
 mod nest;
 mod spans;
+#[cfg(test)]
+mod tests;
 
 use flow_system::{LoopShape, Span, System};
 
