@@ -84,8 +84,8 @@ fn truth_of(word: Option<u32>) -> Option<u32>
     }
 }
 
-/// The word of a constant whose value is defined.
-fn word(expr: &Expr) -> Option<u32>
+/// The word of a constant expression whose value is defined (C11 6.6).
+pub fn word(expr: &Expr) -> Option<u32>
     ensures { result ≡ word (expr_of expr.now) }
 {
     match expr {
