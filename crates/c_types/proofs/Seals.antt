@@ -128,6 +128,6 @@ same_program names items at is fs vs i f v =
     ∙ ap (λ x. record { items = (typed_of names (Whole items at)).items; functions = x; variables = vs; at = at }) f
     ∙ ap (λ x. record { items = (typed_of names (Whole items at)).items; functions = (typed_of names (Whole items at)).functions; variables = x; at = at }) v
 
-pub sealed : (names : List (List ℕ)) (unit : TranslationUnit ℕ) (program : typed.Program) → ∥ IsFormedUnit unit ∥₁ → ∥ AreListed names unit ∥₁ → ∥ AreNames names ∥₁ → AreDistinct names → names ≡ names_of_unit (named_unit (name_of names) unit) → fault_of names unit ≡ None → program ≡ typed_of names unit → ∥ IsTypedTree names program ∥₁
-sealed names unit program formed listed named distinct ordered passes is =
-    ∥∥₁_elim formed ∥∥₁_prop (λ f. ∥∥₁_elim listed ∥∥₁_prop (λ l. ∥∥₁_map named (λ n. record { unit = unit; is_formed = f; are_listed = l; are_names = n; are_distinct = distinct; are_in_order = ordered; passes = passes; program_is = is })))
+pub sealed : (names : List (List ℕ)) (unit : TranslationUnit ℕ) (program : typed.Program) → ∥ IsFormedUnit unit ∥₁ → (size_unit unit).depth ≤ 256 → ∥ AreListed names unit ∥₁ → ∥ AreNames names ∥₁ → AreDistinct names → names ≡ names_of_unit (named_unit (name_of names) unit) → fault_of names unit ≡ None → program ≡ typed_of names unit → ∥ IsTypedTree names program ∥₁
+sealed names unit program formed shallow listed named distinct ordered passes is =
+    ∥∥₁_elim formed ∥∥₁_prop (λ f. ∥∥₁_elim listed ∥∥₁_prop (λ l. ∥∥₁_map named (λ n. record { unit = unit; is_formed = f; shallow = shallow; are_listed = l; are_names = n; are_distinct = distinct; are_in_order = ordered; passes = passes; program_is = is })))

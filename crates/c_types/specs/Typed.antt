@@ -1,9 +1,10 @@
 -- The typed tree of a unit that has one, and why another has none.
-use Rattle.std.specs.Prelude.{◌≡◌, ℕ, ◌<◌, List, length, map, Option, Some, None}
+use Rattle.std.specs.Prelude.{◌≡◌, ℕ, ◌<◌, ◌≤◌, List, length, map, Option, Some, None}
 use Rattle.std.specs.List.{All}
 use Rattle.c_tree.specs.Formed.{IsFormedUnit}
 use Rattle.c_tree.specs.Names.{AreDistinct, AreListed, AreNames, name_of, names_of_unit}
 use Rattle.c_tree.specs.Named.{named_unit}
+use Rattle.c_tree.specs.Size.{size_unit}
 use Rattle.c_tree.specs.Tree.{TranslationUnit}
 use Rattle.c_typed.specs.Tree.{Program}
 use Rattle.c_facts.specs.Calls.{function_calls}
@@ -27,10 +28,11 @@ typed_of names unit = typed_unit (outline_of names unit) unit
 abbrev pub CallsDefined : Program → Type 0
 CallsDefined program = All (λ function. All (λ number. number < length program.functions) (function_calls function)) program.functions
 
--- a program is the typed tree of a unit that is well formed and has one
+-- a program is the typed tree of a unit that is well formed, at most 256 nodes deep, and has one
 pub record IsTypedTree (names : List (List ℕ)) (program : Program) : Type 0 where
   pub unit : TranslationUnit ℕ
   pub is_formed : IsFormedUnit unit
+  pub shallow : (size_unit unit).depth ≤ 256
   pub are_listed : AreListed names unit
   pub are_names : AreNames names
   pub are_distinct : AreDistinct names

@@ -4,8 +4,8 @@ ghost use Rattle.c_typed.specs.View.{program_of};
 
 use c_typed::program::Program;
 
-/// A typed program. It is the typed tree of a well-formed unit that is within the limits and fails no rule,
-/// and each call is of a function that it defines.
+/// A typed program. It is the typed tree of a well-formed unit that is at most 256 nodes deep, within the limits
+/// and fails no rule, and each call is of a function that it defines.
 #[derive(Drop)]
 pub struct Typed {
     pub program: Program,

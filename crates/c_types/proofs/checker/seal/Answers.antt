@@ -16,6 +16,6 @@ invariant_of-result c =
     let whole = row_of source_external Nothing unit.items.items in
     let same = same_program names whole unit.at (map external_of made.items.items) (map function_of made.functions.items) made.variables.items draft.items draft.functions draft.variables in
     record {
-      is_typed = sealed names (tree_of unit) (record { items = map external_of made.items.items; functions = map function_of made.functions.items; variables = made.variables.items; at = unit.at }) unit.is_formed unit.are_listed unit.are_names unit.are_distinct unit.are_in_order c.requires.passes same;
+      is_typed = sealed names (tree_of unit) (record { items = map external_of made.items.items; functions = map function_of made.functions.items; variables = made.variables.items; at = unit.at }) unit.is_formed unit.is_shallow unit.are_listed unit.are_names unit.are_distinct unit.are_in_order c.requires.passes same;
       calls_defined = subst CallsDefined (sym same) (calls_defined names whole unit.at c.requires.passes);
     }
