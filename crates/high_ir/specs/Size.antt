@@ -1,4 +1,4 @@
--- How large a program is: its nodes, its depth, the bytes of its local objects.
+-- How large a program is: its nodes, its operations, its depth, the bytes of its local objects.
 use Rattle.std.specs.Prelude.{ℕ, ◌+◌, ◌*◌, ◌/◌, max, List, [], ◌∷◌, length, sum_by}
 use Rattle.high_ir.specs.declared.object.Storage.{Storage}
 use Rattle.high_ir.specs.declared.object.Storage.TheVariants.{Constant as Fixed, Global, Local}
@@ -39,6 +39,36 @@ function_nodes f = nodes f.body + 1
 
 abbrev pub program_nodes : Program → ℕ
 program_nodes p = sum_by function_nodes p.functions
+
+-- the same without constants and variables, which are operands and no instructions of their own; a value that is passed is one more
+abbrev pub expr_operations : Expr → ℕ
+expr_operations (Constant word) = 0
+expr_operations (Variable x) = 0
+expr_operations (Element array index) = expr_operations index + 1
+expr_operations (Unary operator operand) = expr_operations operand + 1
+expr_operations (Binary operator left right) = expr_operations left + expr_operations right + 1
+
+abbrev mutual
+  pub operations : Statement → ℕ
+  operations (Set x e) = expr_operations e + 1
+  operations (Put e) = expr_operations e + 1
+  operations (Get x) = 1
+  operations (Keep array i e) = expr_operations i + expr_operations e + 1
+  operations (Mark m) = 1
+  operations (Seq parts) = operations_all parts + 1
+  operations (If test first other) = expr_operations test + operations first + operations other + 1
+  operations (Loop id least most body) = operations body + 1
+  operations (Block body) = operations body + 1
+  operations (Leave d) = 1
+  operations (Call f values arrays into) = sum_by expr_operations values + length values + length arrays + 1
+  operations (Return e) = expr_operations e + 1
+
+  pub operations_all : Statements → ℕ
+  operations_all End = 0
+  operations_all (Then first rest) = operations first + operations_all rest
+
+abbrev pub program_operations : Program → ℕ
+program_operations p = sum_by (λ f. operations f.body + 1) p.functions
 
 -- 1 for a leaf, else one more than the greatest depth of the parts
 abbrev pub expr_depth : Expr → ℕ

@@ -1,14 +1,15 @@
 -- The law of a pass from one program to another.
 use Rattle.std.specs.Prelude.{◌≡◌, ℕ, ◌≤◌, map, All, sum_by}
 use Rattle.high_ir.specs.Tree.{Function, Program}
-use Rattle.high_ir.specs.Size.{program_nodes, program_depth, local_bytes}
+use Rattle.high_ir.specs.Size.{program_operations, program_depth, local_bytes}
 use Rattle.high_ir.specs.Weight.{weight, reach}
 use Rattle.high_pass.specs.Listing.{Listing}
 use Rattle.high_pass.specs.Carries.{behaviour_of, Carries}
 
 -- a program that is not too large
 pub record WithinBudgets (p : Program) : Type 0 where
-  pub nodes : program_nodes p ≤ 98304
+  -- six for each node of the largest source
+  pub operations : program_operations p ≤ 98304
   pub depth : program_depth p ≤ 1024
   pub locals : local_bytes p ≤ 524288
 
