@@ -44,7 +44,7 @@ module _ (names : List (List ℕ)) (items : Row (External ℕ)) (at : ℕ) (pass
   behind_is : or_else (broken (first_fault (unit_nodes (outline_of names (Whole items at)) (Whole items at)))) (limits_behind (variables_of (outline_of names (Whole items at)) (Whole items at))) ≡ None
   behind_is = no_second (limits_before (size_unit (Whole items at)).nodes (tally_unit (Whole items at))) (or_else (broken (first_fault (unit_nodes (outline_of names (Whole items at)) (Whole items at)))) (limits_behind (variables_of (outline_of names (Whole items at)) (Whole items at)))) passes
 
-  rules_pass : first_fault (externals_nodes items (started (outline_of names (Whole items at)))) ≡ None
+  pub rules_pass : first_fault (externals_nodes items (started (outline_of names (Whole items at)))) ≡ None
   rules_pass =
       let unit = Whole items at in
       let outline = outline_of names unit in
@@ -59,7 +59,15 @@ module _ (names : List (List ℕ)) (items : Row (External ℕ)) (at : ℕ) (pass
       (no_first (limit Nodes (over Nodes nodes)) (or_else (limit Functions (over Functions t.functions)) (or_else (limit Parameters t.parameters) (or_else (limit Markers (over Markers t.markers)) (limit Restrictions (over Restrictions t.restrictions)))))
       (no_first (limits_before nodes t) (or_else (broken (first_fault (unit_nodes (outline_of names unit) unit))) (limits_behind (variables_of (outline_of names unit) unit))) passes))
 
-  few_locals : local_bytes (typed_of names (Whole items at)).variables ≤ 262144
+  pub few_globals : global_bytes (typed_of names (Whole items at)).variables ≤ 262144
+  few_globals =
+      let variables = (typed_of names (Whole items at)).variables in
+      let unit = Whole items at in
+      within Globals (global_bytes variables)
+      (no_first (limit Globals (over Globals (global_bytes variables))) (limit Locals (over Locals (local_bytes variables)))
+      (no_second (broken (first_fault (unit_nodes (outline_of names unit) unit))) (limits_behind variables) behind_is))
+
+  pub few_locals : local_bytes (typed_of names (Whole items at)).variables ≤ 262144
   few_locals =
       let variables = (typed_of names (Whole items at)).variables in
       let unit = Whole items at in
