@@ -32,6 +32,7 @@ fn index_of(functions: &[Function], id: usize) -> usize
     functions.len()
 }
 
+/// The number of the function `main`, or that of all functions where none has this name.
 pub fn main_of(program: &Program) -> usize
     ensures { result ≡ main_of (program_of program.now) program.now.names.items }
 {

@@ -11,4 +11,5 @@ mod parts;
 mod restrictions;
 mod walk;
 
+pub use entry::main_of;
 pub use evaluation::eval;
