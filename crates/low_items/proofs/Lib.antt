@@ -2,3 +2,5 @@ pub mod GraphLemmas
 pub mod KeepLemmas
 pub mod SizeLemmas
 pub mod ItemLemmas
+pub mod FormedLemmas
+pub mod RoomLemmas

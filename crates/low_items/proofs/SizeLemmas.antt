@@ -60,11 +60,11 @@ module _ (fr : Frame) where
   fetch_few t (InRegister q) = omega arith
   fetch_few t (Slot k) = load_few t (slot_at fr k)
 
-  operand_few : (t : ℕ) (x : Operand Place) → length (operand_code fr t x) ≤ 2
+  pub operand_few : (t : ℕ) (x : Operand Place) → length (operand_code fr t x) ≤ 2
   operand_few t (Register p) = fetch_few t p
   operand_few t (Constant w) = either (w % 2 ^ 32 == 0) [] _ 2 (omega arith) (constant_few t (w % 2 ^ 32))
 
-  into_few : (r : ℕ) (x : Operand Place) → length (into_code fr r x) ≤ 2
+  pub into_few : (r : ℕ) (x : Operand Place) → length (into_code fr r x) ≤ 2
   into_few r (Register (InRegister q)) = let h = move_few r (machine_register q) in omega arith
   into_few r (Register (Slot k)) = load_few r (slot_at fr k)
   into_few r (Constant w) = constant_few r (w % 2 ^ 32)
@@ -94,15 +94,15 @@ module _ (fr : Frame) where
   argument_few : (callee : Frame) (all : List Place) (x : Operand Place) (a : ℕ) → length (store_argument fr callee all x a) ≤ 4
   argument_few callee all x a = joined (operand_code fr first_free x) _ 2 2 (operand_few first_free x) (store_few second_free _ a)
 
-  home_few : (qs : List ℕ) → length (home_code fr qs) ≤ 2 * length qs
+  pub home_few : (qs : List ℕ) → length (home_code fr qs) ≤ 2 * length qs
   home_few [] = omega arith
   home_few (q ∷ qs) = let h = joined (store_code first_free (machine_register q) (home_at fr q)) (home_code fr qs) 2 (2 * length qs) (store_few first_free (machine_register q) (home_at fr q)) (home_few qs) in omega arith
 
-  return_few : (qs : List ℕ) → length (return_code fr qs) ≤ 2 * length qs
+  pub return_few : (qs : List ℕ) → length (return_code fr qs) ≤ 2 * length qs
   return_few [] = omega arith
   return_few (q ∷ qs) = let h = joined (load_code (machine_register q) (home_at fr q)) (return_code fr qs) 2 (2 * length qs) (load_few (machine_register q) (home_at fr q)) (return_few qs) in omega arith
 
-  pass_few : (callee : Frame) (all : List Place) (xs : List (Operand Place)) (ps : List Place) → length (pass_code fr callee all xs ps) ≤ 4 * length xs
+  pub pass_few : (callee : Frame) (all : List Place) (xs : List (Operand Place)) (ps : List Place) → length (pass_code fr callee all xs ps) ≤ 4 * length xs
   pass_few callee all [] ps = omega arith
   pass_few callee all (x ∷ xs) [] = omega arith
   pass_few callee all (x ∷ xs) (InRegister q ∷ ps) =
@@ -114,7 +114,7 @@ module _ (fr : Frame) where
       let h : length (first ++ pass_code fr callee all xs ps) ≤ 4 + 4 * length xs = joined first (pass_code fr callee all xs ps) 4 (4 * length xs) few (pass_few callee all xs ps) in omega arith
   pass_few callee all (x ∷ xs) (Slot k ∷ ps) = let h = joined (store_argument fr callee all x (slot_at callee k)) (pass_code fr callee all xs ps) 4 (4 * length xs) (argument_few callee all x (slot_at callee k)) (pass_few callee all xs ps) in omega arith
 
-  late_few : (callee : Frame) (all : List Place) (xs : List (Operand Place)) (ps : List Place) → length (late_code fr callee all xs ps) ≤ 2 * length xs
+  pub late_few : (callee : Frame) (all : List Place) (xs : List (Operand Place)) (ps : List Place) → length (late_code fr callee all xs ps) ≤ 2 * length xs
   late_few callee all [] ps = omega arith
   late_few callee all (x ∷ xs) [] = omega arith
   late_few callee all (x ∷ xs) (InRegister q ∷ ps) =
@@ -124,7 +124,7 @@ module _ (fr : Frame) where
       let h : length (first ++ late_code fr callee all xs ps) ≤ 2 + 2 * length xs = joined first (late_code fr callee all xs ps) 2 (2 * length xs) few (late_few callee all xs ps) in omega arith
   late_few callee all (x ∷ xs) (Slot k ∷ ps) = let h = late_few callee all xs ps in omega arith
 
-  value_few : (d : Option Place) → length (value_code fr d) ≤ 2
+  pub value_few : (d : Option Place) → length (value_code fr d) ≤ 2
   value_few None = omega arith
   value_few (Some d) = put_few result d
 

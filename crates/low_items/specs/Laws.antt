@@ -1,16 +1,18 @@
 -- What the items of a program keep to.
-use Rattle.std.specs.Prelude.{◌≡◌, ◌≢◌, ℕ, suc, ◌^◌, ◌≤◌, ◌<◌, true, [], ◌∷◌, length, Contains}
+use Rattle.std.specs.Prelude.{◌≡◌, ◌≢◌, ℕ, suc, ◌+◌, ◌*◌, ◌^◌, ◌≤◌, ◌<◌, true, List, [], ◌∷◌, length, Contains}
+use Rattle.code_items.specs.declared.item.Item.{Item}
 use Rattle.code_items.specs.declared.item.Item.TheVariants as items
+use Rattle.code_items.specs.Items.{total}
 use Rattle.code_items.specs.Promises.{Keeps}
 use Rattle.laid_code.specs.Graphs as graphs
 use Rattle.laid_code.specs.Graphs.{IsShaped}
-use Rattle.low_ir.specs.Places.{Placed}
+use Rattle.low_ir.specs.Places.{Assignment, Placed, placed}
 use Rattle.low_ir.specs.declared.places.Place.{Place}
-use Rattle.low_ir.specs.Code.{Plain, Set, Operate, Point, Load, Store, Put, Get}
-use Rattle.low_ir.specs.Room.{plain_room}
-use Rattle.low_items.specs.Frames.{Frame, Memory}
-use Rattle.low_items.specs.Emission.{plain_code}
-use Rattle.low_items.specs.Functions.{block_count, items_at, graph_of}
+use Rattle.low_ir.specs.Code.{Plain, Set, Operate, Point, Load, Store, Put, Get, Instr, Do, Call, End, Low}
+use Rattle.low_ir.specs.Room.{instr_room, end_room}
+use Rattle.low_ir.specs.Formed.{IsLow}
+use Rattle.low_items.specs.Frames.{Memory}
+use Rattle.low_items.specs.Functions.{instr_items, end_items, block_count, items_at, graph_of}
 use Rattle.low_items.specs.Formed.{IsProgram}
 
 -- the graph is reducible, and its calls go to lower numbers
@@ -35,6 +37,17 @@ HasWords (Store kind a x) = a.displacement < 2 ^ 32
 HasWords (Put x) = Unit {0}
 HasWords (Get d) = Unit {0}
 
--- the code of an instruction has room
-abbrev pub CodeHasRoom : Type 0
-CodeHasRoom = (fr : Frame) (m : Memory) (i : Plain Place) → HasWords i → length (plain_code fr m i) ≤ plain_room i
+abbrev pub AreWords : Instr Place (List ℕ) → Type 0
+AreWords (Do i) = HasWords i
+AreWords (Call d callee args note) = Unit {0}
+
+-- the items of an instruction, and those with which a block ends, take at most the bytes of its room, in whatever is behind them
+abbrev pub ItemsHaveRoom : Type 0
+ItemsHaveRoom = (m : Memory) (p : Placed) (f : ℕ) (i : Instr Place (List ℕ)) (xs : List Item) → AreWords i → total (instr_items m p f i xs) ≤ 4 * instr_room i + total xs
+
+abbrev pub EndsHaveRoom : Type 0
+EndsHaveRoom = (m : Memory) (p : Placed) (f b : ℕ) (end : End Place) → total (end_items m p f b end) ≤ 4 * end_room end
+
+-- a program over the places of its registers has the form that the items want
+abbrev pub PlacedHasForm : Type 0
+PlacedHasForm = (a : Assignment) (low : Low) → IsLow low → IsProgram (placed a low)

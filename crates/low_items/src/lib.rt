@@ -13,12 +13,14 @@
 //!
 //! Proved, each by a call with an empty body: [`graphs_are_shaped`], that the graph is reducible and calls go
 //! to lower numbers; [`items_keep`], that each block's items keep to it; [`latches_jump`], that a loop's latch
-//! is its one jump back; [`code_has_room`], that no instruction takes more than its room.
+//! is its one jump back; [`items_have_room`], that no instruction, call or end of a block takes more than its
+//! room, however many registers live across a call; [`placed_has_form`], that programs over places keep to
+//! what all this asks of them.
 //!
 //! The crate knows no addresses of code and no machine's runs.
 #![tactic(auto)]
 
-ghost use Rattle.low_items.specs.Laws.{GraphsAreShaped, ItemsKeep, LatchesJump, CodeHasRoom};
+ghost use Rattle.low_items.specs.Laws.{GraphsAreShaped, ItemsKeep, LatchesJump, ItemsHaveRoom, EndsHaveRoom, PlacedHasForm};
 
 /// The graph of a program's items is reducible, and its calls go to lower numbers.
 pub fn graphs_are_shaped()
@@ -35,7 +37,13 @@ pub fn latches_jump()
     ensures { LatchesJump }
 {}
 
-/// No instruction that goes on takes more machine instructions than its room.
-pub fn code_has_room()
-    ensures { CodeHasRoom }
+/// The items of an instruction, and those with which a block ends, take at most the bytes of its room.
+pub fn items_have_room()
+    ensures instructions { ItemsHaveRoom }
+    ensures ends { EndsHaveRoom }
+{}
+
+/// A program over the places of its registers has the form that its items want.
+pub fn placed_has_form()
+    ensures { PlacedHasForm }
 {}
