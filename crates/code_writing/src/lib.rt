@@ -19,3 +19,4 @@ mod words;
 pub use blocks::put_blocks;
 pub use laws::forms_keep;
 pub use sizes::{bytes_of, size_of, starts_of};
+pub use targets::target_of;
