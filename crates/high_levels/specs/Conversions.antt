@@ -1,4 +1,5 @@
--- Typed trees in which no conversion that C implies stands right over another, and in which arrays that are filled have written sizes.
+-- Typed trees in which no conversion that C implies stands right over another or right under `&&` or `||`, and in which arrays that are
+-- filled have written sizes.
 use Rattle.std.specs.Prelude.{◌≡◌, ◌≤◌, List, [], ◌∷◌, Option, Some, None}
 use Rattle.c_tree.specs.Size.{size_items}
 use Rattle.c_tree.specs.Tree as source
@@ -24,8 +25,8 @@ abbrev mutual
   Single (c.Cast specifiers to operand at) = Single operand
   Single (c.Convert to operand) = (slack operand ≡ 0) × Single operand
   Single (c.Operate operator kind left right at) = Single left × Single right
-  Single (c.And left right at) = Single left × Single right
-  Single (c.Or left right at) = Single left × Single right
+  Single (c.And left right at) = Single left × Single right × (slack left ≡ 0) × (slack right ≡ 0)
+  Single (c.Or left right at) = Single left × Single right × (slack left ≡ 0) × (slack right ≡ 0)
   Single (c.Comma left right at) = Single left × Single right
   Single (c.Conditional test first second at) = Single test × Single first × Single second
   Single (c.Assign target value at) = PlaceSingle target × Single value

@@ -3,20 +3,19 @@ use Rattle.std.proofs.Common.{ℕ, suc, ◌+◌, ◌*◌, ◌≤◌, Bool, List,
 use Rattle.c_facts.specs.Most.{call_most, expr_most, exprs_most, place_most}
 use Rattle.c_facts.specs.declared.facts.Bounds.{Bounds}
 use Rattle.c_typed.specs.Tree as c
-use Rattle.high_ir.specs.Size.{expr_nodes}
 use Rattle.high_ir.specs.Tree.{Constant, Variable, Set, Seq, Block, Statements, Then}
 use Rattle.high_code.specs.Code.{joined, alone}
 use Rattle.high_plan.specs.declared.home.Home.{Home}
 use Rattle.high_plan.specs.declared.purpose.Purpose.{Purpose}
 use Rattle.high_plan.specs.declared.purpose.Purpose.TheVariants.{Value, Effect, Unless, When}
 use Rattle.high_plan.specs.Homes.{home_of, loaded}
-use Rattle.high_plan.specs.Values.{Valued, aimed, array_named, assigned, both, called, choice, finished, for_operand, in_block, is_joint, known, made, operated_on, passing, placed, step_operator, stepped, updated}
+use Rattle.high_plan.specs.Values.{Valued, aimed, array_named, assigned, both, called, choice, finished, for_operand, is_joint, known, made, operated_on, passing, placed, step_operator, stepped, updated}
 use Rattle.high_levels.specs.Levels.{slack}
 use Rattle.high_levels.specs.Conversions.{AllSingle, PlaceSingle, Single}
 use Rattle.high_levels.proofs.Expressions.{slack_most}
-use Rattle.high_sizes.specs.Costs.{Rates, cost_all}
+use Rattle.high_sizes.specs.Costs.{Rates, cost_all, expr_cost}
 use Rattle.high_sizes.specs.Covers.{Covers}
-use Rattle.high_sizes.proofs.Pieces.{AimedFits, FitsFor, PassingFits, code_cost, convert_fits, cost-joined, done, finished_fits, loaded_nodes, scalar_nodes, wider}
+use Rattle.high_sizes.proofs.Pieces.{AimedFits, FitsFor, PassingFits, code_cost, convert_fits, cost-joined, done, finished_fits, loaded_cost, scalar_cost, wider}
 use Rattle.high_sizes.proofs.Parts.{argument_fits, assigned_fits, called_fits, choice_cost, compound_fits, operate_fits, signed_fits, stepped_fits}
 
 module _ (rates : Rates) (callee calls : ℕ → ℕ) (planned bounds : List Bounds) (node spare : ℕ) (covers : Covers rates callee calls planned bounds node spare) (homes : List Home) where
@@ -25,45 +24,42 @@ module _ (rates : Rates) (callee calls : ℕ → ℕ) (planned bounds : List Bou
   allowed e = node * expr_most calls e + slack e
 
   -- the code for two tests, one after the other
-  jumps_cost : (left right : Statements) (a b : ℕ) → cost_all rates callee left + 3 ≤ a + 1 → cost_all rates callee right + 3 ≤ b + 1 → cost_all rates callee (joined left right) + 4 ≤ a + b
+  jumps_cost : (left right : Statements) (a b : ℕ) → cost_all rates callee left + rates.leaf + 1 ≤ a → cost_all rates callee right + rates.leaf + 1 ≤ b → cost_all rates callee (joined left right) + 2 * rates.leaf + 2 ≤ a + b
   jumps_cost left right a b h g = omega (arith, h, g, cost-joined rates callee left right)
 
-  noted_cost : (k x y : ℕ) (jumps : Statements) (n : ℕ) → cost_all rates callee jumps + 4 ≤ n → cost_all rates callee (Then (Set k (Constant x)) (alone (Block (Seq (joined jumps (alone (Set k (Constant y)))))))) + 1 + 6 ≤ node + n
+  noted_cost : (k x y : ℕ) (jumps : Statements) (n : ℕ) → cost_all rates callee jumps + 2 * rates.leaf + 2 ≤ n → cost_all rates callee (Then (Set k (Constant x)) (alone (Block (Seq (joined jumps (alone (Set k (Constant y)))))))) + rates.leaf + rates.leaf + 4 ≤ node + n
   noted_cost k x y jumps n h = omega (arith, h, cost-joined rates callee jumps (alone (Set k (Constant y))), covers.some)
 
-  block_cost : (jumps : Statements) (n : ℕ) → cost_all rates callee jumps + 4 ≤ n → cost_all rates callee (in_block jumps) + 3 ≤ node + n
-  block_cost jumps n h = omega (arith, h, covers.some)
-
-  comma_fits : (purpose : Purpose) (left : Statements) (right : Valued) (a b n : ℕ) → cost_all rates callee left + 6 ≤ a + 1 → FitsFor rates callee purpose right (b + 1) → node + a + b ≤ n → FitsFor rates callee purpose (both left right) n
+  comma_fits : (purpose : Purpose) (left : Statements) (right : Valued) (a b n : ℕ) → cost_all rates callee left + rates.leaf + 4 ≤ a + 1 → FitsFor rates callee purpose right (b + 1) → node + a + b ≤ n → FitsFor rates callee purpose (both left right) n
   comma_fits Value left right a b n h g room = omega (arith, h, g, room, covers.some, cost-joined rates callee left right.code)
   comma_fits Effect left right a b n h g room = omega (arith, h, g, room, covers.some, cost-joined rates callee left right.code)
   comma_fits (Unless depth) left right a b n h g room = omega (arith, h, g, room, covers.some, cost-joined rates callee left right.code)
   comma_fits (When depth) left right a b n h g room = omega (arith, h, g, room, covers.some, cost-joined rates callee left right.code)
 
   -- a choice of values, whose test is a value or jumps
-  chosen_fits : (purpose : Purpose) (joint : Bool) (k : ℕ) (test : Valued) (jumps : Statements) (first second : Valued) (t f s n : ℕ) → code_cost rates callee test + expr_nodes test.value + 5 ≤ t → cost_all rates callee jumps + 2 ≤ t → code_cost rates callee first + expr_nodes first.value + 5 ≤ f →
-      code_cost rates callee second + expr_nodes second.value + 5 ≤ s → node + t + f + s ≤ n →
+  chosen_fits : (purpose : Purpose) (joint : Bool) (k : ℕ) (test : Valued) (jumps : Statements) (first second : Valued) (t f s n : ℕ) → code_cost rates callee test + expr_cost rates.leaf test.value + rates.leaf + 3 ≤ t → cost_all rates callee jumps + rates.leaf ≤ t → code_cost rates callee first + expr_cost rates.leaf first.value + rates.leaf + 3 ≤ f →
+      code_cost rates callee second + expr_cost rates.leaf second.value + rates.leaf + 3 ≤ s → node + t + f + s ≤ n →
       FitsFor rates callee purpose (finished purpose (record { code = choice joint test jumps (placed k first) (placed k second); value = Variable k })) n
   chosen_fits purpose joint k test jumps first second t f s n h j g i room =
       let p : Valued = record { code = choice joint test jumps (placed k first) (placed k second); value = Variable k } in
       let x = cost-joined rates callee first.code (alone (Set k first.value)) in
       let y = cost-joined rates callee second.code (alone (Set k second.value)) in
-      let all = choice_cost rates callee calls planned bounds node spare covers joint test jumps (placed k first) (placed k second) (t + f + s) (omega (arith, h, g, i, x, y)) (omega (arith, j, g, i, x, y)) in
+      let all = choice_cost rates callee calls planned bounds node spare covers joint test jumps (placed k first) (placed k second) (t + f + s + 1) (omega (arith, h, g, i, x, y)) (omega (arith, j, g, i, x, y)) in
       finished_fits rates callee purpose p n (done rates callee purpose p n (omega (arith, all, room, covers.some)))
 
   -- of a part, which may be a conversion
-  value_of : (e : c.Expr) (p : Valued) → FitsFor rates callee Value p (allowed e) → code_cost rates callee p + expr_nodes p.value + 5 ≤ node * expr_most calls e
+  value_of : (e : c.Expr) (p : Valued) → FitsFor rates callee Value p (allowed e) → code_cost rates callee p + expr_cost rates.leaf p.value + rates.leaf + 3 ≤ node * expr_most calls e
   value_of e p h = omega (arith, h, slack_most e)
 
-  effect_of : (e : c.Expr) (p : Valued) → FitsFor rates callee Effect p (allowed e) → code_cost rates callee p + 5 ≤ node * expr_most calls e
+  effect_of : (e : c.Expr) (p : Valued) → FitsFor rates callee Effect p (allowed e) → code_cost rates callee p + rates.leaf + 3 ≤ node * expr_most calls e
   effect_of e p h = omega (arith, h, slack_most e)
 
-  jumps_of : (e : c.Expr) (p : Valued) → code_cost rates callee p + 3 ≤ allowed e → code_cost rates callee p + 2 ≤ node * expr_most calls e
+  jumps_of : (e : c.Expr) (p : Valued) → code_cost rates callee p + rates.leaf + 1 ≤ allowed e → code_cost rates callee p + rates.leaf ≤ node * expr_most calls e
   jumps_of e p h = omega (arith, h, slack_most e)
 
   mutual
     pub aimed_fits : (place : c.Place) (k : ℕ) → PlaceSingle place → AimedFits rates callee (aimed homes place k) (node * place_most calls place)
-    aimed_fits (c.Scalar object at) k may = omega (arith, covers.some, scalar_nodes (home_of homes object))
+    aimed_fits (c.Scalar object at) k may = omega (arith, covers.some, scalar_cost rates.leaf (home_of homes object))
     aimed_fits (c.Element array index at) k may = omega (arith, covers.some, value_of index (made homes Value index k) (made_fits Value index k may))
     aimed_fits (c.Within inner at) k may = omega (arith, aimed_fits inner k may)
 
@@ -73,7 +69,7 @@ module _ (rates : Rates) (callee calls : ℕ → ℕ) (planned bounds : List Bou
     made_fits purpose (c.Read place) k may =
         let p = aimed homes place k in
         let q : Valued = record { code = p.code; value = loaded p.target } in
-        finished_fits rates callee purpose q (node * place_most calls place + 0) (done rates callee purpose q (node * place_most calls place + 0) (omega (arith, aimed_fits place k may, loaded_nodes p.target)))
+        finished_fits rates callee purpose q (node * place_most calls place + 0) (done rates callee purpose q (node * place_most calls place + 0) (omega (arith, aimed_fits place k may, loaded_cost rates.leaf covers.leaf p.target)))
     made_fits purpose (c.Array object at) k may = finished_fits rates callee purpose (known 0) (node * 1 + 0) (done rates callee purpose (known 0) (node * 1 + 0) (omega (arith, covers.some)))
     made_fits purpose (c.Paren inner at) k may = wider rates callee purpose (made homes purpose inner k) (allowed inner) (node * (1 + expr_most calls inner) + 0) (omega (arith, covers.some, slack_most inner)) (made_fits purpose inner k may)
     made_fits purpose (c.Call to arguments at) k may =
@@ -105,7 +101,7 @@ module _ (rates : Rates) (callee calls : ℕ → ℕ) (planned bounds : List Bou
         let y = (made homes (Unless 0) right (k + 1)).code in
         let a = node * expr_most calls left in
         let b = node * expr_most calls right in
-        omega (arith, noted_cost k 0 1 (joined x y) (a + b) (jumps_cost x y a b (omega (arith, jumps_of left (made homes (Unless 0) left (k + 1)) (made_fits (Unless 0) left (k + 1) may.0))) (omega (arith, jumps_of right (made homes (Unless 0) right (k + 1)) (made_fits (Unless 0) right (k + 1) may.1)))))
+        omega (arith, noted_cost k 0 1 (joined x y) (a + b) (jumps_cost x y a b (omega (arith, may.2, made_fits (Unless 0) left (k + 1) may.0)) (omega (arith, may.3, made_fits (Unless 0) right (k + 1) may.1))))
     made_fits Effect (c.And left right at) k may =
         omega (arith, covers.some, jumps_of left (made homes (Unless 0) left k) (made_fits (Unless 0) left k may.0), effect_of right (made homes Effect right k) (made_fits Effect right k may.1), cost-joined rates callee (made homes (Unless 0) left k).code (made homes Effect right k).code)
     made_fits (Unless depth) (c.And left right at) k may =
@@ -117,7 +113,7 @@ module _ (rates : Rates) (callee calls : ℕ → ℕ) (planned bounds : List Bou
         let y = (made homes (When 0) right (k + 1)).code in
         let a = node * expr_most calls left in
         let b = node * expr_most calls right in
-        omega (arith, noted_cost k 1 0 (joined x y) (a + b) (jumps_cost x y a b (omega (arith, jumps_of left (made homes (When 0) left (k + 1)) (made_fits (When 0) left (k + 1) may.0))) (omega (arith, jumps_of right (made homes (When 0) right (k + 1)) (made_fits (When 0) right (k + 1) may.1)))))
+        omega (arith, noted_cost k 1 0 (joined x y) (a + b) (jumps_cost x y a b (omega (arith, may.2, made_fits (When 0) left (k + 1) may.0)) (omega (arith, may.3, made_fits (When 0) right (k + 1) may.1))))
     made_fits Effect (c.Or left right at) k may =
         omega (arith, covers.some, jumps_of left (made homes (When 0) left k) (made_fits (When 0) left k may.0), effect_of right (made homes Effect right k) (made_fits Effect right k may.1), cost-joined rates callee (made homes (When 0) left k).code (made homes Effect right k).code)
     made_fits (Unless depth) (c.Or left right at) k may =
@@ -158,11 +154,11 @@ module _ (rates : Rates) (callee calls : ℕ → ℕ) (planned bounds : List Bou
         let fits = argument_fits rates callee calls planned bounds node spare covers homes (array_named e) k (made homes Value e k) (passing homes rest (k + 1)) (node * expr_most calls e) (node * exprs_most calls rest) (value_of e (made homes Value e k) (made_fits Value e k may.0)) (passing_fits rest (k + 1) may.1) in
         omega (arith, fits)
 
-  pub value_fits : (e : c.Expr) (k : ℕ) → Single e → code_cost rates callee (made homes Value e k) + expr_nodes (made homes Value e k).value + 5 ≤ node * expr_most calls e
+  pub value_fits : (e : c.Expr) (k : ℕ) → Single e → code_cost rates callee (made homes Value e k) + expr_cost rates.leaf (made homes Value e k).value + rates.leaf + 3 ≤ node * expr_most calls e
   value_fits e k may = value_of e (made homes Value e k) (made_fits Value e k may)
 
-  pub effect_fits : (e : c.Expr) (k : ℕ) → Single e → code_cost rates callee (made homes Effect e k) + 5 ≤ node * expr_most calls e
+  pub effect_fits : (e : c.Expr) (k : ℕ) → Single e → code_cost rates callee (made homes Effect e k) + rates.leaf + 3 ≤ node * expr_most calls e
   effect_fits e k may = effect_of e (made homes Effect e k) (made_fits Effect e k may)
 
-  pub unless_fits : (depth : ℕ) (e : c.Expr) (k : ℕ) → Single e → code_cost rates callee (made homes (Unless depth) e k) + 2 ≤ node * expr_most calls e
+  pub unless_fits : (depth : ℕ) (e : c.Expr) (k : ℕ) → Single e → code_cost rates callee (made homes (Unless depth) e k) + rates.leaf ≤ node * expr_most calls e
   unless_fits depth e k may = jumps_of e (made homes (Unless depth) e k) (made_fits (Unless depth) e k may)

@@ -1,117 +1,92 @@
--- The nodes and the weight of a plan.
-use Rattle.std.proofs.Common.{◌≡◌, ℕ, zero, suc, ◌+◌, ◌*◌, ◌≤◌, max, List, [], ◌∷◌, length, refl, arith}
+-- The nodes, the operations and the weight of a plan.
+use Rattle.std.proofs.Common.{◌≡◌, ℕ, zero, suc, ◌+◌, ◌*◌, ◌≤◌, max, List, [], ◌∷◌, length, arith}
 use Rattle.std.specs.Prelude.{slice_get, slice_index_or, sum_by}
-use Rattle.std.proofs.Math.Nat.{mul-le-mul_left}
 use Rattle.std.proofs.lemmas.List.Sums.{sum_by-cons}
 use Rattle.c_facts.specs.Most.{bounds_at, function_most, items_most, list_most, most_within}
 use Rattle.c_facts.specs.Starts.{most_starts as starts_at_most}
 use Rattle.c_facts.specs.declared.facts.Bounds.{Bounds}
 use Rattle.c_typed.specs.Tree as c
 use Rattle.c_typed.specs.declared.variable.Variable.{Variable}
-use Rattle.high_ir.specs.Size.{expr_nodes, function_nodes, nodes, nodes_all}
-use Rattle.high_ir.specs.Tree.{Expr, Statement, Set, Put, Get, Keep, Mark, Seq, If, Loop, Block, Leave, Call, Return, Statements, End, Then}
-use Rattle.high_ir.specs.Weight.{body_weight, most_starts, weight_of, weight_of_all, weights}
+use Rattle.high_ir.specs.Size.{function_nodes, nodes, operations}
+use Rattle.high_ir.specs.Tree.{Statement}
+use Rattle.high_ir.specs.Weight.{body_weight, weight_of, weights}
 use Rattle.high_plan.specs.Layouts.{frame_scalars}
 use Rattle.high_plan.specs.Programs.{between, end_of, function_planned, functions_planned}
 use Rattle.high_plan.specs.Statements.{Plan, body_planned}
-use Rattle.high_sizes.specs.Costs.{all_passed, by_nodes, by_weight, cost, cost_all, values_nodes}
+use Rattle.high_sizes.specs.Costs.{Rates, by_nodes, by_operations, by_weight, cost}
 use Rattle.high_sizes.specs.Covers.{Covers}
 use Rattle.high_sizes.specs.Programs.{FunctionsSingle, functions_nodes}
+use Rattle.high_sizes.proofs.Measures.{nodes_cost, operations_cost, weight_cost}
 use Rattle.high_sizes.proofs.Statements.{body_fits}
 
-values_sum : (es : List Expr) → sum_by expr_nodes es ≡ values_nodes es
-values_sum [] = refl
-values_sum (e ∷ rest) = omega (arith, sum_by-cons expr_nodes e rest, values_sum rest)
+-- where each turn of a loop counts once
+once : (n : ℕ) → 1 ≤ max 1 n
+once n = omega arith
 
-all_passed-is : (rate n : ℕ) → all_passed rate n ≡ rate * n
-all_passed-is rate zero = omega arith
-all_passed-is rate (suc n) = omega (arith, all_passed-is rate n)
-
--- nodes are a cost
-mutual
-  nodes_cost : (s : Statement) → nodes s ≤ cost by_nodes (λ f. 0) s
-  nodes_cost (Set x e) = omega arith
-  nodes_cost (Put e) = omega arith
-  nodes_cost (Get x) = omega arith
-  nodes_cost (Keep array i e) = omega arith
-  nodes_cost (Mark m) = omega arith
-  nodes_cost (Seq parts) = omega (arith, all_nodes_cost parts)
-  nodes_cost (If test first other) = omega (arith, nodes_cost first, nodes_cost other)
-  nodes_cost (Loop id least most body) = omega (arith, nodes_cost body)
-  nodes_cost (Block body) = omega (arith, nodes_cost body)
-  nodes_cost (Leave d) = omega arith
-  nodes_cost (Call f values arrays into) = omega (arith, values_sum values)
-  nodes_cost (Return e) = omega arith
-
-  all_nodes_cost : (parts : Statements) → nodes_all parts ≤ cost_all by_nodes (λ f. 0) parts
-  all_nodes_cost End = omega arith
-  all_nodes_cost (Then first rest) = omega (arith, nodes_cost first, all_nodes_cost rest)
-
-by_nodes_covers : (planned : List Bounds) → Covers by_nodes (λ f. 0) (λ f. 0) planned [] 10 8
+by_nodes_covers : (planned : List Bounds) → Covers by_nodes (λ f. 0) (λ f. 0) planned [] 10 7
 by_nodes_covers planned = record {
+  leaf = omega arith;
   some = omega arith;
   call = omega arith;
   passed = omega arith;
   exit = omega arith;
   loop = omega arith;
   turn = omega arith;
+  guard = omega arith;
   callees = λ f. omega arith;
   turns = λ number always. once (starts_at_most always (bounds_at [] number).max);
   fillings = λ number. omega arith;
 }
-  where
-    once : (n : ℕ) → 1 ≤ max 1 n
-    once n = omega arith
 
--- the nodes of a plan's functions are at most ten times those of the source's
-pub functions_nodes_most : (plan : Plan) (variables : List Variable) (ranks : List ℕ) (fs : List c.Function) (number : ℕ) → FunctionsSingle fs → sum_by function_nodes (functions_planned plan variables ranks number fs) ≤ 10 * functions_nodes fs
-functions_nodes_most plan variables ranks [] number may = omega arith
-functions_nodes_most plan variables ranks (c.Defined specifiers name name_at params first body body_at at ∷ rest) number may =
-    let f = c.Defined specifiers name name_at params first body body_at at in
-    let own = frame_scalars (between variables first (end_of rest (length variables))) in
-    let code = body_planned plan body own in
-    let others = functions_planned plan variables ranks (number + 1) rest in
-    let fits = body_fits by_nodes (λ g. 0) (λ g. 0) plan [] 10 8 (by_nodes_covers plan.bounds) body own may.0 in
-    one (sum_by function_nodes (functions_planned plan variables ranks number (f ∷ rest))) (nodes code) (cost by_nodes (λ g. 0) code) (items_most [] (λ g. 0) body) (list_most (λ g. 0) params) (sum_by function_nodes others) (functions_nodes rest)
-    (sum_by-cons function_nodes (function_planned plan variables (end_of rest (length variables)) (slice_index_or ranks number 0) f) others) (nodes_cost code) fits (functions_nodes_most plan variables ranks rest (number + 1) may.1)
-  where
-    one : (all n k i l o r : ℕ) → all ≡ n + 1 + o → n ≤ k → k ≤ 10 * i + 1 + 4 → o ≤ 10 * r → all ≤ 10 * (1 + (l + (1 + i)) + r)
-    one all n k i l o r e a b d = omega (arith, e, a, b, d)
-
--- the weight is a cost
-module _ (callee : ℕ → ℕ) where
-  mutual
-    weight_cost : (s : Statement) → weight_of callee s ≤ cost by_weight callee s
-    weight_cost (Set x e) = omega arith
-    weight_cost (Put e) = omega arith
-    weight_cost (Get x) = omega arith
-    weight_cost (Keep array i e) = omega arith
-    weight_cost (Mark m) = omega arith
-    weight_cost (Seq parts) = omega (arith, all_weight_cost parts)
-    weight_cost (If test first other) = omega (arith, weight_cost first, weight_cost other)
-    weight_cost (Loop id least most body) = turns (most_starts most) (weight_of callee body) (cost by_weight callee body) (weight_cost body)
-      where
-        turns : (t x y : ℕ) → x ≤ y → 4 + t * (3 + x) ≤ 4 + t * (3 + y)
-        turns t x y le =
-            let more : t * (3 + x) ≤ t * (3 + y) = mul-le-mul_left t (omega (arith, le)) in
-            omega (arith, more)
-    weight_cost (Block body) = omega (arith, weight_cost body)
-    weight_cost (Leave d) = omega arith
-    weight_cost (Call f values arrays into) = omega (arith, values_sum values, all_passed-is 2 (length values), all_passed-is 2 (length arrays))
-    weight_cost (Return e) = omega arith
-
-    all_weight_cost : (parts : Statements) → weight_of_all callee parts ≤ cost_all by_weight callee parts
-    all_weight_cost End = omega arith
-    all_weight_cost (Then first rest) = omega (arith, weight_cost first, all_weight_cost rest)
-
-by_weight_covers : (callee calls : ℕ → ℕ) (bounds : List Bounds) → ((f : ℕ) → callee f ≤ 16 * calls f) → Covers by_weight callee calls bounds bounds 16 11
-by_weight_covers callee calls bounds fit = record {
+by_operations_covers : (planned : List Bounds) → Covers by_operations (λ f. 0) (λ f. 0) planned [] 6 4
+by_operations_covers planned = record {
+  leaf = omega arith;
   some = omega arith;
   call = omega arith;
   passed = omega arith;
   exit = omega arith;
   loop = omega arith;
   turn = omega arith;
+  guard = omega arith;
+  callees = λ f. omega arith;
+  turns = λ number always. once (starts_at_most always (bounds_at [] number).max);
+  fillings = λ number. omega arith;
+}
+
+-- what is no more than a cost comes in a plan's functions to so much for each node of the source's
+functions_most : (measure : Statement → ℕ) (rates : Rates) (node spare : ℕ) (plan : Plan) → ((s : Statement) → measure s ≤ cost rates (λ g. 0) s) → Covers rates (λ g. 0) (λ g. 0) plan.bounds [] node spare →
+    (variables : List Variable) (ranks : List ℕ) (fs : List c.Function) (number : ℕ) → FunctionsSingle fs → sum_by (λ f. measure f.body + 1) (functions_planned plan variables ranks number fs) ≤ node * functions_nodes fs
+functions_most measure rates node spare plan is covers variables ranks [] number may = omega arith
+functions_most measure rates node spare plan is covers variables ranks (c.Defined specifiers name name_at params first body body_at at ∷ rest) number may =
+    let f = c.Defined specifiers name name_at params first body body_at at in
+    let own = frame_scalars (between variables first (end_of rest (length variables))) in
+    let code = body_planned plan body own in
+    let others = functions_planned plan variables ranks (number + 1) rest in
+    one (sum_by (λ g. measure g.body + 1) (functions_planned plan variables ranks number (f ∷ rest))) (measure code) (cost rates (λ g. 0) code) (items_most [] (λ g. 0) body) (list_most (λ g. 0) params) (sum_by (λ g. measure g.body + 1) others) (functions_nodes rest)
+    (sum_by-cons (λ g. measure g.body + 1) (function_planned plan variables (end_of rest (length variables)) (slice_index_or ranks number 0) f) others) (is code) (body_fits rates (λ g. 0) (λ g. 0) plan [] node spare covers body own may.0)
+    (functions_most measure rates node spare plan is covers variables ranks rest (number + 1) may.1)
+  where
+    one : (all n k i l o r : ℕ) → all ≡ n + 1 + o → n ≤ k → k ≤ node * i + rates.exit + 4 → o ≤ node * r → all ≤ node * (1 + (l + (1 + i)) + r)
+    one all n k i l o r e a b d = omega (arith, e, a, b, d, covers.exit, covers.some)
+
+-- the nodes of a plan's functions are at most ten times those of the source's
+pub functions_nodes_most : (plan : Plan) (variables : List Variable) (ranks : List ℕ) (fs : List c.Function) (number : ℕ) → FunctionsSingle fs → sum_by function_nodes (functions_planned plan variables ranks number fs) ≤ 10 * functions_nodes fs
+functions_nodes_most plan variables ranks fs number may = functions_most nodes by_nodes 10 7 plan nodes_cost (by_nodes_covers plan.bounds) variables ranks fs number may
+
+-- their operations are at most six times the source's nodes
+pub functions_operations_most : (plan : Plan) (variables : List Variable) (ranks : List ℕ) (fs : List c.Function) (number : ℕ) → FunctionsSingle fs → sum_by (λ f. operations f.body + 1) (functions_planned plan variables ranks number fs) ≤ 6 * functions_nodes fs
+functions_operations_most plan variables ranks fs number may = functions_most operations by_operations 6 4 plan operations_cost (by_operations_covers plan.bounds) variables ranks fs number may
+
+by_weight_covers : (callee calls : ℕ → ℕ) (bounds : List Bounds) → ((f : ℕ) → callee f ≤ 16 * calls f) → Covers by_weight callee calls bounds bounds 16 10
+by_weight_covers callee calls bounds fit = record {
+  leaf = omega arith;
+  some = omega arith;
+  call = omega arith;
+  passed = omega arith;
+  exit = omega arith;
+  loop = omega arith;
+  turn = omega arith;
+  guard = omega arith;
   callees = fit;
   turns = λ number always. itself (max 1 (starts_at_most always (bounds_at bounds number).max));
   fillings = λ number. filled (bounds_at bounds number).max;
@@ -120,7 +95,7 @@ by_weight_covers callee calls bounds fit = record {
     itself : (n : ℕ) → n ≤ n
     itself n = omega arith
 
-    filled : (m : ℕ) → 3 + 4 + max 1 m * (3 + 14) ≤ 2 * 16 + 16 * (2 * m)
+    filled : (m : ℕ) → 2 + 1 + 4 + max 1 m * (3 + 8 + 6 * 1) ≤ 2 * 16 + 16 * (2 * m)
     filled m = omega arith
 
 module _ (plan : Plan) (variables : List Variable) (ranks : List ℕ) where
@@ -130,7 +105,7 @@ module _ (plan : Plan) (variables : List Variable) (ranks : List ℕ) where
   body_weight_most callee calls fit (c.Defined specifiers name name_at params first body body_at at ∷ rest) number zero may =
       let own = frame_scalars (between variables first (end_of rest (length variables))) in
       one (weight_of callee (body_planned plan body own)) (cost by_weight callee (body_planned plan body own)) (items_most plan.bounds calls body) (list_most calls params) (weight_cost callee (body_planned plan body own))
-      (body_fits by_weight callee calls plan plan.bounds 16 11 (by_weight_covers callee calls plan.bounds fit) body own may.0)
+      (body_fits by_weight callee calls plan plan.bounds 16 10 (by_weight_covers callee calls plan.bounds fit) body own may.0)
     where
       one : (w k i l : ℕ) → w ≤ k → k ≤ 16 * i + 4 + 4 → 1 + w ≤ 16 * (1 + (l + (1 + i)))
       one w k i l a b = omega (arith, a, b)

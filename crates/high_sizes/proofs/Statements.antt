@@ -9,7 +9,6 @@ use Rattle.c_facts.specs.declared.facts.Bounds.{Bounds}
 use Rattle.c_facts.specs.declared.facts.Starts.{Starts}
 use Rattle.c_typed.specs.Tree as c
 use Rattle.high_ir.specs.declared.expression.BinaryOperator.TheVariants as binary
-use Rattle.high_ir.specs.Size.{expr_nodes}
 use Rattle.high_ir.specs.Tree.{Expr, Constant, Binary, Set, Seq, If, Leave, Return, Statements, End, Then}
 use Rattle.high_code.specs.Code.{joined, alone, nothing}
 use Rattle.high_plan.specs.declared.home.Home.{Home}
@@ -19,7 +18,7 @@ use Rattle.high_plan.specs.Homes.{home_of}
 use Rattle.high_plan.specs.Statements.{Exits, Parts, Plan, all_declared, all_planned, and_before, body_planned, chosen_else, chosen_if, continues, declared, deeper, default_number, ends_in_block, filled, guarded, in_loop, in_switch, initialised, label_tests, last_in_block, leaving_unless, listed, loops_before, looped, parts_planned, planned, returned, round_of, rounded, started, stepped, stored_at, switched, tested}
 use Rattle.high_plan.specs.Values.{Valued, chosen, chosen_by_jumps, firm, in_block, is_changed, is_joint, is_leaf, is_variable, made}
 use Rattle.high_levels.specs.Conversions.{AllSingle, DeclarationSingle, FillingSized, InitialSingle, ItemsSingle, ObjectsSingle, OptionSingle, Single, StartSingle, StatementSingle}
-use Rattle.high_sizes.specs.Costs.{Rates, cost, cost_all}
+use Rattle.high_sizes.specs.Costs.{Rates, cost, cost_all, expr_cost}
 use Rattle.high_sizes.specs.Covers.{Covers}
 use Rattle.high_sizes.proofs.Pieces.{cost-joined, firm_value, held_cost}
 use Rattle.high_sizes.proofs.Expressions.{effect_fits, unless_fits, value_fits}
@@ -61,17 +60,17 @@ module _ (rates : Rates) (callee calls : ℕ → ℕ) (plan : Plan) (bounds : Li
   abbrev cost_of : Statements → ℕ
   cost_of code = cost_all rates callee code
 
-  value_cost : (e : c.Expr) (k : ℕ) → Single e → cost_of (made plan.homes Value e k).code + expr_nodes (made plan.homes Value e k).value + 5 ≤ node * expr_most calls e
+  value_cost : (e : c.Expr) (k : ℕ) → Single e → cost_of (made plan.homes Value e k).code + expr_cost rates.leaf (made plan.homes Value e k).value + rates.leaf + 3 ≤ node * expr_most calls e
   value_cost e k may = value_fits rates callee calls plan.bounds bounds node spare covers plan.homes e k may
 
-  effect_cost : (e : c.Expr) (k : ℕ) → Single e → cost_of (made plan.homes Effect e k).code + 5 ≤ node * expr_most calls e
+  effect_cost : (e : c.Expr) (k : ℕ) → Single e → cost_of (made plan.homes Effect e k).code + rates.leaf + 3 ≤ node * expr_most calls e
   effect_cost e k may = effect_fits rates callee calls plan.bounds bounds node spare covers plan.homes e k may
 
-  jumps_cost : (e : c.Expr) (k : ℕ) → Single e → cost_of (made plan.homes (Unless 0) e k).code + 2 ≤ node * expr_most calls e
+  jumps_cost : (e : c.Expr) (k : ℕ) → Single e → cost_of (made plan.homes (Unless 0) e k).code + rates.leaf ≤ node * expr_most calls e
   jumps_cost e k may = unless_fits rates callee calls plan.bounds bounds node spare covers plan.homes 0 e k may
 
   -- declarations
-  stored_cost : (home : Home) (index value : Expr) → cost rates callee (stored_at home index value) ≤ 1 + expr_nodes index + expr_nodes value
+  stored_cost : (home : Home) (index value : Expr) → cost rates callee (stored_at home index value) ≤ 1 + expr_cost rates.leaf index + expr_cost rates.leaf value
   stored_cost (Frame x) index value = omega arith
   stored_cost (Memory array) index value = omega arith
 
@@ -82,9 +81,9 @@ module _ (rates : Rates) (callee calls : ℕ → ℕ) (plan : Plan) (bounds : Li
       let others = listed plan home rest (index + 1) k in
       omega (arith, value_cost e k may.0, listed_cost home rest (index + 1) k may.1, stored_cost home (Constant index) p.value, cost-joined rates callee p.code (Then (stored_at home (Constant index) p.value) others))
 
-  filled_cost : (home : Home) (id from count k : ℕ) → cost_of (filled home id from count k) ≤ 3 + rates.loop + rates.turns count * (rates.turn + 14)
+  filled_cost : (home : Home) (id from count k : ℕ) → cost_of (filled home id from count k) ≤ 2 + rates.leaf + rates.loop + rates.turns count * (rates.turn + 8 + 6 * rates.leaf)
   filled_cost (Frame x) id from count k =
-      let fewer : rates.turns count * (rates.turn + 13) ≤ rates.turns count * (rates.turn + 14) = mul-le-mul_left (rates.turns count) (omega arith) in
+      let fewer : rates.turns count * (rates.turn + 8 + 5 * rates.leaf) ≤ rates.turns count * (rates.turn + 8 + 6 * rates.leaf) = mul-le-mul_left (rates.turns count) (omega arith) in
       omega (arith, fewer)
   filled_cost (Memory array) id from count k = omega arith
 
@@ -145,17 +144,17 @@ module _ (rates : Rates) (callee calls : ℕ → ℕ) (plan : Plan) (bounds : Li
       omega (arith, value_cost e k may, covers.exit, cost-joined rates callee p.code (alone (Return p.value)))
 
   -- branches
-  chosen_cost : (test : Valued) (first other : Statements) → cost_of (chosen test first other) ≤ cost_of test.code + expr_nodes test.value + cost_of first + cost_of other + 3
+  chosen_cost : (test : Valued) (first other : Statements) → cost_of (chosen test first other) ≤ cost_of test.code + expr_cost rates.leaf test.value + cost_of first + cost_of other + 3
   chosen_cost test first other = omega (arith, cost-joined rates callee test.code (alone (If test.value (Seq first) (Seq other))))
 
   by_jumps_cost : (jumps first other : Statements) → cost_of (chosen_by_jumps jumps first other) ≤ cost_of jumps + cost_of first + cost_of other + 5
   by_jumps_cost jumps first other = omega (arith, cost-joined rates callee jumps (joined first (alone (Leave 1))), cost-joined rates callee first (alone (Leave 1)))
 
-  if_cost : (joint : Bool) (test : Valued) (jumps first within : Statements) (t f : ℕ) → cost_of test.code + expr_nodes test.value + 5 ≤ t → cost_of jumps + 2 ≤ t → cost_of first + spare ≤ f → cost_of within + spare ≤ f → cost_of (chosen_if joint test jumps first within) + spare ≤ node + (t + f)
+  if_cost : (joint : Bool) (test : Valued) (jumps first within : Statements) (t f : ℕ) → cost_of test.code + expr_cost rates.leaf test.value + rates.leaf + 3 ≤ t → cost_of jumps + rates.leaf ≤ t → cost_of first + spare ≤ f → cost_of within + spare ≤ f → cost_of (chosen_if joint test jumps first within) + spare ≤ node + (t + f)
   if_cost false test jumps first within t f v j x y = omega (arith, v, x, covers.some, chosen_cost test first End)
   if_cost true test jumps first within t f v j x y = omega (arith, j, y, covers.some, cost-joined rates callee jumps within)
 
-  else_cost : (joint : Bool) (test : Valued) (jumps first other first_within other_within : Statements) (t f s : ℕ) → cost_of test.code + expr_nodes test.value + 5 ≤ t → cost_of jumps + 2 ≤ t → cost_of first + spare ≤ f → cost_of other + spare ≤ s → cost_of first_within + spare ≤ f → cost_of other_within + spare ≤ s →
+  else_cost : (joint : Bool) (test : Valued) (jumps first other first_within other_within : Statements) (t f s : ℕ) → cost_of test.code + expr_cost rates.leaf test.value + rates.leaf + 3 ≤ t → cost_of jumps + rates.leaf ≤ t → cost_of first + spare ≤ f → cost_of other + spare ≤ s → cost_of first_within + spare ≤ f → cost_of other_within + spare ≤ s →
       cost_of (chosen_else joint test jumps first other first_within other_within) + spare ≤ node + (t + (f + s))
   else_cost false test jumps first other fw ow t f s v j x y x1 y1 = omega (arith, v, x, y, covers.some, chosen_cost test first other)
   else_cost true test jumps first other fw ow t f s v j x y x1 y1 = omega (arith, j, x1, y1, covers.some, by_jumps_cost jumps fw ow)
@@ -193,11 +192,11 @@ module _ (rates : Rates) (callee calls : ℕ → ℕ) (plan : Plan) (bounds : Li
   spared_joined (Then first rest) b = omega arith
 
   -- what stands before a label is guarded by a test, for which its statements leave enough
-  guarded_spares : (noted number : ℕ) (before behind : Statements) → 6 ≤ spare + 3 → cost_of (guarded noted number before behind) ≤ cost_of before + cost_of behind + spared before + 3
-  guarded_spares noted number End behind le = omega arith
-  guarded_spares noted number (Then first rest) behind le = omega (arith, le)
+  guarded_spares : (noted number : ℕ) (before behind : Statements) → cost_of (guarded noted number before behind) ≤ cost_of before + cost_of behind + spared before
+  guarded_spares noted number End behind = omega arith
+  guarded_spares noted number (Then first rest) behind = omega (arith, covers.guard)
 
-  word_cost : (test : c.Expr) (k : ℕ) → Single test → cost_of (firm k (made plan.homes Value test k) End).code + 3 ≤ node * expr_most calls test
+  word_cost : (test : c.Expr) (k : ℕ) → Single test → cost_of (firm k (made plan.homes Value test k) End).code + 2 ≤ node * expr_most calls test
   word_cost test k may =
       let p = made plan.homes Value test k in
       omega (arith, value_cost test k may, held_cost rates callee (not (is_leaf p.value) || (is_changed p.value End || is_variable (k + 1) p.value)) k p End)
@@ -214,16 +213,16 @@ module _ (rates : Rates) (callee calls : ℕ → ℕ) (plan : Plan) (bounds : Li
   spare_most = omega (arith, covers.loop)
 
   -- a label costs a test of its word, and a guard of what stands behind it
-  case_fits : (word : Expr) (noted number own : ℕ) (tests : Statements) (parts : Parts) (v m : ℕ) → expr_nodes word ≤ 1 → cost_of tests + cost_of parts.before + cost_of parts.behind + spared parts.before ≤ m →
+  case_fits : (word : Expr) (noted number own : ℕ) (tests : Statements) (parts : Parts) (v m : ℕ) → expr_cost rates.leaf word ≤ rates.leaf → cost_of tests + cost_of parts.before + cost_of parts.behind + spared parts.before ≤ m →
       cost_of (joined tests (alone (If (Binary binary.Equal word (Constant own)) (Set noted (Constant number)) nothing))) + 0 + cost_of (guarded noted number parts.before parts.behind) + 0 ≤ node * (1 + v) + m
   case_fits word noted number own tests parts v m leaf h =
-      omega (arith, h, leaf, covers.some, covers.turn, guarded_spares noted number parts.before parts.behind (omega (arith, covers.turn)), cost-joined rates callee tests (alone (If (Binary binary.Equal word (Constant own)) (Set noted (Constant number)) nothing)))
+      omega (arith, h, leaf, covers.some, guarded_spares noted number parts.before parts.behind, cost-joined rates callee tests (alone (If (Binary binary.Equal word (Constant own)) (Set noted (Constant number)) nothing)))
 
-  switch_fits : (word : Valued) (noted default : ℕ) (tests : Statements) (parts : Parts) (t m : ℕ) → cost_of word.code + 3 ≤ t → cost_of tests + cost_of parts.before + cost_of parts.behind + spared parts.before ≤ m → cost_of (switched word noted default tests parts) + spare ≤ node + (t + m)
+  switch_fits : (word : Valued) (noted default : ℕ) (tests : Statements) (parts : Parts) (t m : ℕ) → cost_of word.code + 2 ≤ t → cost_of tests + cost_of parts.before + cost_of parts.behind + spared parts.before ≤ m → cost_of (switched word noted default tests parts) + spare ≤ node + (t + m)
   switch_fits word noted default tests parts t m w h = of parts.before h
     where
       of : (before : Statements) → cost_of tests + cost_of before + cost_of parts.behind + spared before ≤ m → cost_of (joined word.code (Then (Set noted (Constant default)) (joined tests (in_block (guarded noted 0 before parts.behind))))) + spare ≤ node + (t + m)
-      of End h = omega (arith, w, h, spare_most, cost-joined rates callee word.code (Then (Set noted (Constant default)) (joined tests (in_block parts.behind))), cost-joined rates callee tests (in_block parts.behind))
+      of End h = omega (arith, w, h, covers.exit, cost-joined rates callee word.code (Then (Set noted (Constant default)) (joined tests (in_block parts.behind))), cost-joined rates callee tests (in_block parts.behind))
       of (Then first rest) h =
           let block = in_block (guarded noted 0 (Then first rest) parts.behind) in
           omega (arith, w, h, covers.some, cost-joined rates callee word.code (Then (Set noted (Constant default)) (joined tests block)), cost-joined rates callee tests block)
@@ -267,7 +266,7 @@ module _ (rates : Rates) (callee calls : ℕ → ℕ) (plan : Plan) (bounds : Li
         let word = firm k (made plan.homes Value test k) End in
         let parts = parts_planned plan items (k + 1) 1 (k + 2) (in_switch exits) in
         let p = made plan.homes Value test k in
-        let leaf = firm_value (is_changed p.value End || is_variable (k + 1) p.value) k p End in
+        let leaf = firm_value rates.leaf (is_changed p.value End || is_variable (k + 1) p.value) k p End in
         let all = switch_fits word (k + 1) (default_number items 1) (label_tests word.value (k + 1) items 1) parts (node * expr_most calls test) (node * items_most bounds calls items) (word_cost test k may.0) (parts_fit items word.value (k + 1) 1 (k + 2) (in_switch exits) leaf may.1) in
         omega (arith, all)
     statement_fits (c.Break at) k exits may = omega (arith, spare_most)
@@ -281,7 +280,7 @@ module _ (rates : Rates) (callee calls : ℕ → ℕ) (plan : Plan) (bounds : Li
     items_fit (c.WithRestriction pragma rest) k exits may = omega (arith, items_fit rest k exits may)
     items_fit (c.WithLabel label rest) k exits may = omega (arith, items_fit rest k exits may)
 
-    parts_fit : (items : c.Items) (word : Expr) (noted number k : ℕ) (exits : Exits) → expr_nodes word ≤ 1 → ItemsSingle items → PartsFit word noted items number (parts_planned plan items noted number k exits)
+    parts_fit : (items : c.Items) (word : Expr) (noted number k : ℕ) (exits : Exits) → expr_cost rates.leaf word ≤ rates.leaf → ItemsSingle items → PartsFit word noted items number (parts_planned plan items noted number k exits)
     parts_fit c.NoItem word noted number k exits leaf may = omega arith
     parts_fit (c.WithDeclaration declaration rest) word noted number k exits leaf may =
         let all = and_before_fits (declared plan declaration 0 k) (parts_planned plan rest noted number k exits) (cost_of (label_tests word noted rest number)) (node * declaration_most bounds calls declaration) (node * items_most bounds calls rest)
@@ -297,8 +296,8 @@ module _ (rates : Rates) (callee calls : ℕ → ℕ) (plan : Plan) (bounds : Li
         omega (arith, all)
     parts_fit (c.WithLabel (c.Default at) rest) word noted number k exits leaf may =
         let parts = parts_planned plan rest noted (suc number) k exits in
-        omega (arith, covers.some, covers.turn, guarded_spares noted number parts.before parts.behind (omega (arith, covers.turn)), parts_fit rest word noted (suc number) k exits leaf may)
+        omega (arith, covers.some, guarded_spares noted number parts.before parts.behind, parts_fit rest word noted (suc number) k exits leaf may)
 
   -- of a function's body
   pub body_fits : (items : c.Items) (variables : ℕ) → ItemsSingle items → cost rates callee (body_planned plan items variables) ≤ node * items_most bounds calls items + rates.exit + 4
-  body_fits items variables may = omega (arith, items_fit items variables (record { out = 0; next = 0 }) may)
+  body_fits items variables may = omega (arith, covers.leaf, items_fit items variables (record { out = 0; next = 0 }) may)
