@@ -24,6 +24,7 @@ use Rattle.high_numbers.specs.Numbers.{FunctionsNumbered}
 use Rattle.high_source.proofs.Units.{functions_numbered}
 use Rattle.high_bytes.proofs.Bytes.{bytes_most}
 use Rattle.high_planned.specs.Checked.{IsChecked}
+use Rattle.high_planned.proofs.Operations.{operations_few}
 use Rattle.high_planned.proofs.Planned.{planned_is_high}
 use Rattle.high_planned.proofs.Weights.{reach_most, weight_most}
 use Rattle.high_loops.specs.Loops.{Planned, functions_loops}
@@ -91,5 +92,5 @@ module _ (names : List (List ℕ)) (program : Program) (facts : Facts) (checked 
     nevers = refl;
     weight = weight_most names program facts checked;
     reach = marks_reached;
-    locals = bytes_most names program facts checked;
+    budgets = record { operations = operations_few names program facts checked; depth = (planned_is_high names program facts checked).depth; locals = bytes_most names program facts checked };
   }

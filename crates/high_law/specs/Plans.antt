@@ -3,11 +3,10 @@ use Rattle.std.specs.Prelude.{◌≡◌, ℕ, ◌*◌, ◌≤◌, List, []}
 use Rattle.c_facts.specs.declared.facts.Facts.{Facts}
 use Rattle.c_typed.specs.Tree as c
 use Rattle.high_ir.specs.Formed.{IsHigh}
-use Rattle.high_ir.specs.Size.{local_bytes}
 use Rattle.high_ir.specs.Tree.{Program}
 use Rattle.high_ir.specs.Weight.{weight}
 use Rattle.high_pass.specs.Carries.{Carries}
-use Rattle.high_pass.specs.Law.{FactorsWithin, ReachWithin}
+use Rattle.high_pass.specs.Law.{FactorsWithin, ReachWithin, WithinBudgets}
 use Rattle.high_pass.specs.Listing.{Listing}
 use Rattle.high_carried.specs.Sources.{source_behaviour}
 
@@ -22,5 +21,5 @@ pub record KeepsSource (names : List (List ℕ)) (source : c.Program) (facts : F
   -- what the bounds allow the program to do, by how many nodes of the source they allow to be executed
   pub weight : weight p ≤ 16 * facts.most
   pub reach : ReachWithin (λ mark. facts.most) p listing
-  -- frames and local arrays, in bytes
-  pub locals : local_bytes p ≤ 524288
+  -- it is as small as passes ask
+  pub budgets : WithinBudgets p

@@ -1,4 +1,5 @@
 pub mod Facts
 pub mod Main
+pub mod Operations
 pub mod Planned
 pub mod Weights

@@ -65,7 +65,7 @@ not_over n h = of (nat_lt 16384 n) refl h
     of true e k = absurd (none-some (Limit Nodes n) (sym k))
     of false e k = ltb-false 16384 n e
 
-few_nodes : (names : List (List ℕ)) (unit : TranslationUnit ℕ) → fault_of names unit ≡ None → (size_unit unit).nodes ≤ 16384
+pub few_nodes : (names : List (List ℕ)) (unit : TranslationUnit ℕ) → fault_of names unit ≡ None → (size_unit unit).nodes ≤ 16384
 few_nodes names unit h =
     let nodes = (size_unit unit).nodes in
     let t = tally_unit unit in
