@@ -1,5 +1,5 @@
 -- Calls: the activation waits, and goes on with the value.
-use Rattle.std.proofs.Common.{◌≡◌, ℕ, ◌+◌, ◌<◌, ◌≤◌, ◌^◌, Bool, true, false, List, [], ◌∷◌, ◌++◌, length, Option, Some, None, refl, sym, ap, ◌∙◌, subst, arith, get_or-set_same, get_or-set_other, length-set}
+use Rattle.std.proofs.Common.{◌≡◌, ℕ, suc, ◌+◌, ◌<◌, ◌≤◌, ◌^◌, Bool, true, false, List, [], ◌∷◌, ◌++◌, length, Option, Some, None, refl, sym, ap, ◌∙◌, subst, arith, get_or-set_same, get_or-set_other, length-set}
 use Rattle.std.specs.Prelude.{if◌then◌else◌, nat_lt, slice_get, slice_set}
 use Rattle.std.proofs.lemmas.Bool.{ltb-true}
 use Rattle.std.proofs.lemmas.List.{append-nil}
@@ -7,6 +7,7 @@ use Rattle.std.proofs.lemmas.Option.{same_Some}
 use Rattle.high_ir.specs.declared.object.Base.{Base}
 use Rattle.high_ir.specs.Meaning as high
 use Rattle.high_ir.specs.Tree.{Expr}
+use Rattle.low_ir.specs.declared.run.Began.{Began}
 use Rattle.low_ir.specs.declared.run.Value.TheVariants.{Word}
 use Rattle.low_ir.specs.declared.run.Value.{Value}
 use Rattle.low_ir.specs.Code.{Operand, Return, Low, Note}
@@ -19,13 +20,15 @@ use Rattle.low_plan.specs.Values.{Scope, first_free, scaled_in_all, share_code, 
 use Rattle.low_plan.specs.Calls.{place_in}
 use Rattle.low_plan.specs.Statements.{call_code, into_there, shares_of}
 use Rattle.low_words.proofs.Writing.{write_inside}
+use Rattle.low_events.specs.Segments.{Quiet}
+use Rattle.low_events.proofs.Quiets.{quiet_wider}
 use Rattle.low_values.specs.Meeting.{MeetsFrame, MeetsWorld, passed_values}
 use Rattle.low_values.proofs.Elements.{from_value}
 use Rattle.low_values.proofs.Standing.{computed_then, stands_after}
 use Rattle.low_values.proofs.Values.{works}
 use Rattle.low_values.proofs.Shares.{begun, scaled_written_all}
 use Rattle.low_values.proofs.Passing.{AreWordy, values_free, values_pass}
-use Rattle.low_flow.specs.Following.{Goer, Place, IsPlace, Activation, After, Meets, Onward, Returning, Enters, AreSmall, Serves}
+use Rattle.low_flow.specs.Following.{Goer, Place, IsPlace, Activation, After, Answers, Meets, Onward, Enters, AreSmall, Serves}
 use Rattle.low_flow.proofs.Steps.{after_map, and_then, step_to, steps_to, computed_runs}
 use Rattle.low_flow.proofs.Steps as runs
 use Rattle.low_flow.proofs.Plain.{Passes, frame_set}
@@ -59,14 +62,15 @@ module _ (q : Low) (at : Place) (is_place : IsPlace q at) (act : Activation) whe
   waits into rest end s = record { frame = frame_of rest end s; into = into }
 
   -- behind a call, in a state of which this is known
-  record Back (st2 : high.State) (rest : Code) (last : code.End ℕ) (x : Goer) : Type 0 where
+  record Back (st2 : high.State) (rest : Code) (last : code.End ℕ) (so_far : List Began) (x : Goer) : Type 0 where
     meets : Meets q at act st2 None x
     goes_on_at : x.top.code ≡ rest
     ends_as : x.top.end ≡ last
+    began : x.world.trace ≡ so_far
 
   module _ (given : high.Given) (st : high.State) (rest : Code) (end : code.End ℕ) (s : Bank) (u : World) (frame : MeetsFrame at.scope q.claims act.passed st.variables s) (size : length s ≡ at.code.size) (room : first_free at.scope ≤ at.code.size) (small : given.value < 2 ^ 32) (world : MeetsWorld at.scope given.world u) (marks : marks_passed q u.trace ≡ given.trace) where
     -- a store that goes on
-    goes_with : (o : Option ℕ) (vars2 : high.Variables) (s2 : Bank) → write_to virtual s o (Word given.value) ≡ Some s2 → length s2 ≡ at.code.size → MeetsFrame at.scope q.claims act.passed vars2 s2 → After q (come_back virtual u (waits o rest end s ∷ act.below) given.value) (Back (call_state vars2 given) rest end)
+    goes_with : (o : Option ℕ) (vars2 : high.Variables) (s2 : Bank) → write_to virtual s o (Word given.value) ≡ Some s2 → length s2 ≡ at.code.size → MeetsFrame at.scope q.claims act.passed vars2 s2 → After q (come_back virtual u (waits o rest end s ∷ act.below) given.value) (Back (call_state vars2 given) rest end u.trace)
     goes_with o vars2 s2 e size2 frame2 =
         let x : Goer = record { top = frame_of rest end s2; below = act.below; world = u } in
         record {
@@ -77,15 +81,16 @@ module _ (q : Low) (at : Place) (is_place : IsPlace q at) (act : Activation) whe
             meets = record { function = refl; below = refl; size = size2; world = world; frame = frame2; marks = marks ∙ sym (append-nil given.trace) };
             goes_on_at = refl;
             ends_as = refl;
+            began = refl;
           };
         }
 
     -- the value comes back
-    comes_back : (into : Option ℕ) (vars2 : high.Variables) → high.taken st.variables into given.value ≡ Some vars2 → After q (come_back virtual u (waits (into_there at.scope into) rest end s ∷ act.below) given.value) (Back (call_state vars2 given) rest end)
+    comes_back : (into : Option ℕ) (vars2 : high.Variables) → high.taken st.variables into given.value ≡ Some vars2 → After q (come_back virtual u (waits (into_there at.scope into) rest end s ∷ act.below) given.value) (Back (call_state vars2 given) rest end u.trace)
     comes_back None vars2 taken = goes_with None vars2 s refl size (subst (λ vs. MeetsFrame at.scope q.claims act.passed vs s) (same_Some st.variables vars2 taken) frame)
     comes_back (Some v) vars2 taken = by_test (nat_lt v (length st.variables)) refl taken
       where
-        by_test : (b : Bool) → nat_lt v (length st.variables) ≡ b → high.only_if b (Some (slice_set st.variables v (Some given.value))) ≡ Some vars2 → After q (come_back virtual u (waits (into_there at.scope (Some v)) rest end s ∷ act.below) given.value) (Back (call_state vars2 given) rest end)
+        by_test : (b : Bool) → nat_lt v (length st.variables) ≡ b → high.only_if b (Some (slice_set st.variables v (Some given.value))) ≡ Some vars2 → After q (come_back virtual u (waits (into_there at.scope (Some v)) rest end s ∷ act.below) given.value) (Back (call_state vars2 given) rest end u.trace)
         by_test false t e = cc
         by_test true t e =
             let inside = ltb-true v (length st.variables) t in
@@ -94,7 +99,7 @@ module _ (q : Low) (at : Place) (is_place : IsPlace q at) (act : Activation) whe
             let is : into_there at.scope (Some v) ≡ Some v = ap (λ b. if b then Some v else None) known in
             let low : v < length s = omega (arith, inside, count, size, room) in
             let s2 = slice_set s v (Some (Word given.value)) in
-            subst (λ o. After q (come_back virtual u (waits o rest end s ∷ act.below) given.value) (Back (call_state vars2 given) rest end)) (sym is)
+            subst (λ o. After q (come_back virtual u (waits o rest end s ∷ act.below) given.value) (Back (call_state vars2 given) rest end u.trace)) (sym is)
             (goes_with (Some v) vars2 s2 (write_inside s v (Word given.value) low) (length-set s v (Some (Word given.value)) ∙ size)
             (subst (λ vs. MeetsFrame at.scope q.claims act.passed vs s2) (same_Some (slice_set st.variables v (Some given.value)) vars2 e)
             (frame_set at.scope q.claims act.passed st.variables s s2 v given.value frame inside small (get_or-set_same s v (Some (Word given.value)) None low) (λ i below other. get_or-set_other s v i (Some (Word given.value)) None other))))
@@ -146,11 +151,13 @@ module _ (q : Low) (at : Place) (is_place : IsPlace q at) (act : Activation) whe
       (computed_runs q (share_code shares ++ p.code) (own ++ rest) r s2 (has ∙ runs.three (share_code shares) p.code own rest) (computed_then q.claims r.world (share_code shares) p.code r.top.store b.store s2 b.does k.does))
       (step_to q (Going z) (begin below r.world callee.number callee.code (write_all virtual (Some (virtual.empty callee.code.size)) callee.code.parameters (passed_values callee.scope.objects vs ns))) (Onward q at act (call_state vars2 given) rest r)
       (call_step r rest s2 st target f p.arguments (passed_values callee.scope.objects vs ns) callee serves.is_place serves.number serves.lower h (k.values_are ∙ ap (λ o. Some (passed_values o vs ns)) (sym serves.objects)))
-      (and_then q (begin below r.world callee.number callee.code (write_all virtual (Some (virtual.empty callee.code.size)) callee.code.parameters (passed_values callee.scope.objects vs ns))) (Returning q callee (record { passed = ns; below = below }) given.value given.world given.trace) (Onward q at act (call_state vars2 given) rest r) went
-      (λ y ret.
+      (and_then q (begin below r.world callee.number callee.code (write_all virtual (Some (virtual.empty callee.code.size)) callee.code.parameters (passed_values callee.scope.objects vs ns))) (Answers q callee (record { passed = ns; below = below }) given r.world.trace) (Onward q at act (call_state vars2 given) rest r) went
+      (λ y answer.
+      let ret = answer.returning in
+      let lower = ltb-true callee.number at.number serves.lower in
       let world = world_of callee.scope scope given.world y.world (sym serves.objects) ret.world in
       step_to q (Going y) (come_back virtual y.world below given.value) (Onward q at act (call_state vars2 given) rest r)
       (return_step y ret.operand given.value ret.code ret.end ret.value ∙ ap (λ ws. come_back virtual y.world ws given.value) ret.below)
-      (after_map q (come_back virtual y.world below given.value) (Back (call_state vars2 given) rest r.top.end) (Onward q at act (call_state vars2 given) rest r)
+      (after_map q (come_back virtual y.world below given.value) (Back (call_state vars2 given) rest r.top.end y.world.trace) (Onward q at act (call_state vars2 given) rest r)
       (comes_back given st rest r.top.end s2 y.world stands.frame (size2 ∙ size1 ∙ size) (omega (arith, free, up, room)) ret.small world ret.marks into vars2 taken)
-      (λ x back. record { meets = back.meets; code = back.goes_on_at; end = back.ends_as })))))
+      (λ x back. record { meets = back.meets; code = back.goes_on_at; end = back.ends_as; quiet = subst (Quiet q at.number r.world.trace) (sym back.began) (quiet_wider q (suc callee.number) at.number r.world.trace y.world.trace (omega (arith, lower)) answer.quiet) })))))

@@ -11,22 +11,27 @@ use Rattle.high_ir.specs.Meaning.{Outcome, Goes, Leaves, Returns, Bad}
 use Rattle.high_ir.specs.Runs as runs
 use Rattle.high_ir.specs.Tree as tree
 use Rattle.low_ir.specs.Code.{Constant, Jump, Return, Block, Low, Note}
+use Rattle.low_ir.specs.declared.run.Began.{Began}
 use Rattle.low_ir.specs.declared.run.Value.{Value}
 use Rattle.low_ir.specs.declared.run.Value.TheVariants.{Word}
 use Rattle.low_ir.specs.Effects.{World}
-use Rattle.low_ir.specs.Runs.{Waiting, Bank, virtual, begin, block_in, enter, went_to, write_all}
+use Rattle.low_ir.specs.Runs.{Going, Waiting, Bank, virtual, begin, block_in, enter, went_to, write_all}
 use Rattle.low_ir.specs.Turns.{marks_passed}
 use Rattle.low_plan.specs.Values.{Scope, first_free}
 use Rattle.low_plan.specs.Statements.{block}
 use Rattle.low_plan.specs.Programs.{body_piece, lowered_function, turned}
 use Rattle.low_words.proofs.Writing.{write_inside}
+use Rattle.low_events.specs.Segments.{AllInside, Quiet}
+use Rattle.low_events.proofs.Pieces.{all_behind, part_above}
+use Rattle.low_nesting.proofs.Loops.{all_loops_inside}
 use Rattle.low_values.specs.Meeting.{IsClaimed, MeetsFrame, MeetsWorld, array_value, array_values, passed_values}
-use Rattle.low_flow.specs.Claims.{built, IsSound}
-use Rattle.low_flow.specs.Following.{Goer, Place, IsPlace, Activation, After, IsAt, Stand, Meets, Begun, Inside, Returning, Enters, AreSmall}
-use Rattle.low_flow.proofs.Steps.{and_then}
-use Rattle.low_flow.proofs.Jumps.{at_block, begin_block}
+use Rattle.low_flow.specs.Claims.{built, IsSound, whole}
+use Rattle.low_flow.specs.Following.{Goer, Place, IsPlace, Activation, After, Answers, Extent, IsAt, Stand, Meets, Begun, Here, Reached, Returning, Enters, AreSmall}
+use Rattle.low_flow.proofs.Steps.{after_map, and_then, now}
+use Rattle.low_flow.proofs.Parts.{in_larger, reach_in, reach_then}
+use Rattle.low_flow.proofs.Jumps.{begin_block, enters}
 use Rattle.low_flow.proofs.Growing.{pieces_free}
-use Rattle.low_flow.proofs.Statements.{Ends}
+use Rattle.low_flow.proofs.Ends.{Ends}
 use Rattle.low_flow.proofs.Following.{all_follow}
 
 -- some values to some registers, and then others to others
@@ -189,8 +194,8 @@ module _ (q : Low) (sem : high.Calls) (number : ℕ) (scope : Scope) (f : ℕ) (
   test_same a b t = grind (arith, nat_tests, t)
 
   -- a call of the function
-  pub function_does : scope.variables ≡ h.values + h.locals → length scope.claims ≡ h.arrays → IsSound q here sem h.body → (vs ns : List ℕ) (w : high.World) (trace : List ℕ) (g : high.Given) → runs.enter Some (Some h) sem f vs ns w trace ≡ Some g → AreSmall vs → Enters q here ns → (below : List (Waiting ℕ Note Bank)) (u : World) → MeetsWorld scope w u → marks_passed q u.trace ≡ trace → After q (begin below u number here.code (write_all virtual (Some (virtual.empty here.code.size)) here.code.parameters (passed_values scope.objects vs ns))) (Returning q here (record { passed = ns; below = below }) g.value g.world g.trace)
-  function_does variables claims sound vs ns w trace g e small enters below u world marks =
+  pub function_does : scope.variables ≡ h.values + h.locals → length scope.claims ≡ h.arrays → IsSound q here sem h.body → (vs ns : List ℕ) (w : high.World) (trace : List ℕ) (g : high.Given) → runs.enter Some (Some h) sem f vs ns w trace ≡ Some g → AreSmall vs → Enters q here ns → (below : List (Waiting ℕ Note Bank)) (u : World) → MeetsWorld scope w u → marks_passed q u.trace ≡ trace → After q (begin below u number here.code (write_all virtual (Some (virtual.empty here.code.size)) here.code.parameters (passed_values scope.objects vs ns))) (Answers q here (record { passed = ns; below = below }) g u.trace)
+  function_does variables claims sound vs ns w trace g e small among below u world marks =
       let k = gave vs ns w trace g e in
       let parts = and_parts (length vs == h.values) (length ns == h.arrays) k.takes in
       let p = body_piece scope f h.body in
@@ -198,23 +203,38 @@ module _ (q : Low) (sem : high.Calls) (number : ℕ) (scope : Scope) (f : ℕ) (
       let body = tree.Then (tree.Mark f) (tree.Then h.body tree.End) in
       let behind : Block ℕ Note = block [] (Return (Constant 0)) in
       let free : first_free scope ≤ p.free = pieces_free scope body [] 0 (first_free scope) behind in
-      let st = started q scope here h p.free vs ns refl variables claims (test_same (length vs) h.values parts.0) (test_same (length ns) h.arrays parts.1) free small enters in
+      let st = started q scope here h p.free vs ns refl variables claims (test_same (length vs) h.values parts.0) (test_same (length ns) h.arrays parts.1) free small among in
       let act : Activation = record { passed = ns; below = below } in
       let state : high.State = record { variables = runs.frame h vs; world = w; trace = trace } in
       let r0 : Goer = record { top = record { func = number; code = []; end = Jump 0; store = st.store }; below = below; world = u } in
       let zero_is : last - last ≡ 0 = omega arith in
       let first : IsAt q here last p.first = record { below = omega arith; block = ap (slice_get here.code.blocks) zero_is } in
       let meets : Meets q here act state None r0 = record { function = refl; below = refl; size = st.size_is; world = world; frame = st.frame; marks = marks ∙ sym (append-nil trace) } in
-      let entered : After q (went_to q r0 (last - last)) (Begun q here act last state) = begin_block q here is_here act state last p.first r0 first meets in
+      let entered : After q (went_to q r0 (last - last)) (Begun q here act last state u.trace) = begin_block q here is_here act state last p.first r0 first meets in
       let start : begin below u number here.code (write_all virtual (Some (virtual.empty here.code.size)) here.code.parameters (passed_values scope.objects vs ns)) ≡ went_to q r0 (last - last) =
       ap (begin below u number here.code) st.does
       ∙ ap (λ i. enter r0 i (slice_get here.code.blocks i)) (sym zero_is)
       ∙ ap (λ o. enter r0 (last - last) (block_in o (last - last))) (sym there) in
-      let follow : (r : Goer) → Begun q here act last state r → Ends q here is_here act sem r behind [] (Returns g.value g.world g.trace) =
-      λ r b. subst (λ o. Ends q here is_here act sem r behind [] (high.then_do o (high.run_all Some sem ns tree.End))) k.is
-      (all_follow q here is_here act sem body (tt, (sound, tt)) [] 0 (first_free scope) behind state r
+      let x = whole 0 p in
+      let whole_body : Extent = record { from = 0; count = suc last; loops = p.loops } in
+      let inside : AllInside 0 last p.loops = all_loops_inside scope body [] 0 (first_free scope) behind in
+      let to_return = Returning q here act g.value g.world g.trace in
+      let follow : (so_far : List Began) (r : Goer) → Here q here act p.first state so_far r → After q (Going r) (Reached q here act x so_far to_return) =
+      λ so_far r h. subst (λ o. Ends q here is_here act x so_far r behind [] (high.then_do o (high.run_all Some sem ns tree.End))) k.is
+      (all_follow q here is_here act sem body (tt, (sound, tt)) [] 0 (first_free scope) behind state so_far r
       (record { free = omega arith; outs = λ d. omega arith; behind = tt })
-      (record { registers = omega arith; blocks = omega arith; stand = stand_from q here is_here (p.first ∷ []) p.new refl })
-      (Inside (at_block q here is_here act p.first last state r first b))) in
-      subst (λ z. After q z (Returning q here act g.value g.world g.trace)) (sym start)
-      (and_then q (went_to q r0 (last - last)) (Begun q here act last state) (Returning q here act g.value g.world g.trace) entered follow)
+      (record { registers = omega arith; blocks = omega arith; stand = stand_from q here is_here (p.first ∷ []) p.new refl }) h) in
+      let all : After q (went_to q r0 (last - last)) (Reached q here act whole_body u.trace to_return) =
+      and_then q (went_to q r0 (last - last)) (Begun q here act last state u.trace) (Reached q here act whole_body u.trace to_return) entered
+      (λ r b.
+      let e = enters q here is_here act whole_body last state p.first u.trace r (omega arith) (omega arith) (all_behind number last last 1 0 last p.loops (omega arith) inside) first b in
+      reach_then q here act whole_body u.trace (Going r) (Here q here act p.first state) to_return (now q r (Reached q here act whole_body u.trace (Here q here act p.first state)) e)
+      (λ t z h. reach_in q here act x whole_body t (Going z) to_return (in_larger q here 0 last 0 (suc last) p.loops (omega arith) (omega arith)) (follow t z h))) in
+      subst (λ z. After q z (Answers q here act g u.trace)) (sym start)
+      (after_map q (went_to q r0 (last - last)) (Reached q here act whole_body u.trace to_return) (Answers q here act g u.trace) all
+      (λ r a.
+      let at_end : a.now ≡ r.world.trace = sym a.holds.began in
+      record {
+        returning = subst (λ t. Returning q here act g.value g.world g.trace t r) at_end a.holds;
+        quiet = subst (Quiet q (suc number) u.trace) at_end (part_above number last q 0 (suc last) p.loops u.trace a.now here.code there refl a.part);
+      }))

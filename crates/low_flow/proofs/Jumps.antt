@@ -1,5 +1,5 @@
 -- Jumps and branches lead to blocks.
-use Rattle.std.proofs.Common.{◌≡◌, ℕ, ◌+◌, ◌-◌, ◌≤◌, List, [], ◌∷◌, ◌++◌, length, get_or, Option, Some, None, refl, sym, ap, ◌∙◌, subst, arith, length-append}
+use Rattle.std.proofs.Common.{◌≡◌, ℕ, ◌+◌, ◌-◌, ◌<◌, ◌≤◌, List, [], ◌∷◌, ◌++◌, length, get_or, Option, Some, None, refl, sym, ap, ◌∙◌, subst, arith, length-append}
 use Rattle.std.specs.Prelude.{option_map, option_to_list, slice_get, if◌then◌else◌}
 use Rattle.std.proofs.lemmas.Grind.{flat_map-append}
 use Rattle.std.proofs.lemmas.List.{append-nil}
@@ -18,10 +18,13 @@ use Rattle.low_plan.specs.Operators.{Code}
 use Rattle.low_plan.specs.Values.{Scope}
 use Rattle.low_plan.specs.Statements.{Piece, landed, landed_by}
 use Rattle.low_plan.specs.Programs.{turned, turned_end}
+use Rattle.low_events.specs.Segments.{AllInside, arrival}
+use Rattle.low_events.proofs.Pieces.{AllApart, all_behind, part_one}
 use Rattle.low_values.specs.Meeting.{MeetsWorld}
-use Rattle.low_flow.specs.Claims.{LeadsWithin}
-use Rattle.low_flow.specs.Following.{Goer, Place, IsPlace, Activation, After, IsAt, Stand, Meets, Entered, Begun, Here, Inside, Ahead}
-use Rattle.low_flow.proofs.Steps.{step_to}
+use Rattle.low_flow.specs.Claims.{whole}
+use Rattle.low_flow.specs.Following.{Goer, Place, IsPlace, Activation, After, Extent, IsAt, Stand, Meets, Entered, Begun, Here, Inside, Ahead, Reached, extent}
+use Rattle.low_flow.proofs.Steps.{after_map, step_to}
+use Rattle.low_flow.proofs.Parts.{reached_now}
 
 -- the world as a block begins
 pub world_began : (scope : Scope) (w : high.World) (u : World) (f b : ℕ) → MeetsWorld scope w u → MeetsWorld scope w (began u f b)
@@ -60,7 +63,7 @@ module _ (q : Low) (at : Place) (is_place : IsPlace q at) where
 
   module _ (act : Activation) where
     -- a block begins
-    pub begin_block : (st : high.State) (n : ℕ) (b : Block ℕ Note) (r : Goer) → IsAt q at n b → Meets q at act st None r → After q (went_to q r (at.last - n)) (Begun q at act n st)
+    pub begin_block : (st : high.State) (n : ℕ) (b : Block ℕ Note) (r : Goer) → IsAt q at n b → Meets q at act st None r → After q (went_to q r (at.last - n)) (Begun q at act n st r.world.trace)
     begin_block st n b r is h =
         let k = at.last - n in
         let there : block_in (slice_get q.functions r.top.func) k ≡ Some (turned at.last b) =
@@ -91,6 +94,7 @@ module _ (q : Low) (at : Place) (is_place : IsPlace q at) where
               code = refl;
               end = refl;
             };
+            began = ap (λ (f : ℕ). r.world.trace ++ record { function = f; block = k } ∷ []) h.function;
           };
         }
 
@@ -98,14 +102,14 @@ module _ (q : Low) (at : Place) (is_place : IsPlace q at) where
     pub end_step : (r : Goer) (end : End ℕ) → r.top.code ≡ [] → r.top.end ≡ end → step virtual q (Going r) ≡ at_end virtual q r end
     end_step r end c e = ap (at_code virtual q r) c ∙ ap (at_end virtual q r) e
 
-    pub jump_step : (st : high.State) (n : ℕ) (r : Goer) → n ≤ at.last → Meets q at act st None r → r.top.code ≡ [] → r.top.end ≡ Jump (at.last - n) → After q (Going r) (Begun q at act n st)
+    pub jump_step : (st : high.State) (n : ℕ) (r : Goer) → n ≤ at.last → Meets q at act st None r → r.top.code ≡ [] → r.top.end ≡ Jump (at.last - n) → After q (Going r) (Begun q at act n st r.world.trace)
     jump_step st n r within h c e =
         let b = known n within in
-        step_to q (Going r) (went_to q r (at.last - n)) (Begun q at act n st) (end_step r (Jump (at.last - n)) c e) (begin_block st n b.block r b.is h)
+        step_to q (Going r) (went_to q r (at.last - n)) (Begun q at act n st r.world.trace) (end_step r (Jump (at.last - n)) c e) (begin_block st n b.block r b.is h)
 
     -- the block of a number is one
-    pub at_block : (b : Block ℕ Note) (n : ℕ) (st : high.State) (r : Goer) → IsAt q at n b → Begun q at act n st r → Entered q at act b st r
-    at_block b n st r is h =
+    pub at_block : (b : Block ℕ Note) (n : ℕ) (st : high.State) (so_far : List Began) (r : Goer) → IsAt q at n b → Begun q at act n st so_far r → Entered q at act b st r
+    at_block b n st so_far r is h =
         let same : turned at.last h.block ≡ turned at.last b = same_Some (turned at.last h.block) (turned at.last b) (sym h.is.block ∙ is.block) in
         record {
           meets = subst (λ m. Meets q at act st m r) (ap (λ (x : Block ℕ Note). x.mark) same) h.entered.meets;
@@ -113,25 +117,37 @@ module _ (q : Low) (at : Place) (is_place : IsPlace q at) where
           end = h.entered.end ∙ ap (λ (x : Block ℕ Note). x.end) same;
         }
 
-    -- where one comes to a piece that has landed
-    pub arrives : (n : ℕ) (p : Piece) (st : high.State) (r : Goer) → Stand q at n (landed n p).new → LeadsWithin at.last p.first.end → Meets q at act st None r → After q (went_to q r (at.last - (landed n p).goal)) (Here q at act p.first st)
-    arrives n p st r stand within h = by_first p.first.mark p.first.code p.first.end refl refl refl stand
-      where
-        to_block : IsAt q at (n + length p.new) p.first → After q (went_to q r (at.last - (n + length p.new))) (Here q at act p.first st)
-        to_block is =
-            let a = begin_block st (n + length p.new) p.first r is h in
-            record { steps = a.steps; state = a.state; is = a.is; holds = Inside (at_block p.first (n + length p.new) st a.state is a.holds) }
+    -- a block of a part begins
+    pub enters : (x : Extent) (i : ℕ) (st : high.State) (b : Block ℕ Note) (so_far : List Began) (r : Goer) → x.from ≤ i → i < x.from + x.count → AllApart at.number at.last i 1 x.loops → IsAt q at i b → Begun q at act i st so_far r → Reached q at act x so_far (Here q at act b st) r
+    enters x i st b so_far r low high apart is h = record {
+      now = so_far ++ arrival at.number at.last i ∷ [];
+      part = part_one at.number at.last q x.from x.count i x.loops so_far low high is.below apart;
+      holds = Inside (at_block b i st so_far r is h) h.began;
+    }
 
-        by_first : (m : Option ℕ) (c : Code) (e : End ℕ) → p.first.mark ≡ m → p.first.code ≡ c → p.first.end ≡ e → Stand q at n (landed_by m c e n p).new → After q (went_to q r (at.last - (landed_by m c e n p).goal)) (Here q at act p.first st)
-        by_first (Some m) c e em ec ee stand = to_block stand.0
-        by_first None (i ∷ is) e em ec ee stand = to_block stand.0
-        by_first None [] (Branch c x y taken other) em ec ee stand = to_block stand.0
-        by_first None [] (Return x) em ec ee stand = to_block stand.0
-        by_first None [] (Jump b) em ec ee stand =
-            let low : b ≤ at.last = subst (LeadsWithin at.last) ee within in
-            let k = known b low in
-            let a = begin_block st b k.block r k.is h in
-            record { steps = a.steps; state = a.state; is = a.is; holds = Ahead b (only_jump-is p.first b em ec ee) a.holds }
+    -- what landed
+    abbrev pub landing : ℕ → Piece → Extent
+    landing n p = extent n (landed n p).new (landed n p).loops
+
+    -- where one comes to a piece that has landed
+    pub comes : (n : ℕ) (p : Piece) (st : high.State) (so_far : List Began) (r : Goer) → AllInside n (length p.new) p.loops → Stand q at n (landed n p).new → Begun q at act (landed n p).goal st so_far r → Reached q at act (landing n p) so_far (Here q at act p.first st) r
+    comes n p st so_far r inside stand h = by_first p.first.mark p.first.code p.first.end refl refl refl stand h
+      where
+        to_block : IsAt q at (n + length p.new) p.first → Begun q at act (n + length p.new) st so_far r → Reached q at act (extent n (p.first ∷ p.new) p.loops) so_far (Here q at act p.first st) r
+        to_block is g = enters (extent n (p.first ∷ p.new) p.loops) (n + length p.new) st p.first so_far r (omega arith) (omega arith) (all_behind at.number at.last (n + length p.new) 1 n (length p.new) p.loops (omega arith) inside) is g
+
+        by_first : (m : Option ℕ) (c : Code) (e : End ℕ) → p.first.mark ≡ m → p.first.code ≡ c → p.first.end ≡ e → Stand q at n (landed_by m c e n p).new → Begun q at act (landed_by m c e n p).goal st so_far r → Reached q at act (extent n (landed_by m c e n p).new (landed_by m c e n p).loops) so_far (Here q at act p.first st) r
+        by_first (Some m) c e em ec ee stand g = to_block stand.0 g
+        by_first None (i ∷ is) e em ec ee stand g = to_block stand.0 g
+        by_first None [] (Branch c x y taken other) em ec ee stand g = to_block stand.0 g
+        by_first None [] (Return x) em ec ee stand g = to_block stand.0 g
+        by_first None [] (Jump b) em ec ee stand g = reached_now q at act (whole n p) so_far (Here q at act p.first st) r (Ahead b (only_jump-is p.first b em ec ee) g)
+
+    pub arrives : (n : ℕ) (p : Piece) (st : high.State) (r : Goer) → AllInside n (length p.new) p.loops → (landed n p).goal ≤ at.last → Stand q at n (landed n p).new → Meets q at act st None r → After q (went_to q r (at.last - (landed n p).goal)) (Reached q at act (landing n p) r.world.trace (Here q at act p.first st))
+    arrives n p st r inside goal stand h =
+        let k = known (landed n p).goal goal in
+        after_map q (went_to q r (at.last - (landed n p).goal)) (Begun q at act (landed n p).goal st r.world.trace) (Reached q at act (landing n p) r.world.trace (Here q at act p.first st)) (begin_block st (landed n p).goal k.block r k.is h)
+        (λ y g. comes n p st r.world.trace y inside stand g)
 
     -- a branch whose sides have landed
     pub branch_step : (r : Goer) (c : Condition) (x y : Operand ℕ) (taken other a b : ℕ) → r.top.code ≡ [] → r.top.end ≡ Branch c x y taken other → operand_value virtual r.top.store x ≡ Some (Word a) → operand_value virtual r.top.store y ≡ Some (Word b) → step virtual q (Going r) ≡ went_to q r (if holds c a b then taken else other)

@@ -18,6 +18,7 @@ use Rattle.low_plan.specs.Operators.{Code, only}
 use Rattle.low_plan.specs.Values.{Coded, Offset, first_free, operand, index_of, offset_of, base_of, address, bytes, scaled_in, share_code}
 use Rattle.low_plan.specs.Statements.{sharing, shares_of, kept_value, unconverted, store_at, keep_code}
 use Rattle.low_words.proofs.Writing.{has_word}
+use Rattle.low_events.proofs.Quiets.{quiet_nothing}
 use Rattle.low_values.specs.Meeting.{contents_of, IsWordy}
 use Rattle.low_values.proofs.Elements.{from_value}
 use Rattle.low_values.proofs.Reading.{Means, IsOffset, OffsetBelow, leads}
@@ -152,6 +153,7 @@ module _ (q : Low) (at : Place) (is_place : IsPlace q at) (act : Activation) whe
         };
         code = refl;
         end = refl;
+        quiet = quiet_nothing q at.number r.world.trace;
       })))
 
   pub store_passes : (array : Array) (index e : Expr) (t n v : ℕ) (st : high.State) (w2 : high.World) → IsWordy index → IsWordy e → first_free at.scope ≤ t → high.value_of act.passed st.variables st.world index ≡ Some n → high.value_of act.passed st.variables st.world e ≡ Some v → v < 2 ^ 32 → Stores act.passed st.world array n v w2 → (keep_code at.scope array index (kept_value array.kind e) t).free ≤ at.code.size → Passes q at is_place act (keep_code at.scope array index (kept_value array.kind e) t).code st (keep_state st w2)

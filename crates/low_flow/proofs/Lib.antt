@@ -1,10 +1,12 @@
 pub mod Steps
+pub mod Parts
 pub mod Jumps
 pub mod Plain
 pub mod Stores
 pub mod Keeping
 pub mod Growing
 pub mod Filled
+pub mod Ends
 pub mod Statements
 pub mod Calls
 pub mod Called

@@ -7,6 +7,7 @@ use Rattle.std.proofs.lemmas.Option.{same_Some, slice_get_within}
 use Rattle.high_ir.specs.Meaning as high
 use Rattle.high_ir.specs.Meaning.{Outcome}
 use Rattle.high_ir.specs.Tree.{Expr}
+use Rattle.low_ir.specs.declared.run.Began.{Began}
 use Rattle.low_ir.specs.declared.run.Value.TheVariants.{Word}
 use Rattle.low_ir.specs.Code.{Operand, End, Jump, Block, Do, Put, Get, Low, Note}
 use Rattle.low_ir.specs.Effects.{effect_of, put, got, next_byte, after_byte}
@@ -17,15 +18,19 @@ use Rattle.low_plan.specs.Values.{Scope, Coded, first_free, pointer, operand, va
 use Rattle.low_plan.specs.Statements.{before, before_by, block, sharing, shares_of, put_code}
 use Rattle.low_words.specs.Computing.{computed}
 use Rattle.low_words.proofs.Writing.{has_word, write_inside}
+use Rattle.low_events.specs.Segments.{Quiet}
+use Rattle.low_events.proofs.Pieces.{part_quiet}
+use Rattle.low_events.proofs.Quiets.{quiet_nothing}
 use Rattle.low_values.specs.Meeting.{IsWordy, MeetsFrame, MeetsWorld}
 use Rattle.low_values.proofs.Elements.{index_within}
 use Rattle.low_values.proofs.Standing.{stands_after, computed_then}
 use Rattle.low_values.proofs.Values.{works, grows, operand_found, operand_free}
 use Rattle.low_values.proofs.Shares.{begun, scaled_written}
-use Rattle.low_flow.specs.Following.{Goer, Place, IsPlace, Activation, After, Stand, Meets, Begun, Here, Inside, Ahead, Onward}
-use Rattle.low_flow.proofs.Steps.{now, and_then, step_to, steps_to, computed_runs}
+use Rattle.low_flow.specs.Following.{Goer, Place, IsPlace, Activation, After, Extent, Stand, Meets, Begun, Here, Inside, Ahead, Onward, Reached, extent}
+use Rattle.low_flow.proofs.Steps.{after_map, now, and_then, step_to, steps_to, computed_runs}
 use Rattle.low_flow.proofs.Steps as steps
-use Rattle.low_flow.proofs.Jumps.{jump_step, at_block, stand_one}
+use Rattle.low_flow.proofs.Parts.{part_of_two}
+use Rattle.low_flow.proofs.Jumps.{enters, jump_step, stand_one}
 
 -- a frame with a variable written
 pub frame_set : (scope : Scope) (claims : List (List ℕ)) (passed : List ℕ) (vars : high.Variables) (s s2 : Bank) (x v : ℕ) → MeetsFrame scope claims passed vars s → x < length vars → v < 2 ^ 32 → slice_index_or s2 x None ≡ Some (Word v) → ((q : ℕ) → q < first_free scope → q ≢ x → slice_index_or s2 q None ≡ slice_index_or s q None) → MeetsFrame scope claims passed (slice_set vars x (Some v)) s2
@@ -65,20 +70,31 @@ module _ (q : Low) (at : Place) (is_place : IsPlace q at) (act : Activation) whe
   not_only_jump [] more end n some e = some refl
   not_only_jump (i ∷ is) more end n some e = let same : i ∷ (is ++ more) ≡ [] = ap (λ (b : Block ℕ Note). b.code) e in cc
 
+  abbrev pub before_extent : ℕ → Block ℕ Note → Coded → Extent
+  before_extent n k c = extent n (before n k c).new (before n k c).loops
+
   -- code before a block, and then that block
-  pub before_goes : (n : ℕ) (k : Block ℕ Note) (c : Coded) (st st2 : high.State) (r : Goer) → c.code ≢ [] → Passes c.code st st2 → n ≤ at.last → Stand q at n (before n k c).new → Here q at act (before n k c).first st r → After q (Going r) (Here q at act k st2)
-  before_goes n k c st st2 r some passes within stand here = by_mark k.mark refl stand here
+  pub before_goes : (n : ℕ) (k : Block ℕ Note) (c : Coded) (st st2 : high.State) (so_far : List Began) (r : Goer) → c.code ≢ [] → Passes c.code st st2 → n ≤ at.last → Stand q at n (before n k c).new → Here q at act (before n k c).first st so_far r → After q (Going r) (Reached q at act (before_extent n k c) so_far (Here q at act k st2))
+  before_goes n k c st st2 so_far r some passes within stand here = by_mark k.mark refl stand here
     where
-      by_mark : (m : Option ℕ) → k.mark ≡ m → Stand q at n (before_by m c.code n k c.free).new → Here q at act (before_by m c.code n k c.free).first st r → After q (Going r) (Here q at act k st2)
+      by_mark : (m : Option ℕ) → k.mark ≡ m → Stand q at n (before_by m c.code n k c.free).new → Here q at act (before_by m c.code n k c.free).first st so_far r → After q (Going r) (Reached q at act (extent n (before_by m c.code n k c.free).new (before_by m c.code n k c.free).loops) so_far (Here q at act k st2))
       by_mark None e stand (Ahead b jumps begun) = absurd (not_only_jump c.code k.code k.end b some jumps)
-      by_mark None e stand (Inside h) =
-          and_then q (Going r) (Onward q at act st2 k.code r) (Here q at act k st2) (passes k.code r h.meets h.code)
-          (λ z o. now q z (Here q at act k st2) (Inside (record { meets = subst (λ m. Meets q at act st2 m z) (sym e) o.meets; code = o.code; end = o.end ∙ h.end })))
+      by_mark None e stand (Inside h t) =
+          and_then q (Going r) (Onward q at act st2 k.code r) (Reached q at act (extent n [] []) so_far (Here q at act k st2)) (passes k.code r h.meets h.code)
+          (λ z o. now q z (Reached q at act (extent n [] []) so_far (Here q at act k st2)) (record {
+            now = z.world.trace;
+            part = part_quiet at.number at.last q n 0 [] so_far z.world.trace (subst (λ a. Quiet q at.number a z.world.trace) t o.quiet);
+            holds = Inside (record { meets = subst (λ m. Meets q at act st2 m z) (sym e) o.meets; code = o.code; end = o.end ∙ h.end }) refl;
+          }))
       by_mark (Some m) e stand (Ahead b jumps begun) = absurd (not_only_jump c.code [] (Jump n) b some (ap (λ x. block x (Jump n)) (append-nil c.code) ∙ jumps))
-      by_mark (Some m) e stand (Inside h) =
-          and_then q (Going r) (Onward q at act st2 [] r) (Here q at act k st2) (passes [] r h.meets (h.code ∙ sym (append-nil c.code)))
-          (λ z o. and_then q (Going z) (Begun q at act n st2) (Here q at act k st2) (jump_step q at is_place act st2 n z within o.meets o.code (o.end ∙ h.end))
-          (λ y b. now q y (Here q at act k st2) (Inside (at_block q at is_place act k n st2 y (stand_one q at is_place n k stand) b))))
+      by_mark (Some m) e stand (Inside h t) =
+          let x : Extent = extent n (k ∷ []) [] in
+          and_then q (Going r) (Onward q at act st2 [] r) (Reached q at act x so_far (Here q at act k st2)) (passes [] r h.meets (h.code ∙ sym (append-nil c.code)))
+          (λ z o. after_map q (Going z) (Begun q at act n st2 z.world.trace) (Reached q at act x so_far (Here q at act k st2)) (jump_step q at is_place act st2 n z within o.meets o.code (o.end ∙ h.end))
+          (λ y b.
+          let g = enters q at is_place act x n st2 k z.world.trace y (omega arith) (omega arith) tt (stand_one q at is_place n k stand) b in
+          let quiet = part_quiet at.number at.last q n 1 [] so_far z.world.trace (subst (λ a. Quiet q at.number a z.world.trace) t o.quiet) in
+          record { now = g.now; part = part_of_two q at x so_far z.world.trace g.now quiet g.part; holds = g.holds }))
 
   -- code that computes, and then leaves a frame
   pub computes : (code rest : Code) (st st2 : high.State) (r : Goer) (s : Bank) → Meets q at act st None r → r.top.code ≡ code ++ rest → computed q.claims r.world code r.top.store ≡ Some s → length s ≡ length r.top.store → st2.world ≡ st.world → st2.trace ≡ st.trace → MeetsFrame at.scope q.claims act.passed st2.variables s → After q (Going r) (Onward q at act st2 rest r)
@@ -96,6 +112,7 @@ module _ (q : Low) (at : Place) (is_place : IsPlace q at) (act : Activation) whe
         };
         code = refl;
         end = refl;
+        quiet = quiet_nothing q at.number r.world.trace;
       }))
 
   -- a set variable
@@ -168,6 +185,7 @@ module _ (q : Low) (at : Place) (is_place : IsPlace q at) (act : Activation) whe
         };
         code = refl;
         end = refl;
+        quiet = quiet_nothing q at.number r.world.trace;
       })))
 
   -- a byte of the input
@@ -212,4 +230,5 @@ module _ (q : Low) (at : Place) (is_place : IsPlace q at) (act : Activation) whe
         };
         code = refl;
         end = refl;
+        quiet = quiet_nothing q at.number r.world.trace;
       }))

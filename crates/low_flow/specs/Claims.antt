@@ -4,6 +4,7 @@ use Rattle.high_ir.specs.Meaning as high
 use Rattle.high_ir.specs.Runs.{enter}
 use Rattle.high_ir.specs.Tree.{Expr, Statement, Set, Put, Get, Keep, Mark, Seq, If, Loop, Block, Leave, Call, Return, Statements, End, Then}
 use Rattle.high_ir.specs.Tree as tree
+use Rattle.low_ir.specs.declared.run.Began.{Began}
 use Rattle.low_ir.specs.Code.{Jump, Branch, Low, Note}
 use Rattle.low_ir.specs.Code as code
 use Rattle.low_ir.specs.Runs.{Going}
@@ -11,7 +12,7 @@ use Rattle.low_plan.specs.Values.{Scope, first_free}
 use Rattle.low_plan.specs.Statements.{Piece, piece}
 use Rattle.low_plan.specs.Programs.{body_piece, lowered_function}
 use Rattle.low_values.specs.Meeting.{IsWordy}
-use Rattle.low_flow.specs.Following.{Goer, Place, Activation, Stand, Here, Does, CallDoes, IsPlace, Serves}
+use Rattle.low_flow.specs.Following.{Goer, Place, Activation, Extent, Stand, Here, Does, CallDoes, IsPlace, Serves, extent}
 
 -- where an end jumps to, as a number from the end of the function, is a block
 abbrev pub LeadsWithin : ℕ → code.End ℕ → Type 0
@@ -31,6 +32,10 @@ pub record Fits (q : Low) (at : Place) (n : ℕ) (p : Piece) : Type 0 where
   pub blocks : n + length p.new ≤ at.last
   pub stand : Stand q at n p.new
 
+-- the blocks of a piece, and its loops
+abbrev pub whole : ℕ → Piece → Extent
+whole n p = extent n p.new p.loops
+
 -- the constants of expressions are words
 abbrev pub AreWordy : List Expr → Type 0
 AreWordy [] = Unit {0}
@@ -39,8 +44,9 @@ AreWordy (e ∷ es) = IsWordy e × AreWordy es
 -- wherever the code of a statement stands, a run that comes to it does what the statement does
 abbrev pub IsFollowed : (q : Low) (at : Place) (act : Activation) (call : high.Calls) → Statement → Type 0
 IsFollowed q at act call s =
-    (exits : List ℕ) (n t : ℕ) (k : code.Block ℕ Note) (st : high.State) (r : Goer) → Around at exits t k → Fits q at n (piece at.scope s exits n t k) → Here q at act (piece at.scope s exits n t k).first st r
-    → Does q at act (Going r) k exits (high.run Some call act.passed s st)
+    (exits : List ℕ) (n t : ℕ) (k : code.Block ℕ Note) (st : high.State) (so_far : List Began) (r : Goer)
+    → Around at exits t k → Fits q at n (piece at.scope s exits n t k) → Here q at act (piece at.scope s exits n t k).first st so_far r
+    → Does q at act (whole n (piece at.scope s exits n t k)) so_far (Going r) k exits (high.run Some call act.passed s st)
 
 -- what a statement has to have: its constants are words, and the functions that it calls serve
 module _ (q : Low) (at : Place) (call : high.Calls) where

@@ -3,7 +3,8 @@ use Rattle.std.specs.Prelude.{◌≡◌, ℕ, suc, ◌+◌, ◌-◌, ◌<◌, �
 use Rattle.high_ir.specs.declared.object.Base.{Base}
 use Rattle.high_ir.specs.Meaning as high
 use Rattle.high_ir.specs.Meaning.{Outcome, Goes, Leaves, Returns, Bad}
-use Rattle.low_ir.specs.Code.{Return, Block, Function, Low, Note, Operand}
+use Rattle.low_ir.specs.declared.run.Began.{Began}
+use Rattle.low_ir.specs.Code.{Return, Block, Loop, Function, Low, Note, Operand}
 use Rattle.low_ir.specs.Effects.{World}
 use Rattle.low_ir.specs.Formed.{only_jump}
 use Rattle.low_ir.specs.declared.run.Value.TheVariants.{Word}
@@ -13,6 +14,7 @@ use Rattle.low_plan.specs.Operators.{Code}
 use Rattle.low_plan.specs.Values.{Scope}
 use Rattle.low_plan.specs.Calls.{place_in}
 use Rattle.low_plan.specs.Programs.{turned, turned_end}
+use Rattle.low_events.specs.Segments.{Quiet, Segment, arrival}
 use Rattle.low_values.specs.Meeting.{IsClaimed, MeetsFrame, MeetsWorld, passed_values}
 
 -- a run that goes on
@@ -38,6 +40,15 @@ pub record IsPlace (q : Low) (at : Place) : Type 0 where
 pub record Activation : Type 0 where
   pub passed : List ℕ
   pub below : List (Waiting ℕ Note Bank)
+
+-- a part of a function: the number of its last block, its blocks, as many as that, and its loops
+pub record Extent : Type 0 where
+  pub from : ℕ
+  pub count : ℕ
+  pub loops : List Loop
+
+abbrev pub extent : ℕ → List (Block ℕ Note) → List Loop → Extent
+extent n new loops = record { from = n; count = length new; loops = loops }
 
 -- after some steps
 pub record After (q : Low) (z : Run ℕ Note Bank) (P : Goer → Type 0) : Type 0 where
@@ -73,19 +84,20 @@ module _ (q : Low) (at : Place) where
       pub code : r.top.code ≡ b.code
       pub end : r.top.end ≡ turned_end at.last b.end
 
-    -- the block of this number has just begun
-    pub record Begun (n : ℕ) (st : high.State) (r : Goer) : Type 0 where
+    -- the block of this number has just begun, behind this trace
+    pub record Begun (n : ℕ) (st : high.State) (so_far : List Began) (r : Goer) : Type 0 where
       pub block : Block ℕ Note
       pub is : IsAt n block
       pub entered : Entered block st r
+      pub began : r.world.trace ≡ so_far ++ arrival at.number at.last n ∷ []
 
-    -- at code, or where it only jumps, there already
-    pub data Here (b : Block ℕ Note) (st : high.State) (r : Goer) : Type 0 where
-      Inside : (entered : Entered b st r) → Here b st r
-      Ahead : (n : ℕ) (jumps : b ≡ only_jump n) (begun : Begun n st r) → Here b st r
+    -- at code with this trace, or where it only jumps, there already; the block that one came to is not in the trace then
+    pub data Here (b : Block ℕ Note) (st : high.State) (so_far : List Began) (r : Goer) : Type 0 where
+      Inside : (entered : Entered b st r) (began : r.world.trace ≡ so_far) → Here b st so_far r
+      Ahead : (n : ℕ) (jumps : b ≡ only_jump n) (begun : Begun n st so_far r) → Here b st so_far r
 
     -- about to return a value
-    pub record Returning (v : ℕ) (w : high.World) (trace : List ℕ) (r : Goer) : Type 0 where
+    pub record Returning (v : ℕ) (w : high.World) (trace : List ℕ) (so_far : List Began) (r : Goer) : Type 0 where
       pub small : v < 2 ^ 32
       pub below : r.below ≡ act.below
       pub code : r.top.code ≡ []
@@ -94,19 +106,27 @@ module _ (q : Low) (at : Place) where
       pub value : operand_value virtual r.top.store operand ≡ Some (Word v)
       pub world : MeetsWorld at.scope w r.world
       pub marks : marks_passed q r.world.trace ≡ trace
+      pub began : r.world.trace ≡ so_far
+
+    -- further on, with a longer trace, by way of blocks of this part alone and of functions that were called
+    pub record Reached (x : Extent) (so_far : List Began) (P : List Began → Goer → Type 0) (r : Goer) : Type 0 where
+      pub now : List Began
+      pub part : Segment at.number at.last q x.from x.count x.loops so_far now
+      pub holds : P now r
 
     -- the same state, further on in a block
     pub record Onward (st : high.State) (rest : Code) (r z : Goer) : Type 0 where
       pub meets : Meets st None z
       pub code : z.top.code ≡ rest
       pub end : z.top.end ≡ r.top.end
+      pub quiet : Quiet q at.number r.world.trace z.world.trace
 
     -- the run follows an outcome, to code, to an exit, or to a return
-    abbrev pub Does : Run ℕ Note Bank → Block ℕ Note → List ℕ → Outcome → Type 0
-    Does z k exits (Goes st) = After q z (Here k st)
-    Does z k exits (Leaves d st) = After q z (Begun (slice_index_or exits d 0) st)
-    Does z k exits (Returns v w t) = After q z (Returning v w t)
-    Does z k exits Bad = Unit {0}
+    abbrev pub Does : Extent → List Began → Run ℕ Note Bank → Block ℕ Note → List ℕ → Outcome → Type 0
+    Does x so_far z k exits (Goes st) = After q z (Reached x so_far (Here k st))
+    Does x so_far z k exits (Leaves d st) = After q z (Reached x so_far (Begun (slice_index_or exits d 0) st))
+    Does x so_far z k exits (Returns v w t) = After q z (Reached x so_far (Returning v w t))
+    Does x so_far z k exits Bad = Unit {0}
 
 -- what a call passes are arrays of the claims of the function that is called, where they are there
 abbrev pub Enters : Low → Place → List ℕ → Type 0
@@ -117,13 +137,18 @@ abbrev pub AreSmall : List ℕ → Type 0
 AreSmall [] = Unit {0}
 AreSmall (v ∷ vs) = (v < 2 ^ 32) × AreSmall vs
 
+-- about to return what a call gives, and what began since the call
+pub record Answers (q : Low) (callee : Place) (act : Activation) (given : high.Given) (so_far : List Began) (r : Goer) : Type 0 where
+  pub returning : Returning q callee act given.value given.world given.trace r.world.trace r
+  pub quiet : Quiet q (suc callee.number) so_far r.world.trace
+
 -- the code of a function does what a call of the high form gives
 abbrev pub CallDoes : Low → high.Calls → ℕ → Place → Type 0
 CallDoes q call f callee =
     (vs ns : List ℕ) (w : high.World) (trace : List ℕ) (given : high.Given) → call f vs ns w trace ≡ Some given → AreSmall vs → Enters q callee ns
     → (below : List (Waiting ℕ Note Bank)) (u : World) → MeetsWorld callee.scope w u → marks_passed q u.trace ≡ trace
     → After q (begin below u callee.number callee.code (write_all virtual (Some (virtual.empty callee.code.size)) callee.code.parameters (passed_values callee.scope.objects vs ns)))
-    (Returning q callee (record { passed = ns; below = below }) given.value given.world given.trace)
+    (Answers q callee (record { passed = ns; below = below }) given u.trace)
 
 -- a call in the code of a function: which function it is, and that it may be called so
 pub record Serves (q : Low) (at : Place) (call : high.Calls) (f : ℕ) (arrays : List Base) : Type 0 where

@@ -2,7 +2,7 @@
 //!
 //! `specs/` says what it means that a run follows a statement (`Following`) and what is claimed
 //! (`Claims`). Proved: [`statements_are_followed`] and [`functions_do`], the contracts of functions
-//! without a body. How often loops start is not said here, nor how a program is put together.
+//! without a body. How a program is put together is not said here.
 //!
 //! This crate knows no machine.
 #![tactic(auto)]

@@ -10,7 +10,8 @@ use Rattle.low_ir.specs.declared.run.Value.TheVariants.{Word}
 use Rattle.low_ir.specs.Effects.{start}
 use Rattle.low_ir.specs.Runs.{Bank, Done, Going, Run, at_code, at_end, begin, come_back, first, first_in, give_back, operand_value, run, step, virtual, write_all}
 use Rattle.low_plan.specs.Programs.{lowered}
-use Rattle.low_flow.specs.Following.{After, Goer, Returning}
+use Rattle.low_events.proofs.Whole.{quiet_keeps}
+use Rattle.low_flow.specs.Following.{After, Answers, Goer}
 use Rattle.low_order.specs.Orders.{IsOrdered}
 use Rattle.low_order.proofs.Visits.{ordered}
 use Rattle.low_program.specs.Kept.{IsKept, IsWhole, Keeps}
@@ -44,16 +45,19 @@ module _ (p : Program) (whole : IsWhole p) (input : List ℕ) (bytes : All (λ c
       let u = start q.objects input in
       let z = begin [] u at.number at.code (write_all virtual (Some (virtual.empty at.code.size)) at.code.parameters []) in
       let meets = start_meets at.scope p.objects input refl whole.objects bytes in
-      let a : After q z (Returning q at (record { passed = []; below = [] }) given.value given.world given.trace) =
+      let a : After q z (Answers q at (record { passed = []; below = [] }) given []) =
       all_do p order_is whole.words depth p.main h m e [] [] (runs.start p.objects input) [] given is tt (λ j o f low inside. cc) [] u meets refl in
       let y = a.state in
-      let ret = a.holds in
+      let ret = a.holds.returning in
       let begins : first virtual q input ≡ z = ap (first_in virtual u q.main) s.function in
       let ends : step virtual q (Going y) ≡ Done given.value y.world = return_step q y ret.operand given.value ret.code ret.end ret.value ∙ ap (λ ws. come_back virtual y.world ws given.value) ret.below in
       record {
         steps = a.steps + 1;
         world = y.world;
-        done = ap (run virtual q (a.steps + 1)) begins ∙ run_add q a.steps 1 z ∙ ap (run virtual q 1) a.is ∙ ends;
+        good = record {
+          done = ap (run virtual q (a.steps + 1)) begins ∙ run_add q a.steps 1 z ∙ ap (run virtual q 1) a.is ∙ ends;
+          loops = quiet_keeps q (suc at.number) y.world.trace a.holds.quiet;
+        };
         output = let w = ret.world in w.output;
         marks = ret.marks;
       }

@@ -5,8 +5,8 @@ use Rattle.high_ir.specs.Runs.{Run, hrun}
 use Rattle.high_ir.specs.Tree.{Function, Object, Program, Statement, Set, Put, Get, Keep, Mark, Seq, If, Loop, Block, Leave, Call, Return, Statements, End, Then}
 use Rattle.low_ir.specs.Code.{Low}
 use Rattle.low_ir.specs.Effects.{World}
-use Rattle.low_ir.specs.Runs.{Done, lrun}
-use Rattle.low_ir.specs.Turns.{marks_passed}
+use Rattle.low_ir.specs.Runs.{lrun}
+use Rattle.low_ir.specs.Turns.{IsGood, marks_passed}
 use Rattle.low_plan.specs.Objects.{scale_of}
 use Rattle.low_plan.specs.Programs.{lowered}
 use Rattle.low_values.specs.Meeting.{IsWordy}
@@ -42,11 +42,11 @@ pub record IsWhole (p : Program) : Type 0 where
   pub words : All (λ (h : Function). HasWords h.body) p.functions
   pub objects : All IsSmall p.objects
 
--- the low run ends with the value, the output and the marks of the high run
+-- the low run is good and ends with the value, the output and the marks of the high run
 pub record Keeps (q : Low) (input : List ℕ) (r : Run) : Type 0 where
   pub steps : ℕ
   pub world : World
-  pub done : lrun q input steps ≡ Done r.value world
+  pub good : IsGood q (lrun q input steps) r.value world
   pub output : world.output ≡ r.output
   pub marks : marks_passed q world.trace ≡ r.trace
 

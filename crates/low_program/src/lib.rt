@@ -1,7 +1,6 @@
-//! Whole programs in the low form: good runs of the high form are runs of it.
+//! Whole programs in the low form: good runs of the high form are good runs of it.
 //!
-//! Proved: [`runs_are_kept`], the contract of a function without a body. How often loops start is not
-//! said here.
+//! Proved: [`runs_are_kept`], the contract of a function without a body.
 //!
 //! This crate knows no machine.
 #![tactic(auto)]
