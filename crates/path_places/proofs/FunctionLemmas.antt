@@ -28,7 +28,7 @@ ClaimsAscend [] = Unit {0}
 ClaimsAscend (c ∷ cs) = All (λ (d : LoopClaim). c.header < d.header) cs × ClaimsAscend cs
 
 -- an address with moves has one
-move_of : (ms : List Move) (a : ℕ) → has_moves ms a ≡ true → (m : Move) × Contains ms m × (m.at ≡ a)
+pub move_of : (ms : List Move) (a : ℕ) → has_moves ms a ≡ true → (m : Move) × Contains ms m × (m.at ≡ a)
 move_of [] a h = cc
 move_of (x ∷ ms) a h = elim (eqb_tells x.at a) [
   | inl e ↦ (x, (zero, omega arith, refl), e.1)
@@ -49,17 +49,17 @@ walked_in p t a h = span_of p a (first (in_span p a) t h)
     first true y h = refl
     first false y h = cc
 
-walked_not : (x s b : Bool) → x && not (s || b) ≡ true → b ≡ false
+pub walked_not : (x s b : Bool) → x && not (s || b) ≡ true → b ≡ false
 walked_not true true b h = cc
 walked_not true false true h = cc
 walked_not true false false h = refl
 walked_not false s b h = cc
 
-differ : (t : Bool) → t ≡ true → t ≡ false → ⊥
+pub differ : (t : Bool) → t ≡ true → t ≡ false → ⊥
 differ true e f = cc
 differ false e f = cc
 
-is_back_at : (ls : List LoopShape) (l : LoopShape) → Contains ls l → is_back ls l.back ≡ true
+pub is_back_at : (ls : List LoopShape) (l : LoopShape) → Contains ls l → is_back ls l.back ≡ true
 is_back_at [] l (k, lt, e) = absurd (omega (arith, lt))
 is_back_at (x ∷ ls) l (zero, lt, e) = by_test (x.back == l.back) (same x.back l.back (ap (λ (y : LoopShape). y.back) e))
   where
@@ -76,7 +76,7 @@ is_back_at (x ∷ ls) l (suc k, lt, e) = either (x.back == l.back) (is_back_at l
     either false h = h
 
 -- a move that arrives at one address goes on there
-alone : (to back : Option ℕ) (h : ℕ) → option_to_list to ++ option_to_list back ≡ h ∷ [] → Contains (onward_by to back) h
+pub alone : (to back : Option ℕ) (h : ℕ) → option_to_list to ++ option_to_list back ≡ h ∷ [] → Contains (onward_by to back) h
 alone None None h e = let l = ap length e in absurd (omega (arith, l))
 alone (Some t) None h e = subst (λ xs. Contains xs h) (sym e) (zero, omega arith, refl)
 alone None (Some b) h e = subst (λ xs. Contains xs h) (sym e) (zero, omega arith, refl)
@@ -205,7 +205,7 @@ claims_ascend : (o : Option ℕ) (cs : List LoopClaim) → All (λ t. t ≡ fals
 claims_ascend o [] h = tt
 claims_ascend o (c ∷ cs) h = let t = All-tail (λ t. t ≡ false) _ (loop_flaws (Some c.header) cs) h in (loops_above c.header cs t, claims_ascend (Some c.header) cs t)
 
-sound_ascend : (c : Claims) → AreSound c → ClaimsAscend c.loops
+pub sound_ascend : (c : Claims) → AreSound c → ClaimsAscend c.loops
 sound_ascend c h =
     let a = right_part (exit_flaws None c.exits) (never_flaws None c.nevers ++ (region_flaws None c.regions ++ (loop_flaws None c.loops ++ fact_flaws c.facts))) h in
     let b = right_part (never_flaws None c.nevers) (region_flaws None c.regions ++ (loop_flaws None c.loops ++ fact_flaws c.facts)) a in

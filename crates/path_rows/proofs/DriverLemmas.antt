@@ -48,11 +48,11 @@ step_among P price all ws walked (x ∷ ms) m h (suc k, lt, e) w = step_among P 
     rest false k = k
 
 -- a place of another function, or the one behind all
-abbrev IsElsewhere : System → Span → ℕ → Type 0
+abbrev pub IsElsewhere : System → Span → ℕ → Type 0
 IsElsewhere s p a = ((x : ℕ) × (has_moves s.moves x ≡ true) × (IsInSpan p x → ⊥) × (a ≡ place_of s.moves x)) ⊎ (a ≡ length s.moves)
 
 -- a function's own addresses are at other places
-apart_places : (s : System) (p : Span) (a y : ℕ) → IsElsewhere s p a → has_moves s.moves y ≡ true → IsInSpan p y → place_of s.moves y ≢ a
+pub apart_places : (s : System) (p : Span) (a y : ℕ) → IsElsewhere s p a → has_moves s.moves y ≡ true → IsInSpan p y → place_of s.moves y ≢ a
 apart_places s p a y out h i e = elim out [
   | inl o ↦
       let q : place_of s.moves y ≡ place_of s.moves o.0 = e ∙ o.3 in
@@ -63,14 +63,14 @@ apart_places s p a y out h i e = elim out [
 ]
 
 module _ (s : System) (ls : List LoopShape) (ps : List Span) (whole : IsReachedWhole s ls ps) (q : Prices) where
-  fits_function : (ws : List ℤ) (p : Span) → Contains ps p → AreSteps (length s.moves) (function_steps s ls q.of ws p) × AreLoops (length s.moves) (function_steps s ls q.of ws p) (function_loops s ls q ws p)
+  pub fits_function : (ws : List ℤ) (p : Span) → Contains ps p → AreSteps (length s.moves) (function_steps s ls q.of ws p) × AreLoops (length s.moves) (function_steps s ls q.of ws p) (function_loops s ls q ws p)
   fits_function ws p ip = functions_are s ls ps whole q.of q.low ws p ip
 
-  no_step : (ws : List ℤ) (p : Span) (a : ℕ) → IsElsewhere s p a → Each (λ k. k.at ≢ a) (function_steps s ls q.of ws p)
+  pub no_step : (ws : List ℤ) (p : Span) (a : ℕ) → IsElsewhere s p a → Each (λ k. k.at ≢ a) (function_steps s ls q.of ws p)
   no_step ws p a out = steps_each (λ k. k.at ≢ a) q.of s.moves ws (is_walked s.claims ls p) s.moves
       (λ m im w. apart_places s p a m.at out (has_of s.moves m im) (walked_in p (not (is_stop s.claims m.at || is_back ls m.at)) m.at w))
 
-  no_loop : (p : Span) → Contains ps p → (ms : List Step) (a : ℕ) → IsElsewhere s p a → (cs : List LoopClaim) (ks : List LoopShape) → ((l : LoopShape) → Contains ks l → Contains ls l) → Avoids a (loops_of q.of q.low s.moves s.claims p ms cs ks)
+  pub no_loop : (p : Span) → Contains ps p → (ms : List Step) (a : ℕ) → IsElsewhere s p a → (cs : List LoopClaim) (ks : List LoopShape) → ((l : LoopShape) → Contains ks l → Contains ls l) → Avoids a (loops_of q.of q.low s.moves s.claims p ms cs ks)
   no_loop p ip ms a out [] ks i = tt
   no_loop p ip ms a out (c ∷ cs) [] i = tt
   no_loop p ip ms a out (c ∷ cs) (l ∷ ks) i = by_test (in_span p l.header) refl (has_moves s.moves l.header) refl (no_loop p ip ms a out cs ks (λ k h. i k (suc h.0, omega (arith, h.1), h.2)))
@@ -92,11 +92,11 @@ module _ (s : System) (ls : List LoopShape) (ps : List Span) (whole : IsReachedW
       by_test false e u f r = r
 
   -- a function leaves other places as they are
-  function_leaves : (v : Level) (p : Span) (a : ℕ) → Contains ps p → IsElsewhere s p a → (worth_at (function_level s ls q v p).worths a ≡ worth_at v.worths a) × (worth_at (function_level s ls q v p).weights a ≡ worth_at v.weights a)
+  pub function_leaves : (v : Level) (p : Span) (a : ℕ) → Contains ps p → IsElsewhere s p a → (worth_at (function_level s ls q v p).worths a ≡ worth_at v.worths a) × (worth_at (function_level s ls q v p).weights a ≡ worth_at v.weights a)
   function_leaves v p a ip out = settled_untouched q.low (function_steps s ls q.of v.worths p) a (no_step v.worths p a out) v (function_loops s ls q v.worths p)
       (no_loop p ip (function_steps s ls q.of v.worths p) a out s.claims.loops ls (λ l h. h))
 
-  functions_leave : (v : Level) (rs : List Span) (a : ℕ) → ((r : Span) → Contains rs r → Contains ps r) → All (λ r. IsElsewhere s r a) rs → (worth_at (functions_level s ls q v rs).worths a ≡ worth_at v.worths a) × (worth_at (functions_level s ls q v rs).weights a ≡ worth_at v.weights a)
+  pub functions_leave : (v : Level) (rs : List Span) (a : ℕ) → ((r : Span) → Contains rs r → Contains ps r) → All (λ r. IsElsewhere s r a) rs → (worth_at (functions_level s ls q v rs).worths a ≡ worth_at v.worths a) × (worth_at (functions_level s ls q v rs).weights a ≡ worth_at v.weights a)
   functions_leave v [] a i out = (refl, refl)
   functions_leave v (r ∷ rs) a i out =
       let f = function_leaves v r a (i r (zero, omega arith, refl)) (All-head (λ r. IsElsewhere s r a) r rs out) in
@@ -106,10 +106,10 @@ module _ (s : System) (ls : List LoopShape) (ps : List Span) (whole : IsReachedW
   -- ---- moves stay paid
 
   -- no header of the functions has a weight yet
-  abbrev IsFresh : Level → List Span → Type 0
+  abbrev pub IsFresh : Level → List Span → Type 0
   IsFresh v rs = (x : ℕ) → has_moves s.moves x ≡ true → IsInOne rs x → worth_at v.weights (place_of s.moves x) ≡ pos 0
 
-  none_yet : (v : Level) (p : Span) (ms : List Step) → ((x : ℕ) → has_moves s.moves x ≡ true → IsInSpan p x → worth_at v.weights (place_of s.moves x) ≡ pos 0) → (cs : List LoopClaim) (ks : List LoopShape) → HaveNone v.weights (loops_of q.of q.low s.moves s.claims p ms cs ks)
+  pub none_yet : (v : Level) (p : Span) (ms : List Step) → ((x : ℕ) → has_moves s.moves x ≡ true → IsInSpan p x → worth_at v.weights (place_of s.moves x) ≡ pos 0) → (cs : List LoopClaim) (ks : List LoopShape) → HaveNone v.weights (loops_of q.of q.low s.moves s.claims p ms cs ks)
   none_yet v p ms fresh [] ks = tt
   none_yet v p ms fresh (c ∷ cs) [] = tt
   none_yet v p ms fresh (c ∷ cs) (l ∷ ks) = by_test (in_span p l.header) refl (has_moves s.moves l.header) refl (none_yet v p ms fresh cs ks)
@@ -120,27 +120,27 @@ module _ (s : System) (ls : List LoopShape) (ps : List Span) (whole : IsReachedW
       by_test true e false f r = r
       by_test false e u f r = r
 
-  function_holds : (v : Level) (p : Span) → Contains ps p → length s.moves < length v.worths → length s.moves < length v.weights → ((x : ℕ) → has_moves s.moves x ≡ true → IsInSpan p x → worth_at v.weights (place_of s.moves x) ≡ pos 0) →
+  pub function_holds : (v : Level) (p : Span) → Contains ps p → length s.moves < length v.worths → length s.moves < length v.weights → ((x : ℕ) → has_moves s.moves x ≡ true → IsInSpan p x → worth_at v.weights (place_of s.moves x) ≡ pos 0) →
       Held q.low (function_steps s ls q.of v.worths p) (ground q.low (function_steps s ls q.of v.worths p) v (function_loops s ls q v.worths p)) (function_level s ls q v p) (function_loops s ls q v.worths p) (function_pairs s ls q v p)
   function_holds v p ip long_worths long_weights fresh =
       let f = fits_function v.worths p ip in
       settled_holds q.low (length s.moves) (function_steps s ls q.of v.worths p) v (function_loops s ls q v.worths p) long_worths long_weights f.0 f.1 (none_yet v p (function_steps s ls q.of v.worths p) fresh s.claims.loops ls)
 
   -- addresses of one function are elsewhere for those apart from it
-  elsewhere_all : (p : Span) (rs : List Span) (x : ℕ) → has_moves s.moves x ≡ true → IsInSpan p x → All (AreApart p) rs → All (λ r. IsElsewhere s r (place_of s.moves x)) rs
+  pub elsewhere_all : (p : Span) (rs : List Span) (x : ℕ) → has_moves s.moves x ≡ true → IsInSpan p x → All (AreApart p) rs → All (λ r. IsElsewhere s r (place_of s.moves x)) rs
   elsewhere_all p [] x h i apart = All-nil (λ r. IsElsewhere s r (place_of s.moves x))
   elsewhere_all p (r ∷ rs) x h i apart = All-cons (λ r. IsElsewhere s r (place_of s.moves x)) r rs (inl (x, h, All-head (AreApart p) r rs apart x i, refl)) (elsewhere_all p rs x h i (All-tail (AreApart p) r rs apart))
 
-  elsewhere_end : (rs : List Span) → All (λ r. IsElsewhere s r (length s.moves)) rs
+  pub elsewhere_end : (rs : List Span) → All (λ r. IsElsewhere s r (length s.moves)) rs
   elsewhere_end [] = All-nil (λ r. IsElsewhere s r (length s.moves))
   elsewhere_end (r ∷ rs) = All-cons (λ r. IsElsewhere s r (length s.moves)) r rs (inr refl) (elsewhere_end rs)
 
   -- spans that are numbered from k on
-  abbrev Numbered : ℕ → List Span → Type 0
+  abbrev pub Numbered : ℕ → List Span → Type 0
   Numbered k [] = Unit {0}
   Numbered k (r ∷ rs) = ((x : ℕ) → IsInSpan r x → rank ps x ≡ k) × Numbered (k + 1) rs
 
-  numbered : (k : ℕ) (rs : List Span) → AreAllApart rs → ((x : ℕ) → IsInOne rs x → rank ps x ≡ k + rank rs x) → Numbered k rs
+  pub numbered : (k : ℕ) (rs : List Span) → AreAllApart rs → ((x : ℕ) → IsInOne rs x → rank ps x ≡ k + rank rs x) → Numbered k rs
   numbered k [] apart h = tt
   numbered k (r ∷ rs) apart h = (
     λ x i. let e = h x (inl i) in let z = rank_in r rs x i in omega (arith, e, z),
@@ -148,20 +148,20 @@ module _ (s : System) (ls : List LoopShape) (ps : List Span) (whole : IsReachedW
   )
 
   -- an address of a lower number is elsewhere for all of them
-  elsewhere_before : (k : ℕ) (rs : List Span) (x : ℕ) → has_moves s.moves x ≡ true → rank ps x < k → Numbered k rs → All (λ r. IsElsewhere s r (place_of s.moves x)) rs
+  pub elsewhere_before : (k : ℕ) (rs : List Span) (x : ℕ) → has_moves s.moves x ≡ true → rank ps x < k → Numbered k rs → All (λ r. IsElsewhere s r (place_of s.moves x)) rs
   elsewhere_before k [] x h lt n = All-nil (λ r. IsElsewhere s r (place_of s.moves x))
   elsewhere_before k (r ∷ rs) x h lt n = All-cons (λ r. IsElsewhere s r (place_of s.moves x)) r rs
       (inl (x, h, (λ i. let e = n.0 x i in absurd (omega (arith, e, lt))), refl)) (elsewhere_before (k + 1) rs x h (omega (arith, lt)) n.1)
 
-  closed : (m : Move) (d : ℕ) → Contains s.moves m → Contains (destinations m) d → has_moves s.moves d ≡ true
+  pub closed : (m : Move) (d : ℕ) → Contains s.moves m → Contains (destinations m) d → has_moves s.moves d ≡ true
   closed m d im id = All-contains (λ a. has_moves s.moves a ≡ true) (destinations_of s.moves) d whole.system.closed (in_destinations s.moves m d im id)
 
-  same_call : (ws us : List ℤ) (to back : Option ℕ) → ((t b : ℕ) → to ≡ Some t → back ≡ Some b → worth_at ws (place_of s.moves t) ≡ worth_at us (place_of s.moves t)) → call_worth s.moves ws to back ≡ call_worth s.moves us to back
+  pub same_call : (ws us : List ℤ) (to back : Option ℕ) → ((t b : ℕ) → to ≡ Some t → back ≡ Some b → worth_at ws (place_of s.moves t) ≡ worth_at us (place_of s.moves t)) → call_worth s.moves ws to back ≡ call_worth s.moves us to back
   same_call ws us None back h = refl
   same_call ws us (Some t) None h = refl
   same_call ws us (Some t) (Some b) h = h t b refl refl
 
-  walked_here : (p : Span) (a : ℕ) → IsInSpan p a → (is_stop s.claims a || is_back ls a) ≡ false → is_walked s.claims ls p a ≡ true
+  pub walked_here : (p : Span) (a : ℕ) → IsInSpan p a → (is_stop s.claims a || is_back ls a) ≡ false → is_walked s.claims ls p a ≡ true
   walked_here p a i free = both (in_span p a) (is_stop s.claims a || is_back ls a) (is_in_span p a i) free
     where
       both : (x y : Bool) → x ≡ true → y ≡ false → x && not y ≡ true
@@ -274,7 +274,7 @@ module _ (s : System) (ls : List LoopShape) (ps : List Span) (whole : IsReachedW
       held : Held q.low (function_steps s ls q.of v.worths r) (ground q.low (function_steps s ls q.of v.worths r) v (function_loops s ls q v.worths r)) (function_level s ls q v r) (function_loops s ls q v.worths r) (function_pairs s ls q v r)
       held = function_holds v r ir long_worths long_weights (λ x h o. fresh x h (inl o))
 
-zero_at : (k a : ℕ) → worth_at (replicate k (pos 0)) a ≡ pos 0
+pub zero_at : (k a : ℕ) → worth_at (replicate k (pos 0)) a ≡ pos 0
 zero_at zero zero = refl
 zero_at zero (suc a) = refl
 zero_at (suc k) zero = refl
