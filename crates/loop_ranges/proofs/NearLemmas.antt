@@ -63,11 +63,11 @@ further_near low c u (Some v) (Some t) (Some l) h n pu paid k =
     (p, near_larger low low (c +ℤ v) l (near_low low l p) (near_up low (c +ℤ v) (u +ℤ t) l paid (near_sum low c u v t h n k.1)))
 
 -- what a turn gains
-pub gain_near : (low price c : ℤ) (o p : Option ℤ) (g : ℤ) → low ≤ℤ pos 0 → IsUpTo price c → pos 0 ≤ℤ g → IsAtMost p c g → IsNearWay low o p → IsNear low (gain_by low price o) g
+pub gain_near : (low price c : ℤ) (o p : Option ℤ) (g : ℤ) → low ≤ℤ pos 0 → IsNear low price c → pos 0 ≤ℤ g → IsAtMost p c g → IsNearWay low o p → IsNear low (gain_by low price o) g
 gain_near low price c None p g h up pg turn k = near_low low g pg
 gain_near low price c (Some v) None g h up pg turn k = absurd k
 gain_near low price c (Some v) (Some t) g h up pg turn k =
-    near_larger low low (v +ℤ price) g (near_low low g pg) (near_up low (v +ℤ price) (t +ℤ c) g turn (near_sum low v t price c h k.1 (inl up)))
+    near_larger low low (v +ℤ price) g (near_low low g pg) (near_up low (v +ℤ price) (t +ℤ c) g turn (near_sum low v t price c h k.1 up))
 
 -- weights
 

@@ -1,5 +1,5 @@
 -- Walks keep worths near the loose ones: to the ends, to a jump back, and the weights of headers.
-use Rattle.std.proofs.Common.{◌≡◌, ◌≢◌, ℕ, zero, suc, ◌+◌, ◌-◌, ◌*◌, ◌≤◌, ◌<◌, ℤ, pos, ◌+ℤ◌, ◌*ℤ◌, ◌≤ℤ◌, ◌<ℤ◌, arith, refl, sym, ◌∙◌, subst, List, [], ◌∷◌, length, get_or, Option, Some, None, inl, inr, ◌⊎◌, get_or-set_other}
+use Rattle.std.proofs.Common.{◌≡◌, ◌≢◌, ℕ, zero, suc, ◌+◌, ◌-◌, ◌*◌, ◌≤◌, ◌<◌, ℤ, pos, ◌+ℤ◌, ◌*ℤ◌, ◌≤ℤ◌, ◌<ℤ◌, arith, refl, sym, ap, ◌∙◌, subst, List, [], ◌∷◌, length, get_or, Option, Some, None, inl, inr, ◌⊎◌, get_or-set_other}
 use Rattle.std.specs.Prelude.{slice_set}
 use lib.IntN.{negsuc}
 use Rattle.std.proofs.lemmas.Int.{ints}
@@ -13,13 +13,13 @@ use Rattle.loop_walks.specs.Walks.{worth_at, cost, relaxed, between, range_steps
 use Rattle.loop_walks.specs.Turns.{further, way_at, turned, with_back, turn_start, turn_ways, gain}
 use Rattle.loop_walks.specs.Multipliers.{first_weight}
 use Rattle.loop_walks.specs.Levels.{weighed, gains}
-use Rattle.loop_walks.specs.Rows.{IsStep, Each, IsLoopOf, IsBack, AreLoops}
+use Rattle.loop_walks.specs.Rows.{IsStep, Each, IsLoopOf, IsBack, HeadersAbove, AreLoops, HaveNone}
 use Rattle.loop_walks.proofs.EachLemmas.{each_map, each_both, each_between, each_beside}
 use Rattle.loop_walks.proofs.WalkLemmas.{taken_at, taken_other, within}
 use Rattle.loop_walks.proofs.TurnLemmas.{turn_at, turn_other, turned-long, turn_start-long}
 use Rattle.loop_ranges.specs.Near.{IsNear, IsNearWay, PaysFurther, IsThere}
 use Rattle.loop_ranges.specs.Reach.{IsNearWeight}
-use Rattle.loop_ranges.specs.Loose.{Loose, PaysLoosely, Turn, IsLooseTurn, AreLooseTurns}
+use Rattle.loop_ranges.specs.Loose.{Loose, PaysLoosely, Turn, turn_weight, TurnsLoosely, IsLooseTurn, AreLooseTurns}
 use Rattle.loop_ranges.proofs.NearLemmas.{near_up, near_sum, near_larger, way_near, further_near, gain_near, weight_near}
 
 -- a step of a loop's range that is paid loosely, also on a way
@@ -27,9 +27,8 @@ pub record IsTurn (low : ℤ) (x : Loose) (l : Loop) (t : Turn) (weights : List 
   pub from : l.header ≤ m.at
   pub within : (m.at - l.header) < (l.end - l.header)
   pub on : m.at < m.on
-  pub pays : PaysLoosely low x m
-  pub weight : IsNearWeight low x weights m
-  pub way : m.on < l.end → PaysFurther (x.price m +ℤ x.weight m.at) (t.way m.on) (t.way m.at)
+  pub turns : TurnsLoosely low x l t m
+  pub weight : IsNear low (worth_at weights m.at) (turn_weight x l m.at)
 
 -- a number of turns, once at least
 once : (n : ℕ) (z : ℤ) → 0 < n → pos 0 ≤ℤ z → z ≤ℤ (pos n *ℤ z)
@@ -62,8 +61,8 @@ none_at n i = elim (leb_tells n i) [
 ]
 
 module _ (low : ℤ) (x : Loose) (h : low ≤ℤ pos 0) where
-  cost_near : (weights : List ℤ) (m : Step) → PaysLoosely low x m → IsNearWeight low x weights m → IsNear low (cost weights m) (x.price m +ℤ x.weight m.at)
-  cost_near weights m p w = near_sum low m.price (x.price m) (worth_at weights m.at) (x.weight m.at) h p.price w
+  cost_near : (weights : List ℤ) (m : Step) (u w : ℤ) → IsNear low m.price u → IsNear low (worth_at weights m.at) w → IsNear low (cost weights m) (u +ℤ w)
+  cost_near weights m u w p k = near_sum low m.price u (worth_at weights m.at) w h p k
 
   -- ---- to the ends
 
@@ -78,8 +77,8 @@ module _ (low : ℤ) (x : Loose) (h : low ≤ℤ pos 0) where
       by_place r = elim (eqb_tells a m.at) [
         | inl k ↦
             let e = taken_at weights (relaxed weights ws ms) m a (within weights ws n m ms i.0 long) k.1 in
-            let s = near_sum low (cost weights m) (x.price m +ℤ x.weight m.at) (worth_at (relaxed weights ws ms) m.on) (x.worth m.on) h (cost_near weights m p.0 w.0) (r m.on o.0) in
-            let u = near_up low (cost weights m +ℤ worth_at (relaxed weights ws ms) m.on) ((x.price m +ℤ x.weight m.at) +ℤ x.worth m.on) (x.worth m.at) p.0.paid s in
+            let s = near_sum low (cost weights m) (p.0.price +ℤ x.weight m.at) (worth_at (relaxed weights ws ms) m.on) (x.worth m.on) h (cost_near weights m p.0.price (x.weight m.at) p.0.near w.0) (r m.on o.0) in
+            let u = near_up low (cost weights m +ℤ worth_at (relaxed weights ws ms) m.on) ((p.0.price +ℤ x.weight m.at) +ℤ x.worth m.on) (x.worth m.at) p.0.paid s in
             let u' : IsNear low (cost weights m +ℤ worth_at (relaxed weights ws ms) m.on) (x.worth a) = subst (λ b. IsNear low (cost weights m +ℤ worth_at (relaxed weights ws ms) m.on) (x.worth b)) (sym k.1) u in
             rw e (near_larger low (worth_at (relaxed weights ws ms) a) (cost weights m +ℤ worth_at (relaxed weights ws ms) m.on) (x.worth a) (r a at) u')
         | inr k ↦ let e = taken_other weights (relaxed weights ws ms) m a k.1 in rw e (r a at)
@@ -96,10 +95,10 @@ module _ (low : ℤ) (x : Loose) (h : low ≤ℤ pos 0) where
           let e : way_at ts (m.on - l.header) ≡ None = get_or-eq_default ts None (omega (arith, long)) in
           subst (λ (o : Option ℤ). IsNearWay low (further low (cost weights m) o) (t.way m.at)) (sym e) tt
       | inr inside ↦
-          let k0 = k.from in let k1 = k.on in let c = k.pays.positive in
+          let k0 = k.from in let k1 = k.on in
           let e : l.header + (m.on - l.header) ≡ m.on = omega (arith, k0, k1) in
-          further_near low (cost weights m) (x.price m +ℤ x.weight m.at) (way_at ts (m.on - l.header)) (t.way m.on) (t.way m.at) h
-          (cost_near weights m k.pays k.weight) k.pays.positive (k.way inside.1)
+          further_near low (cost weights m) (k.turns.price +ℤ turn_weight x l m.at) (way_at ts (m.on - l.header)) (t.way m.on) (t.way m.at) h
+          (cost_near weights m k.turns.price (turn_weight x l m.at) k.turns.near k.weight) k.turns.positive (k.turns.further inside.1)
           (subst (λ b. IsNearWay low (way_at ts (m.on - l.header)) (t.way b)) e (near (m.on - l.header)))
     ]
 
@@ -148,23 +147,30 @@ module _ (low : ℤ) (x : Loose) (h : low ≤ℤ pos 0) where
 -- ---- the weights of headers
 
 module _ (low most : ℤ) (x : Loose) (h : low ≤ℤ pos 0) (small : (most +ℤ low) <ℤ pos 0) where
+  -- without a weight of the own header
+  turn_weight_near : (l : Loop) (weights : List ℤ) (a : ℕ) → worth_at weights l.header ≡ pos 0 → IsNear low (worth_at weights a) (x.weight a) → IsNear low (worth_at weights a) (turn_weight x l a)
+  turn_weight_near l weights a none near = elim (eqb_tells a l.header) [
+    | inl k ↦
+        let e : worth_at weights a ≡ pos 0 = ap (λ b. worth_at weights b) k.1 ∙ none in
+        let q = k.0 in rw (q, e) (inl (omega (arith, ints), omega (arith, ints)))
+    | inr k ↦ let q = k.0 in rw q near
+  ]
+
   -- the steps of a range are turns
-  range_turns : (n : ℕ) (ms : List Step) (l : Loop) (t : Turn) (weights : List ℤ) → IsLoopOf n ms l → Each (IsStep n) ms → Each (PaysLoosely low x) ms → Each (IsNearWeight low x weights) ms → IsLooseTurn low most x ms l t → Each (IsTurn low x l t weights) (range_steps l ms)
-  range_turns n ms l t weights fits steps pays near loose =
+  range_turns : (n : ℕ) (ms : List Step) (l : Loop) (t : Turn) (weights : List ℤ) → IsLoopOf n ms l → Each (IsStep n) ms → worth_at weights l.header ≡ pos 0 → Each (IsNearWeight low x weights) ms → IsLooseTurn low most x ms l t → Each (IsTurn low x l t weights) (range_steps l ms)
+  range_turns n ms l t weights fits steps none near loose =
       let inside = range_in n ms l fits in
-      each_both (λ m. ((l.header ≤ m.at) × ((m.at - l.header) < (l.end - l.header))) × IsStep n m) (λ m. (PaysLoosely low x m × IsNearWeight low x weights m) × (m.on < l.end → PaysFurther (x.price m +ℤ x.weight m.at) (t.way m.on) (t.way m.at))) (IsTurn low x l t weights) (range_steps l ms)
-      (λ m a b. record { from = a.0.0; within = a.0.1; on = a.1.0; pays = b.0.0; weight = b.0.1; way = b.1 })
+      each_both (λ m. ((l.header ≤ m.at) × ((m.at - l.header) < (l.end - l.header))) × IsStep n m) (λ m. IsNearWeight low x weights m × TurnsLoosely low x l t m) (IsTurn low x l t weights) (range_steps l ms)
+      (λ m a b. record { from = a.0.0; within = a.0.1; on = a.1.0; turns = b.1; weight = turn_weight_near l weights m.at none b.0 })
       (each_both (λ m. (l.header ≤ m.at) × ((m.at - l.header) < (l.end - l.header))) (IsStep n) (λ m. ((l.header ≤ m.at) × ((m.at - l.header) < (l.end - l.header))) × IsStep n m) (range_steps l ms) (λ m a b. (a, b)) inside (each_between (IsStep n) l.head l.rest ms steps))
-      (each_both (λ m. PaysLoosely low x m × IsNearWeight low x weights m) (λ m. m.on < l.end → PaysFurther (x.price m +ℤ x.weight m.at) (t.way m.on) (t.way m.at)) (λ m. (PaysLoosely low x m × IsNearWeight low x weights m) × (m.on < l.end → PaysFurther (x.price m +ℤ x.weight m.at) (t.way m.on) (t.way m.at))) (range_steps l ms) (λ m a b. (a, b))
-      (each_between (λ m. PaysLoosely low x m × IsNearWeight low x weights m) l.head l.rest ms (each_both (PaysLoosely low x) (IsNearWeight low x weights) (λ m. PaysLoosely low x m × IsNearWeight low x weights m) ms (λ m a b. (a, b)) pays near))
-      loose.steps)
+      (each_both (IsNearWeight low x weights) (TurnsLoosely low x l t) (λ m. IsNearWeight low x weights m × TurnsLoosely low x l t m) (range_steps l ms) (λ m a b. (a, b)) (each_between (IsNearWeight low x weights) l.head l.rest ms near) loose.steps)
 
   back_within : (n : ℕ) (ms : List Step) (l : Loop) → IsLoopOf n ms l → (b : ℕ) → l.back ≡ Some b → (l.header ≤ b) × (b < l.end)
   back_within n ms l fits b is = let i : IsBack l ms (Some b) = subst (λ o. IsBack l ms o) is fits.back in (i.0, i.1)
 
   -- the ways of a turn are near the loose ones
-  pub ways_near : (n : ℕ) (ms : List Step) (l : Loop) (t : Turn) (weights : List ℤ) → IsLoopOf n ms l → Each (IsStep n) ms → Each (PaysLoosely low x) ms → Each (IsNearWeight low x weights) ms → IsLooseTurn low most x ms l t → AreNearWays low l t (turn_ways low weights l ms)
-  ways_near n ms l t weights fits steps pays near loose = ways_are_near low x h l t weights most ms (back_within n ms l fits) loose (range_turns n ms l t weights fits steps pays near loose)
+  pub ways_near : (n : ℕ) (ms : List Step) (l : Loop) (t : Turn) (weights : List ℤ) → IsLoopOf n ms l → Each (IsStep n) ms → worth_at weights l.header ≡ pos 0 → Each (IsNearWeight low x weights) ms → IsLooseTurn low most x ms l t → AreNearWays low l t (turn_ways low weights l ms)
+  ways_near n ms l t weights fits steps none near loose = ways_are_near low x h l t weights most ms (back_within n ms l fits) loose (range_turns n ms l t weights fits steps none near loose)
 
   -- a header's new weight is near, where a step begins there
   set_near : (ms : List Step) (weights : List ℤ) (l : Loop) (t : Turn) → l.header < length weights → IsLooseTurn low most x ms l t → IsNear low (gain low weights l ms) t.gain → Each (IsNearWeight low x weights) ms → Each (IsNearWeight low x (slice_set weights l.header (first_weight low l (gain low weights l ms)))) ms
@@ -198,12 +204,21 @@ module _ (low most : ℤ) (x : Loose) (h : low ≤ℤ pos 0) (small : (most +ℤ
   weighed-long ms weights [] = refl
   weighed-long ms weights (l ∷ ls) = length-set (weighed low ms weights ls) l.header (first_weight low l (gain low (weighed low ms weights ls) l ms)) ∙ weighed-long ms weights ls
 
-  pub weighed_near : (n : ℕ) (ms : List Step) (weights : List ℤ) (ls : List Loop) (ts : List Turn) → n ≤ length weights → Each (IsStep n) ms → AreLoops n ms ls → Each (PaysLoosely low x) ms → AreLooseTurns low most x ms ls ts → Each (IsNearWeight low x weights) ms → Each (IsNearWeight low x (weighed low ms weights ls)) ms
-  weighed_near n ms weights [] ts long steps loops pays loose near = near
-  weighed_near n ms weights (l ∷ ls) [] long steps loops pays loose near = absurd loose
-  weighed_near n ms weights (l ∷ ls) (t ∷ ts) long steps loops pays loose near =
-      let r = weighed_near n ms weights ls ts long steps loops.2 pays loose.1 near in
-      let g = turn_near low x h l t (weighed low ms weights ls) most ms (back_within n ms l loops.0) loose.0 (range_turns n ms l t (weighed low ms weights ls) loops.0 steps pays r loose.0) in
+  -- a place before all headers has no weight of theirs
+  pub weighed_before : (ms : List Step) (weights : List ℤ) (ls : List Loop) (a : ℕ) → HeadersAbove a ls → worth_at (weighed low ms weights ls) a ≡ worth_at weights a
+  weighed_before ms weights [] a above = refl
+  weighed_before ms weights (l ∷ ls) a above =
+      let lt = above.0 in
+      get_or-set_other (weighed low ms weights ls) l.header a (first_weight low l (gain low (weighed low ms weights ls) l ms)) (pos 0) (λ e. absurd (omega (arith, e, lt)))
+      ∙ weighed_before ms weights ls a above.1
+
+  pub weighed_near : (n : ℕ) (ms : List Step) (weights : List ℤ) (ls : List Loop) (ts : List Turn) → n ≤ length weights → Each (IsStep n) ms → AreLoops n ms ls → HaveNone weights ls → AreLooseTurns low most x ms ls ts → Each (IsNearWeight low x weights) ms → Each (IsNearWeight low x (weighed low ms weights ls)) ms
+  weighed_near n ms weights [] ts long steps loops none loose near = near
+  weighed_near n ms weights (l ∷ ls) [] long steps loops none loose near = absurd loose
+  weighed_near n ms weights (l ∷ ls) (t ∷ ts) long steps loops none loose near =
+      let r = weighed_near n ms weights ls ts long steps loops.2 none.1 loose.1 near in
+      let z = weighed_before ms weights ls l.header loops.1 ∙ none.0 in
+      let g = turn_near low x h l t (weighed low ms weights ls) most ms (back_within n ms l loops.0) loose.0 (range_turns n ms l t (weighed low ms weights ls) loops.0 steps z r loose.0) in
       let a = loops.0.range.0 in let b = loops.0.range.1 in let k = weighed-long ms weights ls in
       set_near ms (weighed low ms weights ls) l t (omega (arith, a, b, k, long)) loose.0 g r
 
@@ -213,11 +228,12 @@ module _ (low most : ℤ) (x : Loose) (h : low ≤ℤ pos 0) (small : (most +ℤ
   AreNearGains (g ∷ gs) [] = ⊥
   AreNearGains (g ∷ gs) (t ∷ ts) = IsNear low g t.gain × AreNearGains gs ts
 
-  pub gains_near : (n : ℕ) (ms : List Step) (weights : List ℤ) (ls : List Loop) (ts : List Turn) → n ≤ length weights → Each (IsStep n) ms → AreLoops n ms ls → Each (PaysLoosely low x) ms → AreLooseTurns low most x ms ls ts → Each (IsNearWeight low x weights) ms → AreNearGains (gains low ms weights ls) ts
-  gains_near n ms weights [] ts long steps loops pays loose near = tt
-  gains_near n ms weights (l ∷ ls) [] long steps loops pays loose near = absurd loose
-  gains_near n ms weights (l ∷ ls) (t ∷ ts) long steps loops pays loose near =
-      let r = weighed_near n ms weights ls ts long steps loops.2 pays loose.1 near in (
-        turn_near low x h l t (weighed low ms weights ls) most ms (back_within n ms l loops.0) loose.0 (range_turns n ms l t (weighed low ms weights ls) loops.0 steps pays r loose.0),
-        gains_near n ms weights ls ts long steps loops.2 pays loose.1 near,
+  pub gains_near : (n : ℕ) (ms : List Step) (weights : List ℤ) (ls : List Loop) (ts : List Turn) → n ≤ length weights → Each (IsStep n) ms → AreLoops n ms ls → HaveNone weights ls → AreLooseTurns low most x ms ls ts → Each (IsNearWeight low x weights) ms → AreNearGains (gains low ms weights ls) ts
+  gains_near n ms weights [] ts long steps loops none loose near = tt
+  gains_near n ms weights (l ∷ ls) [] long steps loops none loose near = absurd loose
+  gains_near n ms weights (l ∷ ls) (t ∷ ts) long steps loops none loose near =
+      let r = weighed_near n ms weights ls ts long steps loops.2 none.1 loose.1 near in
+      let z = weighed_before ms weights ls l.header loops.1 ∙ none.0 in (
+        turn_near low x h l t (weighed low ms weights ls) most ms (back_within n ms l loops.0) loose.0 (range_turns n ms l t (weighed low ms weights ls) loops.0 steps z r loose.0),
+        gains_near n ms weights ls ts long steps loops.2 none.1 loose.1 near,
       )
