@@ -1,0 +1,4 @@
+pub mod LooseLemmas
+pub mod FarLemmas
+pub mod BesideLemmas
+pub mod FlowLemmas

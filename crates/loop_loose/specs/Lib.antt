@@ -1,0 +1,2 @@
+pub mod LooseWalk
+pub mod Beside
