@@ -9,7 +9,7 @@ use Rattle.code_forms.specs.Regions.{Rows, bases_of, tables_from, functions_size
 use Rattle.code_forms.specs.Shorter.{functions_longest, functions_shorter}
 use Rattle.code_forms.specs.Sound.{FunctionsSound}
 use Rattle.code_forms.proofs.RoomLemmas.{bases_room, tables_low}
-use Rattle.code_forms.proofs.SizeLemmas.{functions-longest, functions-shorter, functions_most, functions_sound, longest_sound}
+use Rattle.code_forms.proofs.SizeLemmas.{functions-longest, functions-shorter, functions_most, functions_sound}
 use Rattle.code_forms.proofs.FitLemmas.{longest_fit}
 use Rattle.code_forms.proofs.LikeLemmas.{formed_like}
 
@@ -64,6 +64,19 @@ longest_fits r fs s h =
 
 pub formed_fits : (r : Rows) (fs : List Blocks) → FunctionsSound fs → HasRoom r fs → fit r (formed r fs) ≡ true
 formed_fits r fs s h = improved_fits r (improved r (functions_longest fs)) (improved_fits r (functions_longest fs) (longest_fits r fs s h))
+
+either_longest : (fs gs : List Blocks) (b : Bool) → functions_longest gs ≡ functions_longest fs → functions_longest (if b then gs else fs) ≡ functions_longest fs
+either_longest fs gs true e = e
+either_longest fs gs false e = refl
+
+improved_longest : (r : Rows) (fs : List Blocks) → functions_longest (improved r fs) ≡ functions_longest fs
+improved_longest r fs = either_longest fs (shortened r fs) (fit r (shortened r fs)) (functions-shorter (starts_of r fs) (bases_of r fs) 0 fs)
+
+pub formed_longest : (r : Rows) (fs : List Blocks) → functions_longest (formed r fs) ≡ functions_longest fs
+formed_longest r fs = improved_longest r (improved r (functions_longest fs)) ∙ improved_longest r (functions_longest fs) ∙ functions-longest fs
+
+pub formed_room : (r : Rows) (fs : List Blocks) → HasRoom r fs → HasRoom r (formed r fs)
+formed_room r fs = room_like r fs (formed r fs) (formed_longest r fs)
 
 -- what the parts of a layout say is what its functions say
 pub shortened-is : (r : Rows) (fs : List Blocks) (starts : List (List ℕ)) (bases : List ℕ) → starts ≡ tables_from (bases_of r fs) 0 fs → bases ≡ bases_of r fs → functions_shorter (starts_in starts) bases 0 fs ≡ shortened r fs

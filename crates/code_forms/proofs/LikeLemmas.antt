@@ -1,5 +1,5 @@
 -- Items in other forms lead where they led.
-use Rattle.std.proofs.Common.{◌≡◌, ℕ, suc, ◌+◌, Bool, true, false, List, [], ◌∷◌, refl, subst, if◌then◌else◌}
+use Rattle.std.proofs.Common.{ℕ, suc, ◌+◌, Bool, true, false, List, [], ◌∷◌, refl, subst, if◌then◌else◌}
 use Rattle.std.specs.Prelude.{slice_index}
 use Rattle.code_items.specs.declared.item.Form.TheVariants.{Far}
 use Rattle.code_items.specs.declared.item.Item.{Item}

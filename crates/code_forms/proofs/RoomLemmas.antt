@@ -1,18 +1,17 @@
 -- Each function has room where it lies, and no block begins at or past 2^30.
-use Rattle.std.proofs.Common.{◌≡◌, ℕ, zero, suc, ◌+◌, ◌^◌, ◌<◌, ◌≤◌, Bool, true, false, List, [], ◌∷◌, ◌++◌, length, get_or, refl, sym, ap, ◌∙◌, subst, arith, append_assoc, if◌then◌else◌}
+use Rattle.std.proofs.Common.{◌≡◌, ℕ, zero, suc, ◌+◌, ◌^◌, ◌<◌, Bool, true, false, List, [], ◌∷◌, ◌++◌, length, refl, sym, ◌∙◌, subst, arith, append_assoc, if◌then◌else◌}
 use Rattle.std.specs.Prelude.{slice_index, slice_index_or}
 use Rattle.std.proofs.lemmas.List.{length-append}
-use Rattle.code_items.specs.declared.item.Item.{Item}
 use Rattle.code_items.specs.Items.{total}
 use Rattle.code_items.specs.Placings.{Blocks, blocks_size, starts_from}
-use Rattle.code_writing.specs.Targets.{starts_in, AreLow}
+use Rattle.code_writing.specs.Targets.{AreLow}
 use Rattle.code_forms.specs.Regions.{Rows, bases_from, bases_of, tables_from, functions_size, RoomFrom}
 
-behind : (pre rest : List ℕ) (x : ℕ) → slice_index (pre ++ x ∷ rest) (length pre) ≡ x
+pub behind : (pre rest : List ℕ) (x : ℕ) → slice_index (pre ++ x ∷ rest) (length pre) ≡ x
 behind [] rest x = refl
 behind (y ∷ pre) rest x = behind pre rest x
 
-longer : (pre rest : List ℕ) (x : ℕ) → length pre < length (pre ++ x ∷ rest)
+pub longer : (pre rest : List ℕ) (x : ℕ) → length pre < length (pre ++ x ∷ rest)
 longer [] rest x = omega arith
 longer (y ∷ pre) rest x = let h = longer pre rest x in omega arith
 
@@ -22,7 +21,7 @@ placed pre rest f base bs fs e h r =
     let at = subst (λ k. slice_index (pre ++ base ∷ rest) k ≡ base) e (behind pre rest base) in
     (subst (λ k. k < length (pre ++ base ∷ rest)) e (longer pre rest base), subst (λ b. b + blocks_size bs < 2 ^ 30) (sym at) h, subst (λ l. RoomFrom l (suc f) fs) (append_assoc pre (base ∷ []) rest) r)
 
-more : (pre : List ℕ) (f base : ℕ) → length pre ≡ f → length (pre ++ base ∷ []) ≡ suc f
+pub more : (pre : List ℕ) (f base : ℕ) → length pre ≡ f → length (pre ++ base ∷ []) ≡ suc f
 more pre f base e = length-append pre (base ∷ []) ∙ omega arith
 
 -- the functions behind one have room wherever the rows go on

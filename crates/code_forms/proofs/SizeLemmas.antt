@@ -1,5 +1,5 @@
 -- Other forms of items: their sizes, their soundness, and where they lead.
-use Rattle.std.proofs.Common.{◌≡◌, ℕ, suc, ◌+◌, ◌*◌, ◌≤◌, Bool, true, false, List, [], ◌∷◌, map, refl, ap, ◌∙◌, arith, All}
+use Rattle.std.proofs.Common.{◌≡◌, ℕ, suc, ◌+◌, ◌≤◌, Bool, true, false, List, [], ◌∷◌, refl, ap, ◌∙◌, arith}
 use Rattle.std.specs.Prelude.{slice_index}
 use Rattle.std.proofs.lemmas.List.Elements.{All-cons, All-head, All-nil, All-tail}
 use Rattle.code_items.specs.declared.item.Form.{Form}
@@ -8,10 +8,7 @@ use Rattle.code_items.specs.declared.item.Item.{Item}
 use Rattle.code_items.specs.declared.item.Item.TheVariants.{Single, Jump, Call, Branch, Return, Exit}
 use Rattle.code_items.specs.Items.{Starts, jump_size, form_size, size, total}
 use Rattle.code_items.specs.Placings.{Blocks, blocks_size}
-use Rattle.code_writing.specs.Forms.{IsLike, AreLike}
 use Rattle.code_writing.specs.Targets.{target}
-use Rattle.code_forms.specs.Distances.{is_far, form_of}
-use Rattle.code_forms.specs.Laid.{BlocksLike, FunctionsLike}
 use Rattle.code_forms.specs.Regions.{functions_size}
 use Rattle.code_forms.specs.Shorter.{longest, items_longest, blocks_longest, functions_longest, shorter, items_shorter, blocks_shorter, functions_shorter}
 use Rattle.code_forms.specs.Sound.{IsSound, AreSound, BlocksSound, FunctionsSound}

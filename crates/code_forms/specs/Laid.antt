@@ -1,5 +1,5 @@
 -- Layouts, and when there is room for one.
-use Rattle.std.specs.Prelude.{◌≡◌, ℕ, ◌+◌, ◌^◌, ◌<◌, true, List, [], ◌∷◌}
+use Rattle.std.specs.Prelude.{◌≡◌, ◌+◌, ◌^◌, ◌<◌, true, List, [], ◌∷◌}
 use Rattle.code_items.specs.Placings.{Blocks}
 use Rattle.code_writing.specs.Forms.{AreLike}
 use Rattle.code_forms.specs.declared.layouts.Layout.{Layout}

@@ -1,5 +1,5 @@
 -- Items that keep their ranges at some place.
-use Rattle.std.specs.Prelude.{ℕ, ◌<◌, IsTrue, All, List}
+use Rattle.std.specs.Prelude.{◌<◌, IsTrue, All, List}
 use Rattle.rv_core.specs.Instructions.{in_row}
 use Rattle.code_items.specs.declared.item.Item.{Item}
 use Rattle.code_items.specs.declared.item.Item.TheVariants.{Single, Jump, Call, Branch, Return, Exit}

@@ -1,4 +1,4 @@
-use Rattle.std.proofs.Common.{◌≡◌, ap, sym, ◌∙◌, subst}
+use Rattle.std.proofs.Common.{ap, sym, ◌∙◌, subst}
 use Rattle.code_forms.specs.Laid.{HasRoom, rows_of}
 use Rattle.code_forms.specs.Layouts.{improved}
 use Rattle.code_forms.specs.Shorter.{functions_longest}

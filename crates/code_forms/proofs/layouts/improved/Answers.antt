@@ -1,7 +1,7 @@
-use Rattle.std.proofs.Common.{◌≡◌, sym, ◌∙◌, subst}
+use Rattle.std.proofs.Common.{sym, ◌∙◌, subst}
 use Rattle.code_writing.specs.Targets.{AreLow}
 use Rattle.code_forms.specs.Laid.{rows_of}
-use Rattle.code_forms.specs.Layouts.{shortened, starts_of}
+use Rattle.code_forms.specs.Layouts.{starts_of}
 use Rattle.code_forms.specs.Regions.{bases_of, RoomFrom}
 use Rattle.code_forms.specs.Sound.{FunctionsSound}
 use Rattle.code_forms.proofs.Formed.{low, room, shorter_room, shortened-is}

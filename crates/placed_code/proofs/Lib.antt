@@ -1,0 +1,6 @@
+pub mod Targets
+pub mod Standing
+pub mod Spread
+pub mod Alike
+pub mod Linked
+pub mod Placed
