@@ -1,0 +1,11 @@
+//! Writes the bytes of a program's code: the functions of flash in a row, and those of the scratchpad in another.
+//!
+//! Proved: [`row`] gives the bytes of the instructions of a row (`placed_code/specs/Written.antt`), low ones first,
+//! as the machine fetches them. `Memory` is free. The time is linear in the items.
+//!
+//! The crate knows no program, and not where rows begin.
+#![tactic(auto)]
+
+mod writing;
+
+pub use writing::row;
