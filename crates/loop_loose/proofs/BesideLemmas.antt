@@ -1,28 +1,28 @@
 -- The loose walk gives loose worths and turns of a function beside it.
-use Rattle.std.proofs.Common.{◌≡◌, ◌≢◌, ℕ, zero, suc, ◌+◌, ◌-◌, ◌≤◌, ◌<◌, ℤ, pos, ◌+ℤ◌, ◌-ℤ◌, ◌*ℤ◌, ◌≤ℤ◌, arith, refl, sym, ap, ◌∙◌, subst, List, [], ◌∷◌, Contains, inl, inr, ◌⊎◌, Bool, true, false, cond, Option, Some, None}
+use Rattle.std.proofs.Common.{◌≡◌, ◌≢◌, ℕ, zero, suc, ◌+◌, ◌-◌, ◌≤◌, ◌<◌, ℤ, pos, ◌+ℤ◌, ◌-ℤ◌, ◌*ℤ◌, ◌≤ℤ◌, arith, refl, sym, ap, ◌∙◌, subst, List, [], ◌∷◌, Contains, inl, inr, Bool, true, false, cond, Option, Some, None}
 use Rattle.std.specs.Prelude.{◌==◌}
 use lib.IntN.{negsuc}
 use Rattle.std.proofs.lemmas.Int.{ints}
 use Rattle.std.proofs.lemmas.Bool.Decides.{eqb_tells}
 use Rattle.std.proofs.Math.Nat.{mul-le-mul_left}
-use Rattle.frac128.proofs.SignedLemmas.{mul-add, mul-sub}
+use Rattle.frac128.proofs.SignedLemmas.{mul-sub}
 use Rattle.loop_walks.specs.declared.step.Step.{Step}
 use Rattle.loop_walks.specs.declared.step.Loop.{Loop}
 use Rattle.loop_walks.specs.Walks.{larger, worth_at, cost, range_steps}
 use Rattle.loop_walks.specs.Turns.{further, way_at, turn_start, turn_ways, gain_by, gain}
 use Rattle.loop_walks.specs.Multipliers.{first_weight}
 use Rattle.loop_walks.specs.Levels.{weighed, Level}
-use Rattle.loop_walks.specs.Rows.{AreSteps, Each, IsLoopOf, HeadersAbove, AreLoops, HaveNone}
-use Rattle.loop_walks.proofs.EachLemmas.{each_map, each_both, each_between, between_steps, steps_are}
-use Rattle.loop_walks.proofs.LargerLemmas.{larger_left, larger_right, WayAtMost}
+use Rattle.loop_walks.specs.Rows.{Each, IsLoopOf, AreLoops, HaveNone}
+use Rattle.loop_walks.proofs.EachLemmas.{each_map, each_between, between_steps, steps_are}
+use Rattle.loop_walks.proofs.LargerLemmas.{larger_right, WayAtMost}
 use Rattle.loop_walks.proofs.WalkLemmas.{Pays, relaxed_pays}
 use Rattle.loop_walks.proofs.TurnLemmas.{IsInRange, PaysTurn, turned_pays, turned_other, turn_start-long, turn_start_back}
-use Rattle.loop_walks.proofs.LevelLemmas.{From, from_above, weighed-long}
-use Rattle.loop_ranges.specs.Near.{IsNear, PaysFurther, IsAtMost, IsThere}
-use Rattle.loop_ranges.specs.Loose.{Loose, PaysLoosely, Turn, turn_weight, TurnsLoosely, IsLooseTurn, AreLooseTurns}
+use Rattle.loop_walks.proofs.LevelLemmas.{From, from_above}
+use Rattle.loop_ranges.specs.Near.{PaysFurther, IsAtMost, IsThere}
+use Rattle.loop_ranges.specs.Loose.{PaysLoosely, turn_weight, TurnsLoosely, IsLooseTurn, AreLooseTurns}
 use Rattle.loop_loose.specs.LooseWalk.{back_price, backed, loose_level, loose_of, loose_turn, loose_turns, MayTurn, AllMayTurn, IsLooseWalk}
 use Rattle.loop_loose.specs.Beside.{HasLoose, IsBesideLoop, AreBesideLoops, LooseWalkPays}
-use Rattle.loop_loose.proofs.LooseLemmas.{turns_positive, times_positive, larger-zero, gain_positive, weight_is, set_other, weighed_positive, back_in, AreBacked, start_long, worths_positive, weights_positive, backs_are}
+use Rattle.loop_loose.proofs.LooseLemmas.{larger-zero, gain_positive, weight_is, set_other, weighed_positive, back_in, AreBacked, start_long, worths_positive, weights_positive, backs_are}
 use Rattle.loop_loose.proofs.FarLemmas.{IsBeneath, AreFar, AreAllFar, all_far, own, range_in, weighed_before}
 
 pub each_contains : (P : Step → Type 0) (ks : List Step) (k : Step) → Each P ks → Contains ks k → P k

@@ -1,6 +1,6 @@
 -- A way to a jump back, with its price and at the header the weight of its further turns, is no more than what its place is worth.
-use Rattle.std.proofs.Common.{◌≡◌, ◌≢◌, ℕ, zero, suc, ◌+◌, ◌-◌, ◌≤◌, ◌<◌, ℤ, pos, ◌+ℤ◌, ◌-ℤ◌, ◌*ℤ◌, ◌≤ℤ◌, arith, refl, sym, ap, ◌∙◌, subst, List, [], ◌∷◌, length, inl, inr, Bool, true, false, cond, Option, Some, None, get_or, get_or-set_other}
-use Rattle.std.specs.Prelude.{◌==◌, slice_set}
+use Rattle.std.proofs.Common.{◌≡◌, ◌≢◌, ℕ, ◌+◌, ◌-◌, ◌≤◌, ◌<◌, ℤ, pos, ◌+ℤ◌, ◌-ℤ◌, ◌*ℤ◌, ◌≤ℤ◌, arith, refl, sym, ap, ◌∙◌, subst, List, [], ◌∷◌, length, inl, inr, Bool, true, false, cond, Option, Some, None, get_or, get_or-set_other}
+use Rattle.std.specs.Prelude.{◌==◌}
 use Rattle.std.specs.Int.RustNames.{int_le}
 use Rattle.std.proofs.lemmas.Int.{ints}
 use Rattle.std.proofs.lemmas.Grind.{get_or-set_at}
@@ -10,12 +10,11 @@ use Rattle.std.proofs.Math.ListN.{replicate, get_or-eq_default}
 use Rattle.frac128.proofs.SignedLemmas.{mul-sub}
 use Rattle.loop_walks.specs.declared.step.Step.{Step}
 use Rattle.loop_walks.specs.declared.step.Loop.{Loop}
-use Rattle.loop_walks.specs.Walks.{larger, worth_at, cost, head_steps, body_steps, range_steps}
+use Rattle.loop_walks.specs.Walks.{worth_at, cost, head_steps, body_steps, range_steps}
 use Rattle.loop_walks.specs.Turns.{greater, further, way_at, turned, with_back, turn_start, turn_ways, gain_by, gain}
 use Rattle.loop_walks.specs.Multipliers.{first_weight}
 use Rattle.loop_walks.specs.Levels.{weighed}
 use Rattle.loop_walks.specs.Rows.{IsStep, Each, IsLoopOf, HeadersAbove, AreLoops, HaveNone}
-use Rattle.loop_walks.proofs.LargerLemmas.{larger_left, larger_least}
 use Rattle.loop_walks.proofs.EachLemmas.{each_map, each_both, each_between, each_beside}
 use Rattle.loop_walks.proofs.TurnLemmas.{IsInRange, turn_at, turn_other, turned-long, turned_other, turn_start-long, turn_start_back}
 use Rattle.loop_walks.proofs.LevelLemmas.{From, from_above, weighed-long}

@@ -1,6 +1,6 @@
 -- Each worth of the loose walk is that of a flow, where steps lead on from flow to flow and ways from the header make turns.
-use Rattle.std.proofs.Common.{◌≡◌, ◌≢◌, ℕ, zero, suc, ◌+◌, ◌-◌, ◌≤◌, ◌<◌, ℤ, pos, ◌+ℤ◌, ◌-ℤ◌, ◌*ℤ◌, ◌≤ℤ◌, arith, refl, sym, ap, ◌∙◌, subst, List, [], ◌∷◌, length, inl, inr, Bool, true, false, cond, Option, Some, None, get_or, get_or-set_other}
-use Rattle.std.specs.Prelude.{◌==◌, slice_set}
+use Rattle.std.proofs.Common.{◌≡◌, ℕ, ◌+◌, ◌-◌, ◌≤◌, ◌<◌, ℤ, pos, ◌+ℤ◌, ◌-ℤ◌, ◌*ℤ◌, ◌≤ℤ◌, arith, refl, sym, ap, ◌∙◌, subst, List, [], ◌∷◌, length, inl, inr, Bool, true, false, cond, Option, Some, None, get_or, get_or-set_other}
+use Rattle.std.specs.Prelude.{slice_set}
 use Rattle.std.specs.Int.RustNames.{int_le}
 use Rattle.std.proofs.lemmas.Int.{ints}
 use Rattle.std.proofs.lemmas.Grind.{get_or-set_at}
@@ -14,8 +14,8 @@ use Rattle.loop_walks.specs.Turns.{greater, further, way_at, turned, with_back, 
 use Rattle.loop_walks.specs.Multipliers.{first_weight}
 use Rattle.loop_walks.specs.Levels.{weighed, Level}
 use Rattle.loop_walks.specs.Rows.{IsStep, Each, IsLoopOf, AreLoops, HaveNone}
-use Rattle.loop_walks.proofs.EachLemmas.{each_map, each_both, each_between, steps_are}
-use Rattle.loop_walks.proofs.WalkLemmas.{taken_at, taken_other, within}
+use Rattle.loop_walks.proofs.EachLemmas.{each_both, each_between, steps_are}
+use Rattle.loop_walks.proofs.WalkLemmas.{within}
 use Rattle.loop_walks.proofs.TurnLemmas.{IsInRange, turn_at, turn_other, turned-long, turn_start-long}
 use Rattle.loop_walks.proofs.LevelLemmas.{weighed-long}
 use Rattle.loop_loose.specs.LooseWalk.{back_price, back_raised, backed, loose_level, MayTurn, AllMayTurn, IsLooseWalk}

@@ -1,6 +1,6 @@
 -- Loose worths and weights aren't negative, and jumps back are worth their prices.
-use Rattle.std.proofs.Common.{◌≡◌, ◌≢◌, ℕ, zero, suc, ◌-◌, ◌≤◌, ◌<◌, ℤ, pos, ◌+ℤ◌, ◌-ℤ◌, ◌*ℤ◌, ◌≤ℤ◌, arith, refl, sym, ap, ◌∙◌, subst, List, [], ◌∷◌, length, inl, inr, Bool, true, false, cond, Option, Some, None, get_or-set_other}
-use Rattle.std.specs.Prelude.{◌==◌, nat_le, slice_set}
+use Rattle.std.proofs.Common.{◌≡◌, ◌≢◌, ℕ, ◌-◌, ◌≤◌, ◌<◌, ℤ, pos, ◌+ℤ◌, ◌-ℤ◌, ◌*ℤ◌, ◌≤ℤ◌, arith, refl, sym, ap, ◌∙◌, subst, List, [], ◌∷◌, length, inl, inr, Bool, true, false, cond, Option, Some, None, get_or-set_other}
+use Rattle.std.specs.Prelude.{nat_le, slice_set}
 use Rattle.std.specs.Int.RustNames.{int_le, int_lt}
 use lib.IntN.{negsuc}
 use Rattle.std.proofs.lemmas.Int.{ints}
@@ -9,7 +9,7 @@ use Rattle.std.proofs.lemmas.Bool.Decides.{nat_tests, eqb_tells}
 use Rattle.std.proofs.Math.ListN.{length-set}
 use Rattle.loop_walks.specs.declared.step.Step.{Step}
 use Rattle.loop_walks.specs.declared.step.Loop.{Loop}
-use Rattle.loop_walks.specs.Walks.{larger, worth_at, relaxed}
+use Rattle.loop_walks.specs.Walks.{larger, worth_at}
 use Rattle.loop_walks.specs.Turns.{way_at, turn_ways, gain_by, gain}
 use Rattle.loop_walks.specs.Multipliers.{first_weight}
 use Rattle.loop_walks.specs.Levels.{weighed, Level}
@@ -18,7 +18,7 @@ use Rattle.loop_walks.proofs.EachLemmas.{steps_are}
 use Rattle.loop_walks.proofs.LargerLemmas.{larger_left, larger_right}
 use Rattle.loop_walks.proofs.WalkLemmas.{relaxed_grows}
 use Rattle.loop_walks.proofs.LevelLemmas.{weighed-long}
-use Rattle.loop_loose.specs.LooseWalk.{back_price, back_raised, backed, loose_level, MayTurn, AllMayTurn, IsLooseWalk}
+use Rattle.loop_loose.specs.LooseWalk.{back_price, back_raised, backed, loose_level, AllMayTurn, IsLooseWalk}
 
 -- numbers
 

@@ -17,7 +17,7 @@ use Rattle.loop_walks.specs.Rows.{IsStep, Each, IsLoopOf, IsBack, HeadersAbove, 
 use Rattle.loop_walks.proofs.EachLemmas.{each_map, each_both, each_between, each_beside}
 use Rattle.loop_walks.proofs.WalkLemmas.{taken_at, taken_other, within}
 use Rattle.loop_walks.proofs.TurnLemmas.{turn_at, turn_other, turned-long, turn_start-long}
-use Rattle.loop_ranges.specs.Near.{IsNear, IsNearWay, PaysFurther, IsThere}
+use Rattle.loop_ranges.specs.Near.{IsNear, IsNearWay, IsThere}
 use Rattle.loop_ranges.specs.Reach.{IsNearWeight}
 use Rattle.loop_ranges.specs.Loose.{Loose, PaysLoosely, Turn, turn_weight, TurnsLoosely, IsLooseTurn, AreLooseTurns}
 use Rattle.loop_ranges.proofs.NearLemmas.{near_up, near_sum, near_larger, way_near, further_near, gain_near, weight_near}

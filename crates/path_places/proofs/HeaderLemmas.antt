@@ -25,7 +25,7 @@ abbrev WithHeaders : List LoopShape → List Span → ℕ → Type 0
 WithHeaders ls ps a = BehindAll ls ps a × ((k : LoopShape) → Contains ls k → IsInLoop k a → BehindAll ls ps k.header)
 
 -- where a move arrives: on, or at the target of a call
-arrives : (to back : Option ℕ) (d : ℕ) → Contains (option_to_list to ++ option_to_list back) d → Contains (onward_by to back) d ⊎ ((to ≡ Some d) × (b : ℕ) × (back ≡ Some b))
+pub arrives : (to back : Option ℕ) (d : ℕ) → Contains (option_to_list to ++ option_to_list back) d → Contains (onward_by to back) d ⊎ ((to ≡ Some d) × (b : ℕ) × (back ≡ Some b))
 arrives None None d h = inl h
 arrives (Some t) None d h = inl h
 arrives None (Some b) d h = inl h
@@ -33,7 +33,7 @@ arrives (Some t) (Some b) d (zero, lt, e) = inr (ap Some e, b, refl)
 arrives (Some t) (Some b) d (suc k, lt, e) = inl (k, omega (arith, lt), e)
 
 -- the loop whose jump back it is
-back_of : (ls : List LoopShape) (a : ℕ) → is_back ls a ≡ true → (k : LoopShape) × Contains ls k × (k.back ≡ a)
+pub back_of : (ls : List LoopShape) (a : ℕ) → is_back ls a ≡ true → (k : LoopShape) × Contains ls k × (k.back ≡ a)
 back_of [] a h = cc
 back_of (l ∷ ls) a h = elim (eqb_tells l.back a) [
   | inl e ↦ (l, (zero, omega arith, refl), e.1)
@@ -47,7 +47,7 @@ back_of (l ∷ ls) a h = elim (eqb_tells l.back a) [
     later : ((k : LoopShape) × Contains ls k × (k.back ≡ a)) → (k : LoopShape) × Contains (l ∷ ls) k × (k.back ≡ a)
     later r = (r.0, (suc r.1.0, omega (arith, r.1.1), r.1.2), r.2)
 
-only : (x d : ℕ) → Contains (x ∷ []) d → d ≡ x
+pub only : (x d : ℕ) → Contains (x ∷ []) d → d ≡ x
 only x d (zero, lt, e) = sym e
 only x d (suc k, lt, e) = absurd (omega (arith, lt))
 
@@ -59,7 +59,7 @@ decide_in l a = by_test (nat_le l.first a && nat_le a l.last) refl
     by_test false e = inr (λ h. let f = h.from in let t = h.to in absurd (grind (arith, nat_tests)))
 
 module _ (s : System) (ls : List LoopShape) (ps : List Span) (fits : Fits s ls ps) (full : AreFilled ps) where
-  enters : (m : Move) (d : ℕ) → Contains s.moves m → Contains (destinations m) d → (l : LoopShape) → Contains ls l → IsInLoop l d → IsInLoop l m.at ⊎ (d ≡ l.header)
+  pub enters : (m : Move) (d : ℕ) → Contains s.moves m → Contains (destinations m) d → (l : LoopShape) → Contains ls l → IsInLoop l d → IsInLoop l m.at ⊎ (d ≡ l.header)
   enters m d im id l il h = elim (decide_in l m.at) [
     | inl k ↦ inl k
     | inr k ↦

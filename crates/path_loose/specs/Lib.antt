@@ -1,0 +1,3 @@
+pub mod Loosened
+pub mod LooseDriver
+pub mod Laws
