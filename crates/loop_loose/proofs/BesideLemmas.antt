@@ -131,6 +131,7 @@ module _ (low most : ℤ) (n : ℕ) (ms : List Step) (ks : List Step) (v : Level
       back = λ b is. way_there b is beside.back;
       steps = each_map (HasLoose low (range_steps j ks)) (TurnsLoosely low (loose_of (loose_level ks v js)) l (loose_turn ks weights j)) (range_steps l ms) one_turn beside.steps;
       price = beside.price;
+      costs = turn.positive;
       positive = gained;
       turn = subst (λ i. IsAtMost (way_at (turn_ways (pos 0) weights j ks) i) j.price (gain (pos 0) weights j ks)) first (gain_at_most j.price (way_at (turn_ways (pos 0) weights j ks) 0));
       far = λ a. at_most (j.price +ℤ own j weights (worth_at (loose_level ks v js).weights) (worth_at (loose_level ks v js).worths) (j.header + (a - j.header))) (worth_at (loose_level ks v js).worths (j.header + (a - j.header))) most

@@ -40,6 +40,7 @@ pub record IsLooseTurn (low most : ℤ) (x : Loose) (ms : List Step) (l : Loop) 
   pub back : (b : ℕ) → l.back ≡ Some b → IsThere (t.way b)
   pub steps : Each (TurnsLoosely low x l t) (range_steps l ms)
   pub price : IsNear low l.price t.price
+  pub costs : pos 0 ≤ℤ t.price
   pub positive : pos 0 ≤ℤ t.gain
   pub turn : IsAtMost (t.way l.header) t.price t.gain
   pub far : (a : ℕ) → IsAtMost (t.way a) t.price most

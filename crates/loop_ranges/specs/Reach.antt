@@ -32,6 +32,11 @@ pub record IsLooseCode (low most : ℤ) (q n : ℕ) (x : Loose) (ms : List Step)
   pub turns : AreLooseTurns low most x ms ls ts
   pub starts : StartBelow q ls
 
+-- no jump back costs less
+abbrev pub BacksAbove : ℤ → List Loop → Type 0
+BacksAbove low [] = Unit {0}
+BacksAbove low (l ∷ ls) = (low ≤ℤ l.price) × BacksAbove low ls
+
 -- no worth is above
 abbrev pub AreBelow : ℤ → List ℤ → Type 0
 AreBelow bound ws = (a : ℕ) → worth_at ws a ≤ℤ bound
