@@ -54,7 +54,7 @@ get_none [] = refl
 get_none (x ∷ xs) = get_none xs
 
 module _ (m : Memory) (p : Placed) where
-  functions_length : (f : ℕ) (fns : List PlacedFunction) → length (functions_from m p f fns) ≡ length fns
+  pub functions_length : (f : ℕ) (fns : List PlacedFunction) → length (functions_from m p f fns) ≡ length fns
   functions_length f [] = refl
   functions_length f (fn ∷ fns) = ap suc (functions_length (suc f) fns)
 
@@ -64,18 +64,18 @@ module _ (m : Memory) (p : Placed) where
   function_at_number k (fn ∷ fns) (suc f) h = let e : suc k + f ≡ k + suc f = omega arith in function_at_number (suc k) fns f (omega arith) ∙ ap (function_items m p) e
 
   -- the items of a function
-  of_function : (f : ℕ) → f < length p.functions → slice_index_or (program_items m p) f [] ≡ function_items m p f
+  pub of_function : (f : ℕ) → f < length p.functions → slice_index_or (program_items m p) f [] ≡ function_items m p f
   of_function f h =
       let n = functions_length 0 p.functions in
       let number : 0 + f ≡ f = omega arith in
       before_all (functions_from m p 0 p.functions) (start_items p.main ∷ []) f [] (omega arith) ∙ function_at_number 0 p.functions f h ∙ ap (function_items m p) number
 
-  of_start : slice_index_or (program_items m p) (length p.functions) [] ≡ start_items p.main
+  pub of_start : slice_index_or (program_items m p) (length p.functions) [] ≡ start_items p.main
   of_start =
       ap (λ n. slice_index_or (program_items m p) n []) (sym (functions_length 0 p.functions))
       ∙ behind_all (functions_from m p 0 p.functions) (start_items p.main ∷ []) []
 
-  blocks_length : (f b : ℕ) (bs : List PlacedBlock) → length (blocks_from m p f b bs) ≡ length bs
+  pub blocks_length : (f b : ℕ) (bs : List PlacedBlock) → length (blocks_from m p f b bs) ≡ length bs
   blocks_length f b [] = refl
   blocks_length f b (x ∷ bs) = ap suc (blocks_length f (suc b) bs)
 

@@ -1,0 +1,6 @@
+pub mod Words
+pub mod Operands
+pub mod Instructions
+pub mod Calls
+pub mod Programs
+pub mod Promises
