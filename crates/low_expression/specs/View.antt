@@ -5,7 +5,7 @@ use Rattle.low_ir.specs.Code.{Fixed, Register, Point, Do}
 use Rattle.low_ir.specs.View.{instr_of, operand_of}
 use Rattle.low_plan.specs.Operators.{Code, only}
 use Rattle.low_plan.specs.Values as values
-use Rattle.low_pieces.specs.declared.coder.Coder.{Coder}
+use Rattle.low_coder.specs.declared.coder.Coder.{Coder}
 use Rattle.low_expression.specs.declared.addressing.Index.{Index}
 use Rattle.low_expression.specs.declared.addressing.Offset.{Offset}
 use Rattle.low_expression.specs.declared.addressing.Side.{Side}

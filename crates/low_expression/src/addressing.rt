@@ -2,7 +2,7 @@
 ghost use Rattle.std.specs.Prelude.{◌≡◌, ◌≤◌, ◌<◌, ◌^◌, IfOk, option_map};
 ghost use Rattle.high_ir.specs.declared.expression.BinaryOperator.TheVariants.{Add, Subtract};
 ghost use Rattle.high_ir.specs.declared.object.Base.TheVariants.{Parameter};
-ghost use Rattle.low_pieces.specs.declared.coder.Coder.{Coder};
+ghost use Rattle.low_coder.specs.declared.coder.Coder.{Coder};
 ghost use Rattle.low_ir.specs.Code.{Register};
 ghost use Rattle.low_expression.specs.View.{index_in, offset_in, scope_of, shares_of, split_by};
 ghost use Rattle.low_ir.specs.View as low;
@@ -15,11 +15,11 @@ use super::scope::Scope;
 use super::sharing::{Share, shared};
 use high_ir::expression::BinaryOperator;
 use high_ir::object::{Base as HighBase, Kind};
+use low_coder::Coder;
+use low_coder::numbers::sum;
+use low_coder::objects::scale_of;
+use low_coder::operators::{negated, operate};
 use low_ir::{Address, Base, Operand};
-use low_pieces::Coder;
-use low_pieces::numbers::sum;
-use low_pieces::objects::scale_of;
-use low_pieces::operators::{negated, operate};
 use rv_core::Alu;
 use wcc_base::Memory;
 

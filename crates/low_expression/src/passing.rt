@@ -10,9 +10,9 @@ use super::sharing::Share;
 use super::walk::operand;
 use high_ir::expression::Expr;
 use high_ir::object::Base as HighBase;
+use low_coder::Coder;
+use low_coder::numbers::sum;
 use low_ir::{Address, Base, Instr, Operand};
-use low_pieces::Coder;
-use low_pieces::numbers::sum;
 use wcc_base::Memory;
 
 /// A pointer to an array.

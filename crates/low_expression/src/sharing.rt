@@ -4,17 +4,17 @@ ghost use Rattle.high_ir.specs.Tree.{Element};
 ghost use Rattle.high_ir.specs.View.{expr_of};
 ghost use Rattle.low_expression.specs.View.{code_of, scope_of, shares_of};
 ghost use Rattle.low_ir.specs.View.{operand_of};
-ghost use Rattle.low_pieces.specs.View.{coded_of};
+ghost use Rattle.low_coder.specs.View.{coded_of};
 ghost use Rattle.low_plan.specs.Values.{index_register, is_constant, register_of, scaled_as, scaled_in, scaled_in_all, share_code, shared, shares_from, split_register, with_share};
 
 use super::scope::{Scope, leaf, variable};
 use high_ir::expression::{BinaryOperator, Expr};
 use high_ir::object::Array;
+use low_coder::Coder;
+use low_coder::numbers::offset;
+use low_coder::objects::scale_of;
+use low_coder::operators::operate;
 use low_ir::Operand;
-use low_pieces::Coder;
-use low_pieces::numbers::offset;
-use low_pieces::objects::scale_of;
-use low_pieces::operators::operate;
 use rv_core::Alu;
 use wcc_base::Memory;
 

@@ -3,16 +3,16 @@ ghost use Rattle.std.specs.Prelude.{◌≡◌, IfOk};
 ghost use Rattle.high_ir.specs.View.{expr_of};
 ghost use Rattle.low_expression.specs.Behind.{after_tested};
 ghost use Rattle.low_expression.specs.View.{code_of, scope_of, shares_of, tested_in};
-ghost use Rattle.low_pieces.specs.declared.coder.Coder.{Coder};
+ghost use Rattle.low_coder.specs.declared.coder.Coder.{Coder};
 ghost use Rattle.low_plan.specs.Values.{branch_by, inverted, operand, tested, unless_zero};
 
 use super::scope::Scope;
 use super::sharing::Share;
 use super::walk::operand;
 use high_ir::expression::{Expr, UnaryOperator};
+use low_coder::Coder;
+use low_coder::operators::{condition_of, inverse};
 use low_ir::Operand;
-use low_pieces::Coder;
-use low_pieces::operators::{condition_of, inverse};
 use rv_core::Condition;
 use wcc_base::Memory;
 

@@ -4,7 +4,7 @@ ghost use Rattle.high_ir.specs.View.{expr_of};
 ghost use Rattle.low_expression.specs.Behind.{after, after_index, after_valued};
 ghost use Rattle.low_expression.specs.View.{code_of, index_in, scope_of, shares_of, valued_of};
 ghost use Rattle.low_ir.specs.View.{operand_of};
-ghost use Rattle.low_pieces.specs.View.{coded_of};
+ghost use Rattle.low_coder.specs.View.{coded_of};
 ghost use Rattle.low_plan.specs.Values.{element_into, in_register, index_of, operand, value_into};
 
 use super::addressing::{Index, Side, base_of, offset_of, split};
@@ -12,9 +12,9 @@ use super::scope::{Scope, leaf, variable};
 use super::sharing::Share;
 use high_ir::expression::Expr;
 use high_ir::object::Array;
+use low_coder::Coder;
+use low_coder::objects::kind_of;
 use low_ir::{Instr, Operand};
-use low_pieces::Coder;
-use low_pieces::objects::kind_of;
 use wcc_base::Memory;
 
 /// The value of an expression in a register.

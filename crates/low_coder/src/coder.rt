@@ -1,8 +1,8 @@
 // Instructions, one after another.
 ghost use Rattle.std.specs.Prelude.{◌≡◌, ◌++◌, IfOk, suc};
 ghost use Rattle.low_ir.specs.View.{instr_of};
-ghost use Rattle.low_pieces.specs.declared.coder.Few.TheVariants.{Two};
-ghost use Rattle.low_pieces.specs.View.{coded_of, few_code, few_needs, more};
+ghost use Rattle.low_coder.specs.declared.coder.Few.TheVariants.{Two};
+ghost use Rattle.low_coder.specs.View.{coded_of, few_code, few_needs, more};
 ghost use Rattle.low_plan.specs.Operators.{only};
 ghost use Rattle.low_plan.specs.Statements.{nothing};
 

@@ -3,7 +3,7 @@ ghost use Rattle.std.specs.Prelude.{◌≡◌, ◌≤◌, IfOk};
 ghost use Rattle.low_ir.specs.Code.{Constant, Register};
 ghost use Rattle.rv_core.specs.declared.row.Alu.TheVariants as alu;
 ghost use Rattle.low_ir.specs.View.{instr_of, operand_of};
-ghost use Rattle.low_pieces.specs.View.{few_code, few_needs, coded_of, more};
+ghost use Rattle.low_coder.specs.View.{few_code, few_needs, coded_of, more};
 ghost use Rattle.low_plan.specs.Operators.{binary_code, binary_needs, by_shifts, condition_of, convert_code, convert_needs, difference, exponent_below, exponent_of, in_order, inverse, masked, negated, operate, product, quotient_unsigned, remainder_unsigned, shifted, unary_code, unary_needs};
 
 use super::coder::{Coder, Few};

@@ -3,9 +3,9 @@ use Rattle.std.specs.Prelude.{ℕ, ◌+◌, [], ◌∷◌, ◌++◌, map}
 use Rattle.low_ir.specs.View.{instr_of}
 use Rattle.low_plan.specs.Operators.{Code}
 use Rattle.low_plan.specs.Values.{Coded}
-use Rattle.low_pieces.specs.declared.coder.Coder.{Coder}
-use Rattle.low_pieces.specs.declared.coder.Few.{Few}
-use Rattle.low_pieces.specs.declared.coder.Few.TheVariants.{One, Two}
+use Rattle.low_coder.specs.declared.coder.Coder.{Coder}
+use Rattle.low_coder.specs.declared.coder.Few.{Few}
+use Rattle.low_coder.specs.declared.coder.Few.TheVariants.{One, Two}
 
 abbrev pub coded_of : Coder → Coded
 coded_of c = record { code = map instr_of c.code.items; free = c.free }
