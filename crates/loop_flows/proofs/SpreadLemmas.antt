@@ -22,13 +22,13 @@ handed-long false us m = refl
 
 -- where it is handed from, to, and elsewhere
 
-handed_from : (us : List ℕ) (m : Step) → m.at < m.on → m.at < length us → amount_at (handed true us m) m.at ≡ 0
+pub handed_from : (us : List ℕ) (m : Step) → m.at < m.on → m.at < length us → amount_at (handed true us m) m.at ≡ 0
 handed_from us m h k = set_other (slice_set us m.at 0) m.on m.at (amount_at us m.on + amount_at us m.at) (λ e. absurd (omega (arith, e, h))) ∙ set_at us m.at 0 k
 
-handed_to : (us : List ℕ) (m : Step) → m.on < length us → amount_at (handed true us m) m.on ≡ amount_at us m.on + amount_at us m.at
+pub handed_to : (us : List ℕ) (m : Step) → m.on < length us → amount_at (handed true us m) m.on ≡ amount_at us m.on + amount_at us m.at
 handed_to us m k = set_at (slice_set us m.at 0) m.on (amount_at us m.on + amount_at us m.at) (let e = length-set us m.at 0 in omega (arith, e, k))
 
-handed_other : (us : List ℕ) (m : Step) (a : ℕ) → a ≢ m.at → a ≢ m.on → amount_at (handed true us m) a ≡ amount_at us a
+pub handed_other : (us : List ℕ) (m : Step) (a : ℕ) → a ≢ m.at → a ≢ m.on → amount_at (handed true us m) a ≡ amount_at us a
 handed_other us m a d e = set_other (slice_set us m.at 0) m.on a (amount_at us m.on + amount_at us m.at) e ∙ set_other us m.at a 0 d
 
 pub here : (a b u : ℕ) → b ≡ a → cond (nat_eq b a) u 0 ≡ u

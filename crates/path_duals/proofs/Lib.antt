@@ -2,5 +2,6 @@ pub mod BlockedLemmas
 pub mod PlainLemmas
 pub mod PotentialLemmas
 pub mod HoldLemmas
+pub mod DealLemmas
 pub mod PriceLemmas
 pub mod RowLemmas

@@ -11,6 +11,8 @@ use Rattle.flow_system.specs.declared.shapes.LoopShape.{LoopShape}
 use Rattle.flow_system.specs.declared.shapes.Span.{Span}
 use Rattle.flow_system.specs.Systems.{System, has_moves}
 use Rattle.flow_system.specs.Shapes.{AreShapesOf, is_back, IsInSpan, IsInOne}
+use Rattle.loop_walks.specs.declared.step.Step.{Step}
+use Rattle.loop_walks.specs.declared.step.Loop.{Loop}
 use Rattle.loop_walks.specs.declared.step.Pair.{Pair}
 use Rattle.loop_walks.specs.Walks.{larger, worth_at}
 use Rattle.loop_walks.specs.Levels.{Level}
@@ -26,75 +28,23 @@ use Rattle.path_places.proofs.FunctionLemmas.{functions_are, walked_not, differ}
 use Rattle.path_rows.specs.Driver.{Prices, blank, function_loops, function_level, function_pairs}
 use Rattle.path_rows.specs.Laws.{LoopsAreSettled}
 use Rattle.path_duals.specs.Duals.{dealt, no_pairs, pairs_from}
+use Rattle.path_duals.proofs.DealLemmas.{AreDealt, AreAll, Found, IsDone, AllFunctions, all_dealt}
 use Rattle.path_duals.proofs.BlockedLemmas.{Blocked, AreBlocked, AllAbove, settled_long, settled_grows, settled_blocks}
 
--- something holds of each claim with its loop and its multipliers
-abbrev pub AreDealt : (LoopClaim → LoopShape → Pair → Type 0) → List LoopClaim → List LoopShape → List Pair → Type 0
-AreDealt P [] [] qs = Unit {0}
-AreDealt P [] (l ∷ ls) qs = ⊥
-AreDealt P (c ∷ cs) [] qs = ⊥
-AreDealt P (c ∷ cs) (l ∷ ls) [] = ⊥
-AreDealt P (c ∷ cs) (l ∷ ls) (q ∷ qs) = P c l q × AreDealt P cs ls qs
-
-pub dealt_map : (P Q : LoopClaim → LoopShape → Pair → Type 0) → ((c : LoopClaim) (l : LoopShape) (k : Pair) → P c l k → Q c l k) → (cs : List LoopClaim) (ls : List LoopShape) (ks : List Pair) → AreDealt P cs ls ks → AreDealt Q cs ls ks
-dealt_map P Q f [] [] ks h = tt
-dealt_map P Q f [] (l ∷ ls) ks h = absurd h
-dealt_map P Q f (c ∷ cs) [] ks h = absurd h
-dealt_map P Q f (c ∷ cs) (l ∷ ls) [] h = absurd h
-dealt_map P Q f (c ∷ cs) (l ∷ ls) (k ∷ ks) h = (f c l k h.0, dealt_map P Q f cs ls ks h.1)
-
 module _ (s : System) (ls : List LoopShape) (ps : List Span) (whole : IsReachedWhole s ls ps) (q : Prices) (w : Level) where
+  -- no multiplier is negative
+  abbrev pub IsSigned : Pair → Type 0
+  IsSigned k = (pos 0 ≤ℤ k.least) × (pos 0 ≤ℤ k.most)
+
   -- a loop of some function is settled, at the final worths
+  abbrev pub IsGood : Span → List Step → Loop → Pair → Type 0
+  IsGood p ms l k = IsSettled w l k × Blocked ms l k
+
+  pub signed : (p : Span) (ms : List Step) (l : Loop) (k : Pair) → IsGood p ms l k → IsSigned k
+  signed p ms l k h = (h.0.least, h.0.most)
+
   abbrev Good : LoopClaim → LoopShape → Pair → Type 0
-  Good c l k = (p : Span) × (ws : List ℤ) × IsSettled w (loop_of q.of q.low s.moves s.claims p (function_steps s ls q.of ws p) c l) k × Blocked (function_steps s ls q.of ws p) (loop_of q.of q.low s.moves s.claims p (function_steps s ls q.of ws p) c l) k
-
-  -- no multiplier is negative, and those of loops of functions that are done are settled
-  abbrev IsDone : (ℕ → Type 0) → LoopClaim → LoopShape → Pair → Type 0
-  IsDone done c l k = ((pos 0 ≤ℤ k.least) × (pos 0 ≤ℤ k.most)) × (has_moves s.moves l.header ≡ true → done l.header → Good c l k)
-
-  deal : (done : ℕ → Type 0) (p : Span) (ws : List ℤ) (cs : List LoopClaim) (ks : List LoopShape) (known new : List Pair) → AreDealt (IsDone done) cs ks known →
-      AreSettled w (loops_of q.of q.low s.moves s.claims p (function_steps s ls q.of ws p) cs ks) new → AreBlocked (function_steps s ls q.of ws p) (loops_of q.of q.low s.moves s.claims p (function_steps s ls q.of ws p) cs ks) new →
-      AreDealt (IsDone (λ a. done a ⊎ IsInSpan p a)) cs ks (dealt s.moves p ks known new)
-  deal done p ws [] [] known new h settled blocked = tt
-  deal done p ws [] (l ∷ ks) known new h settled blocked = absurd h
-  deal done p ws (c ∷ cs) [] known new h settled blocked = absurd h
-  deal done p ws (c ∷ cs) (l ∷ ks) [] new h settled blocked = absurd h
-  deal done p ws (c ∷ cs) (l ∷ ks) (k ∷ known) [] h settled blocked = by_test (λ ns st bl. deal done p ws cs ks known ns h.1 st bl) (in_span p l.header) refl (has_moves s.moves l.header) refl settled blocked
-    where
-      as_before : (in_span p l.header ≡ false) ⊎ (has_moves s.moves l.header ≡ false) → IsDone (λ a. done a ⊎ IsInSpan p a) c l k
-      as_before out = (
-        h.0.0,
-        λ there d. elim d [
-          | inl e ↦ h.0.1 there e
-          | inr e ↦ elim out [ inl f ↦ absurd (differ (in_span p l.header) (is_in_span p l.header e) f) | inr f ↦ absurd (differ (has_moves s.moves l.header) there f) ]
-        ],
-      )
-
-      by_test : ((ns : List Pair) → AreSettled w (loops_of q.of q.low s.moves s.claims p (function_steps s ls q.of ws p) cs ks) ns → AreBlocked (function_steps s ls q.of ws p) (loops_of q.of q.low s.moves s.claims p (function_steps s ls q.of ws p) cs ks) ns → AreDealt (IsDone (λ a. done a ⊎ IsInSpan p a)) cs ks (dealt s.moves p ks known ns)) → (t : Bool) → in_span p l.header ≡ t → (u : Bool) → has_moves s.moves l.header ≡ u →
-          AreSettled w (cond (t && u) (loop_of q.of q.low s.moves s.claims p (function_steps s ls q.of ws p) c l ∷ loops_of q.of q.low s.moves s.claims p (function_steps s ls q.of ws p) cs ks) (loops_of q.of q.low s.moves s.claims p (function_steps s ls q.of ws p) cs ks)) [] →
-          AreBlocked (function_steps s ls q.of ws p) (cond (t && u) (loop_of q.of q.low s.moves s.claims p (function_steps s ls q.of ws p) c l ∷ loops_of q.of q.low s.moves s.claims p (function_steps s ls q.of ws p) cs ks) (loops_of q.of q.low s.moves s.claims p (function_steps s ls q.of ws p) cs ks)) [] →
-          AreDealt (IsDone (λ a. done a ⊎ IsInSpan p a)) (c ∷ cs) (l ∷ ks) (k ∷ dealt s.moves p ks known [])
-      by_test next true e true f settled blocked = absurd settled
-      by_test next true e false f settled blocked = (as_before (inr f), next [] settled blocked)
-      by_test next false e u f settled blocked = (as_before (inl e), next [] settled blocked)
-  deal done p ws (c ∷ cs) (l ∷ ks) (k ∷ known) (n ∷ new) h settled blocked = by_test (λ ns st bl. deal done p ws cs ks known ns h.1 st bl) (in_span p l.header) refl (has_moves s.moves l.header) refl settled blocked
-    where
-      as_before : (in_span p l.header ≡ false) ⊎ (has_moves s.moves l.header ≡ false) → IsDone (λ a. done a ⊎ IsInSpan p a) c l k
-      as_before out = (
-        h.0.0,
-        λ there d. elim d [
-          | inl e ↦ h.0.1 there e
-          | inr e ↦ elim out [ inl f ↦ absurd (differ (in_span p l.header) (is_in_span p l.header e) f) | inr f ↦ absurd (differ (has_moves s.moves l.header) there f) ]
-        ],
-      )
-
-      by_test : ((ns : List Pair) → AreSettled w (loops_of q.of q.low s.moves s.claims p (function_steps s ls q.of ws p) cs ks) ns → AreBlocked (function_steps s ls q.of ws p) (loops_of q.of q.low s.moves s.claims p (function_steps s ls q.of ws p) cs ks) ns → AreDealt (IsDone (λ a. done a ⊎ IsInSpan p a)) cs ks (dealt s.moves p ks known ns)) → (t : Bool) → in_span p l.header ≡ t → (u : Bool) → has_moves s.moves l.header ≡ u →
-          AreSettled w (cond (t && u) (loop_of q.of q.low s.moves s.claims p (function_steps s ls q.of ws p) c l ∷ loops_of q.of q.low s.moves s.claims p (function_steps s ls q.of ws p) cs ks) (loops_of q.of q.low s.moves s.claims p (function_steps s ls q.of ws p) cs ks)) (n ∷ new) →
-          AreBlocked (function_steps s ls q.of ws p) (cond (t && u) (loop_of q.of q.low s.moves s.claims p (function_steps s ls q.of ws p) c l ∷ loops_of q.of q.low s.moves s.claims p (function_steps s ls q.of ws p) cs ks) (loops_of q.of q.low s.moves s.claims p (function_steps s ls q.of ws p) cs ks)) (n ∷ new) →
-          AreDealt (IsDone (λ a. done a ⊎ IsInSpan p a)) (c ∷ cs) (l ∷ ks) (cond (t && u) (n ∷ dealt s.moves p ks known new) (k ∷ dealt s.moves p ks known (n ∷ new)))
-      by_test next true e true f settled blocked = (((settled.0.least, settled.0.most), λ there d. (p, ws, settled.0, blocked.0)), next new settled.1 blocked.1)
-      by_test next true e false f settled blocked = (as_before (inr f), next (n ∷ new) settled blocked)
-      by_test next false e u f settled blocked = (as_before (inl e), next (n ∷ new) settled blocked)
+  Good c l k = Found s ls q IsSigned IsGood signed c l k
 
   -- of functions from a level on, headers without steps have no multipliers
   abbrev AllBlocked : Level → List Span → Type 0
@@ -111,20 +61,14 @@ module _ (s : System) (ls : List LoopShape) (ps : List Span) (whole : IsReachedW
             (λ a lt. let x = above a lt in let y = settled_grows q.low (length s.moves) (function_steps s ls q.of v.worths r) f.0 negative v (function_loops s ls q v.worths r) f.1 long a in omega (arith, ints)) negative,
       )
 
-  deal_all : (done : ℕ → Type 0) (v : Level) (rs : List Span) (known : List Pair) → LoopsAreSettled s ls q w v rs → AllBlocked v rs → AreDealt (IsDone done) s.claims.loops ls known →
-      AreDealt (IsDone (λ a. done a ⊎ IsInOne rs a)) s.claims.loops ls (pairs_from s ls q v rs known)
-  deal_all done v [] known settled blocked h = dealt_map (IsDone done) (IsDone (λ a. done a ⊎ IsInOne [] a)) (λ c l k d. (d.0, λ there o. elim o [ inl e ↦ d.1 there e | inr e ↦ absurd e ])) s.claims.loops ls known h
-  deal_all done v (r ∷ rs) known settled blocked h =
-      dealt_map (IsDone (λ a. (done a ⊎ IsInSpan r a) ⊎ IsInOne rs a)) (IsDone (λ a. done a ⊎ IsInOne (r ∷ rs) a)) (λ c l k d. (d.0, λ there o. d.1 there (elim o [ inl e ↦ inl (inl e) | inr e ↦ elim e [ inl f ↦ inl (inr f) | inr f ↦ inr f ] ]))) s.claims.loops ls
-      (pairs_from s ls q (function_level s ls q v r) rs (dealt s.moves r ls known (function_pairs s ls q v r)))
-      (deal_all (λ a. done a ⊎ IsInSpan r a) (function_level s ls q v r) rs (dealt s.moves r ls known (function_pairs s ls q v r)) settled.1 blocked.1
-      (deal done r v.worths s.claims.loops ls known (function_pairs s ls q v r) h settled.0 blocked.0))
+  good_all : (p : Span) (ms : List Step) (los : List Loop) (ks : List Pair) → AreSettled w los ks → AreBlocked ms los ks → AreAll (IsGood p ms) los ks
+  good_all p ms [] ks settled blocked = tt
+  good_all p ms (l ∷ los) [] settled blocked = absurd settled
+  good_all p ms (l ∷ los) (k ∷ ks) settled blocked = ((settled.0, blocked.0), good_all p ms los ks settled.1 blocked.1)
 
-  none_done : (cs : List LoopClaim) (ks : List LoopShape) → AreShapesOf cs ks → AreDealt (IsDone (λ a. ⊥)) cs ks (no_pairs ks)
-  none_done [] [] are = tt
-  none_done [] (l ∷ ks) are = absurd are
-  none_done (c ∷ cs) [] are = absurd are
-  none_done (c ∷ cs) (l ∷ ks) are = (((omega (arith, ints), omega (arith, ints)), λ there d. absurd d), none_done cs ks are.2)
+  good_functions : (v : Level) (rs : List Span) → LoopsAreSettled s ls q w v rs → AllBlocked v rs → AllFunctions s ls q IsSigned IsGood signed v rs
+  good_functions v [] settled blocked = tt
+  good_functions v (r ∷ rs) settled blocked = (good_all r (function_steps s ls q.of v.worths r) (function_loops s ls q v.worths r) (function_pairs s ls q v r) settled.0 blocked.0, good_functions (function_level s ls q v r) rs settled.1 blocked.1)
 
   -- ---- what a claim's multipliers do
 
@@ -172,7 +116,7 @@ module _ (s : System) (ls : List LoopShape) (ps : List Span) (whole : IsReachedW
     back = are.1;
     least = signs.0;
     most = signs.1;
-    weight = λ h. let g = good (at_l h) in subst (λ a. worth_at w.weights (place_of s.moves a) ≡ (k.most *ℤ (pos c.max -ℤ pos 1)) -ℤ (k.least *ℤ (pos c.min -ℤ pos 1))) are.0 g.2.weight;
+    weight = λ h. let g = good (at_l h) in subst (λ a. worth_at w.weights (place_of s.moves a) ≡ (k.most *ℤ (pos c.max -ℤ pos 1)) -ℤ (k.least *ℤ (pos c.min -ℤ pos 1))) are.0 g.3.0.weight;
     alone = λ h n e. let g = good (at_l (leads h)) in
         subst (λ a. dearest_from q.of s.moves a q.low ≤ℤ (k.most -ℤ k.least)) are.1
         ((paid h n g).0 (ap (place_of s.moves) (e ∙ sym are.0)));
@@ -181,7 +125,7 @@ module _ (s : System) (ls : List LoopShape) (ps : List Span) (whole : IsReachedW
         (subst (λ a. (((dearest_from q.of s.moves l.back q.low +ℤ worth_at w.worths (place_of s.moves a)) +ℤ (k.least *ℤ pos c.min)) -ℤ (k.most *ℤ pos c.max)) ≤ℤ worth_at w.worths (place_of s.moves c.back)) are.0
         ((paid h n g).1 (λ e. d (same_place c.back c.header h there (e ∙ ap (place_of s.moves) are.0)))));
     blocked = λ there is d. let g = good (at_l there) in
-        g.3 (no_step g.0 g.1 l.header (at_l there) (subst (λ a. is_back ls a ≡ true) (sym are.0) is))
+        g.3.1 (no_step g.0 g.1 l.header (at_l there) (subst (λ a. is_back ls a ≡ true) (sym are.0) is))
         (λ b e f. let r = back_reached l b e in
         d (sym are.1 ∙ (same_place l.back l.header r.0 (at_l there) (r.1 ∙ f) ∙ are.0)));
   }
@@ -190,11 +134,11 @@ module _ (s : System) (ls : List LoopShape) (ps : List Span) (whole : IsReachedW
       at_l h = subst (λ a. has_moves s.moves a ≡ true) (sym are.0) h
 
       paid : has_moves s.moves c.back ≡ true → is_stop s.claims c.back ≡ false → (g : Good c l k) → PaysBack w.worths (loop_of q.of q.low s.moves s.claims g.0 (function_steps s ls q.of g.1 g.0) c l) k (Some (place_of s.moves c.back))
-      paid h n g = subst (λ o. PaysBack w.worths (loop_of q.of q.low s.moves s.claims g.0 (function_steps s ls q.of g.1 g.0) c l) k o) (back_is c l are.1 h n) g.2.back
+      paid h n g = subst (λ o. PaysBack w.worths (loop_of q.of q.low s.moves s.claims g.0 (function_steps s ls q.of g.1 g.0) c l) k o) (back_is c l are.1 h n) g.3.0.back
 
   -- each claim is priced
   pub all_priced : (cs : List LoopClaim) (ks : List LoopShape) (us : List Pair) → AreShapesOf cs ks → ((c : LoopClaim) (l : LoopShape) → Contains ks l → l.back ≡ c.back → l.header ≡ c.header → has_moves s.moves c.back ≡ true → has_moves s.moves c.header ≡ true) →
-      AreDealt (IsDone (IsInOne ps)) cs ks us → ((a : ℕ) → has_moves s.moves a ≡ true → IsInOne ps a) → AreDealt IsPriced cs ks us
+      AreDealt (IsDone s ls q IsSigned IsGood signed (IsInOne ps)) cs ks us → ((a : ℕ) → has_moves s.moves a ≡ true → IsInOne ps a) → AreDealt IsPriced cs ks us
   all_priced [] [] us are leads h covered = tt
   all_priced [] (l ∷ ks) us are leads h covered = absurd h
   all_priced (c ∷ cs) [] us are leads h covered = absurd h
@@ -209,14 +153,12 @@ module _ (s : System) (ls : List LoopShape) (ps : List Span) (whole : IsReachedW
   low_at (suc n) low zero lt = omega (arith, ints)
   low_at (suc n) low (suc a) lt = low_at n low a (omega (arith, lt))
 
-  pub final_dealt : q.low ≤ℤ pos 0 → LoopsAreSettled s ls q w (blank (length s.moves) q.low) ps → AreDealt (IsDone (IsInOne ps)) s.claims.loops ls (pairs_from s ls q (blank (length s.moves) q.low) ps (no_pairs ls))
-  final_dealt negative settled =
-      dealt_map (IsDone (λ a. ⊥ ⊎ IsInOne ps a)) (IsDone (IsInOne ps)) (λ c l k d. (d.0, λ there o. d.1 there (inr o))) s.claims.loops ls (pairs_from s ls q (blank (length s.moves) q.low) ps (no_pairs ls))
-      (deal_all (λ a. ⊥) (blank (length s.moves) q.low) ps (no_pairs ls) settled
+  pub final_dealt : q.low ≤ℤ pos 0 → LoopsAreSettled s ls q w (blank (length s.moves) q.low) ps → AreDealt (IsDone s ls q IsSigned IsGood signed (IsInOne ps)) s.claims.loops ls (pairs_from s ls q (blank (length s.moves) q.low) ps (no_pairs ls))
+  final_dealt negative settled = all_dealt s ls q IsSigned IsGood signed (omega (arith, ints), omega (arith, ints)) (blank (length s.moves) q.low) ps whole.fits.shapes
+      (good_functions (blank (length s.moves) q.low) ps settled
       (all_blocked (blank (length s.moves) q.low) ps (λ r h. h)
       (let a = length-append (replicate (length s.moves) q.low) (pos 0 ∷ []) in let b = length-replicate (length s.moves) q.low in omega (arith, a, b))
-      (low_at (length s.moves) q.low) negative)
-      (none_done s.claims.loops ls whole.fits.shapes))
+      (low_at (length s.moves) q.low) negative))
 
 -- the dearest price of an address is no less than any of its prices
 pub dearest_most : (price : Move → ℤ) (ms : List Move) (a : ℕ) (z : ℤ) (m : Move) → Contains ms m → m.at ≡ a → price m ≤ℤ dearest_from price ms a z

@@ -36,7 +36,8 @@ use Rattle.path_duals.specs.Laws.{WalksAreDual}
 use Rattle.path_duals.proofs.PlainLemmas.{NoHeader, settled_plain}
 use Rattle.path_duals.proofs.PotentialLemmas.{all_of, potential_at}
 use Rattle.path_duals.proofs.HoldLemmas.{Alongside, hold, hold_none, hold_header, hold_back, hold_both, hold_free, never_pays, loops_hold, shut_pays, nevers_at_least}
-use Rattle.path_duals.proofs.PriceLemmas.{AreDealt, IsPriced, all_priced, final_dealt, dearest_most}
+use Rattle.path_duals.proofs.DealLemmas.{AreDealt}
+use Rattle.path_duals.proofs.PriceLemmas.{IsPriced, all_priced, final_dealt, dearest_most}
 
 -- ---- what is left at an address
 
@@ -122,7 +123,7 @@ module _ (s : System) (ls : List LoopShape) (ps : List Span) (whole : IsReachedW
   -- ---- the loops' multipliers
 
   -- a header has moves where its jump back has
-  leads : (c : LoopClaim) (l : LoopShape) → Contains ls l → l.back ≡ c.back → l.header ≡ c.header → has_moves s.moves c.back ≡ true → has_moves s.moves c.header ≡ true
+  pub leads : (c : LoopClaim) (l : LoopShape) → Contains ls l → l.back ≡ c.back → l.header ≡ c.header → has_moves s.moves c.back ≡ true → has_moves s.moves c.header ≡ true
   leads c l il e f h =
       let m = move_of s.moves c.back h in
       let goes = All-contains (λ (x : Move). x.at ≡ l.back → destinations x ≡ l.header ∷ []) s.moves m.0 (All-contains (IsLoop s) ls l whole.fits.loops il).goes_back m.1 (m.2 ∙ sym e) in

@@ -1,0 +1,3 @@
+pub mod Flows
+pub mod Opens
+pub mod Laws
