@@ -32,7 +32,7 @@ positive : (u : ℕ) → u ≢ 0 → 0 < u
 positive zero d = absurd (d refl)
 positive (suc u) d = omega arith
 
-hand_stands : (t : Bool) (chosen : Step → Bool) (n : ℕ) (us : List ℕ) (m : Step) (Open : ℕ → Type 0) (P : Step → Type 0) → chosen m ≡ t → IsStep n m → n < length us → GoesOpenly chosen Open P m → StandsOpen us Open →
+pub hand_stands : (t : Bool) (chosen : Step → Bool) (n : ℕ) (us : List ℕ) (m : Step) (Open : ℕ → Type 0) (P : Step → Type 0) → chosen m ≡ t → IsStep n m → n < length us → GoesOpenly chosen Open P m → StandsOpen us Open →
     (0 < made t us m → P m) × StandsOpen (handed t us m) Open
 hand_stands false chosen n us m Open P is i long goes stands = ((λ h. absurd (omega (arith, h))), stands)
 hand_stands true chosen n us m Open P is i long goes stands = ((λ h. (goes (stands m.at h) is).0), on)
@@ -101,7 +101,7 @@ pub is_le : (a b : ℤ) → int_le a b ≡ true → a ≤ℤ b
 is_le a b h = grind (arith, ints, nat_tests)
 
 -- a maximum that isn't low is the other number
-larger_open : (low least z : ℤ) → low <ℤ least → least ≤ℤ larger low z → (larger low z ≡ z) × (least ≤ℤ z)
+pub larger_open : (low least z : ℤ) → low <ℤ least → least ≤ℤ larger low z → (larger low z ≡ z) × (least ≤ℤ z)
 larger_open low least z above h = by_test (int_le low z) h
   where
     by_test : (t : Bool) → least ≤ℤ cond t z low → (cond t z low ≡ z) × (least ≤ℤ z)
@@ -190,7 +190,7 @@ weight_turns least calls low weights ms l above nothing turns wide why = by_way 
         let k0 = k.0 in
         record { way = t; is = e; wide = turns.turn t e k.1; gains = p; gain_is = omega (arith, ints) }
 
-may_turn : (l : Loop) (g : ℤ) → 0 < further_turns l g → (pos 0 ≤ℤ g) ⊎ (2 ≤ l.min)
+pub may_turn : (l : Loop) (g : ℤ) → 0 < further_turns l g → (pos 0 ≤ℤ g) ⊎ (2 ≤ l.min)
 may_turn l g h = by_test (int_lt g (pos 0)) refl (nat_le l.min 1) refl h
   where
     by_test : (t : Bool) → int_lt g (pos 0) ≡ t → (u : Bool) → nat_le l.min 1 ≡ u → 0 < cond t (cond u 0 (l.min - 1)) (l.max - 1) → (pos 0 ≤ℤ g) ⊎ (2 ≤ l.min)
@@ -198,7 +198,7 @@ may_turn l g h = by_test (int_lt g (pos 0)) refl (nat_le l.min 1) refl h
     by_test true t true e h = absurd (omega (arith, h))
     by_test true t false e h = inr (grind (arith, nat_tests))
 
-positive_product : (a b : ℕ) → 0 < a * b → (0 < a) × (0 < b)
+pub positive_product : (a b : ℕ) → 0 < a * b → (0 < a) × (0 < b)
 positive_product zero b h = absurd (omega (arith, h))
 positive_product (suc a) zero h = absurd (omega (arith, h))
 positive_product (suc a) (suc b) h = (omega arith, omega arith)
@@ -231,7 +231,7 @@ module _ (least : ℤ) (calls : Step → Type 0) (low : ℤ) (n : ℕ) (ms : Lis
               strict (suc a) zero h d = absurd (omega (arith, h))
               strict (suc a) (suc b) h d = let r = strict a b (omega (arith, h)) (λ e. d (ap suc e)) in omega (arith, r)
 
-  turn_made : (l : Loop) (ls : List Loop) → IsLoopOf n ms l → TurnsOpenly least calls low (weighed low ms weights ls) ms l → worth_at gw l.header ≡ first_weight low l (gain low (weighed low ms weights ls) l ms) → ((a : ℕ) → l.header < a → worth_at gw a ≡ worth_at (weighed low ms weights ls) a) →
+  pub turn_made : (l : Loop) (ls : List Loop) → IsLoopOf n ms l → TurnsOpenly least calls low (weighed low ms weights ls) ms l → worth_at gw l.header ≡ first_weight low l (gain low (weighed low ms weights ls) l ms) → ((a : ℕ) → l.header < a → worth_at gw a ≡ worth_at (weighed low ms weights ls) a) →
       (b : ℕ) (counts : List ℕ) → EachMade IsOpenStep ms counts → EachMade IsOpenStep ms (turn_counts n ms counts (turning_of low (weighed low ms weights ls) l ms (turn_ways low (weighed low ms weights ls) l ms) b))
   turn_made l ls fits turns first inner b counts before =
       by_departed (turns_of ms counts (turning_of low (weighed low ms weights ls) l ms (turn_ways low (weighed low ms weights ls) l ms) b)) refl
