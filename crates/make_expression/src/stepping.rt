@@ -176,18 +176,29 @@ fn stepped_behind(
     }
 }
 
+/// Whether a step's value is that before it, which step it is, and the type of its place.
+#[derive(Clone, Copy)]
+pub struct Step {
+    pub fix: Fix,
+    pub operator: PostfixOperator,
+    pub kind: Kind,
+}
+
 /// A step of a target.
 pub fn stepped(
     alloc: Global,
     purpose: Purpose,
-    fix: Fix,
-    operator: PostfixOperator,
-    kind: Kind,
+    step: Step,
     k: u32,
     aimed: Aimed,
 ) -> Result<Valued, Memory>
-    ensures { IfOk result (λ v. valued_of v ≡ stepped purpose fix (step_operator operator) kind k (aimed_of aimed).target (aimed_of aimed).code) }
+    ensures { IfOk result (λ v. valued_of v ≡ stepped purpose step.fix (step_operator step.operator) step.kind k (aimed_of aimed).target (aimed_of aimed).code) }
 {
+    let Step {
+        fix,
+        operator,
+        kind,
+    } = step;
     let operator = step_operator(operator);
     let change = Change {
         operator,

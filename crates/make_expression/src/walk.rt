@@ -1,6 +1,7 @@
 // The walk over an expression.
 ghost use Rattle.std.specs.Prelude.{◌≡◌, ◌+◌, ℕ, IfOk, zero};
-ghost use Rattle.c_typed.specs.Tree.{And, Conditional, Or};
+ghost use Rattle.c_typed.specs.Tree as trees;
+ghost use Rattle.c_typed.specs.Tree.{And, Assign, Conditional, Or, Update};
 ghost use Rattle.c_typed.specs.View.{expr_of, exprs_of, place_of};
 ghost use Rattle.make_expression.specs.Makes.{Makes, chosen_for, passing_of, way};
 ghost use Rattle.make_pieces.specs.View.{aimed_of, code_of, valued_of};
@@ -18,7 +19,7 @@ use super::operating::operate;
 use super::passing::{Passing, array_named};
 use super::purposes::{converted, for_operand, plain, signed_for};
 use super::scope::Scope;
-use super::stepping::stepped;
+use super::stepping::{Step, stepped};
 use c_typed::expression::{Expr, Place};
 use high_ir::expression::Expr as Made;
 use high_plan::Purpose;
@@ -114,9 +115,12 @@ fn made(scope: &Scope, purpose: Purpose, expr: &Expr, k: u32) -> Result<Valued, 
             target,
             ..
         } => {
-            let aimed = aimed(scope, target, k)?;
-            let step = stepped(alloc, purpose, *fix, *operator, *kind, k, aimed)?;
-            Ok(step.finished(alloc, purpose)?)
+            let step = Step {
+                fix: *fix,
+                operator: *operator,
+                kind: *kind,
+            };
+            Ok(stepped_place(scope, purpose, step, target, k)?)
         }
         Expr::Sign {
             operator,
@@ -167,9 +171,7 @@ fn made(scope: &Scope, purpose: Purpose, expr: &Expr, k: u32) -> Result<Valued, 
             Ok(chosen_for(alloc, purpose, code, k)?)
         }
         Expr::Assign { target, value, .. } => {
-            let (aimed, right) = aimed_and_value(scope, target, value, k)?;
-            let assigned = assigned(purpose, k, aimed, right)?;
-            Ok(assigned.finished(alloc, purpose)?)
+            Ok(assigned_place(scope, purpose, target, value, k)?)
         }
         Expr::Update {
             operator,
@@ -179,16 +181,63 @@ fn made(scope: &Scope, purpose: Purpose, expr: &Expr, k: u32) -> Result<Valued, 
             value,
             ..
         } => {
-            let (aimed, right) = aimed_and_value(scope, target, value, k)?;
             let change = Change {
                 operator: *operator,
                 kind: *kind,
                 to: *to,
             };
-            let updated = updated(alloc, purpose, change, k, aimed, right)?;
-            Ok(updated.finished(alloc, purpose)?)
+            Ok(updated_place(scope, purpose, change, target, value, k)?)
         }
     }
+}
+
+/// A step (C11 6.5.2.4, 6.5.3.1).
+#[cycle(expressions)]
+fn stepped_place(
+    scope: &Scope,
+    purpose: Purpose,
+    step: Step,
+    target: &Place,
+    k: u32,
+) -> Result<Valued, Memory>
+    ensures { IfOk result (λ v. (at : ℕ) → Makes purpose v (made scope.now.homes.now purpose (trees.Step step.fix step.operator step.kind (place_of target.now) at) k)) }
+{
+    let aimed = aimed(scope, target, k)?;
+    let stepped = stepped(scope.alloc, purpose, step, k, aimed)?;
+    Ok(stepped.finished(scope.alloc, purpose)?)
+}
+
+/// An assignment (C11 6.5.16.1).
+#[cycle(expressions)]
+fn assigned_place(
+    scope: &Scope,
+    purpose: Purpose,
+    target: &Place,
+    value: &Expr,
+    k: u32,
+) -> Result<Valued, Memory>
+    ensures { IfOk result (λ v. (at : ℕ) → Makes purpose v (made scope.now.homes.now purpose (Assign (place_of target.now) (expr_of value.now) at) k)) }
+{
+    let (aimed, right) = aimed_and_value(scope, target, value, k)?;
+    let assigned = assigned(purpose, k, aimed, right)?;
+    Ok(assigned.finished(scope.alloc, purpose)?)
+}
+
+/// A compound assignment (C11 6.5.16.2).
+#[cycle(expressions)]
+fn updated_place(
+    scope: &Scope,
+    purpose: Purpose,
+    change: Change,
+    target: &Place,
+    value: &Expr,
+    k: u32,
+) -> Result<Valued, Memory>
+    ensures { IfOk result (λ v. (at : ℕ) → Makes purpose v (made scope.now.homes.now purpose (Update change.operator change.kind change.to (place_of target.now) (expr_of value.now) at) k)) }
+{
+    let (aimed, right) = aimed_and_value(scope, target, value, k)?;
+    let updated = updated(scope.alloc, purpose, change, k, aimed, right)?;
+    Ok(updated.finished(scope.alloc, purpose)?)
 }
 
 /// The value of an expression.

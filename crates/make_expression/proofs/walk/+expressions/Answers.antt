@@ -1,6 +1,6 @@
 use Rattle.std.proofs.Common.{◌-◌, ◌<◌, ap, arith, length, subst, sym, ◌∙◌}
-use Rattle.c_typed.specs.Tree.{And, Or}
-use Rattle.c_typed.specs.View.{expr_of, exprs_of}
+use Rattle.c_typed.specs.Tree.{And, Assign, Or, Step, Update}
+use Rattle.c_typed.specs.View.{expr_of, exprs_of, place_of}
 use Rattle.high_plan.specs.Values.{called, finished, made, passing, plain}
 use Rattle.make_expression.specs.Makes.{Makes}
 use Rattle.make_expression.proofs.Making.{converted_makes, made_at, made_of_call, makes_same, size_at, size_of_call}
@@ -61,3 +61,30 @@ made-returns-in_ok-disjunction-in-Or t c =
     (c.in_ok-disjunction-in-Or.ensures c.in-Or.at
     ∙ ap (λ x. made homes c.args.purpose (Or (expr_of x) (expr_of c.deref-in-Or-2.result.now) c.in-Or.at) c.args.k) c.deref-in-Or.ensures
     ∙ ap (λ y. made homes c.args.purpose (Or (expr_of c.in-Or.left.value) (expr_of y) c.in-Or.at) c.args.k) c.deref-in-Or-2.ensures))
+
+pub made-returns-in_ok-stepped_place-in-Step : goal.made-returns-in_ok-stepped_place-in-Step
+made-returns-in_ok-stepped_place-in-Step t c =
+    let homes = c.args.scope.now.homes.now in
+    let v = c.in_ok-stepped_place-in-Step.field-0 in
+    made_at homes c.args.purpose c.args.expr.now _ c.args.k v c.in-Step.is
+    (subst (λ x. Makes c.args.purpose v (made homes c.args.purpose (Step c.in-Step.fix c.in-Step.operator c.in-Step.kind (place_of x) c.in-Step.at) c.args.k)) c.deref-in-Step.ensures
+    (c.in_ok-stepped_place-in-Step.ensures c.in-Step.at))
+
+pub made-returns-in_ok-assigned_place-in-Assign : goal.made-returns-in_ok-assigned_place-in-Assign
+made-returns-in_ok-assigned_place-in-Assign t c =
+    let homes = c.args.scope.now.homes.now in
+    let v = c.in_ok-assigned_place-in-Assign.field-0 in
+    made_at homes c.args.purpose c.args.expr.now _ c.args.k v c.in-Assign.is
+    (subst (λ x. Makes c.args.purpose v (made homes c.args.purpose (Assign (place_of c.in-Assign.target.value) (expr_of x) c.in-Assign.at) c.args.k)) c.deref-in-Assign-2.ensures
+    (subst (λ x. Makes c.args.purpose v (made homes c.args.purpose (Assign (place_of x) (expr_of c.deref-in-Assign-2.result.now) c.in-Assign.at) c.args.k)) c.deref-in-Assign.ensures
+    (c.in_ok-assigned_place-in-Assign.ensures c.in-Assign.at)))
+
+pub made-returns-in_ok-updated_place-in-Update : goal.made-returns-in_ok-updated_place-in-Update
+made-returns-in_ok-updated_place-in-Update t c =
+    let homes = c.args.scope.now.homes.now in
+    let v = c.in_ok-updated_place-in-Update.field-0 in
+    let updates = Update c.in-Update.operator c.in-Update.kind c.in-Update.to in
+    made_at homes c.args.purpose c.args.expr.now _ c.args.k v c.in-Update.is
+    (subst (λ x. Makes c.args.purpose v (made homes c.args.purpose (updates (place_of c.in-Update.target.value) (expr_of x) c.in-Update.at) c.args.k)) c.deref-in-Update-2.ensures
+    (subst (λ x. Makes c.args.purpose v (made homes c.args.purpose (updates (place_of x) (expr_of c.deref-in-Update-2.result.now) c.in-Update.at) c.args.k)) c.deref-in-Update.ensures
+    (c.in_ok-updated_place-in-Update.ensures c.in-Update.at)))

@@ -8,6 +8,15 @@ use Rattle.make_expression.proofs.walk.+expressions.Given as goal
 abbrev pub decreases-made : goal.decreases-made
 decreases-made l = 4 * expr_size (expr_of l.expr.now)
 
+abbrev pub decreases-stepped_place : goal.decreases-stepped_place
+decreases-stepped_place l = 4 * place_size (place_of l.target.now) + 1
+
+abbrev pub decreases-assigned_place : goal.decreases-assigned_place
+decreases-assigned_place l = 4 * (place_size (place_of l.target.now) + expr_size (expr_of l.value.now)) + 3
+
+abbrev pub decreases-updated_place : goal.decreases-updated_place
+decreases-updated_place l = 4 * (place_size (place_of l.target.now) + expr_size (expr_of l.value.now)) + 3
+
 abbrev pub decreases-value : goal.decreases-value
 decreases-value l = 4 * expr_size (expr_of l.expr.now) + 1
 
