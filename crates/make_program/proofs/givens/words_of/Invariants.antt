@@ -1,0 +1,7 @@
+use Rattle.std.proofs.Common.{◌≡◌, ◌++◌, drop}
+use Rattle.c_typed.specs.View.{exprs_of}
+use Rattle.high_plan.specs.Layouts.{words_of}
+use Rattle.make_program.proofs.givens.words_of.Given as goal
+
+abbrev pub invariant-loop-expr : goal.invariant-loop-expr
+invariant-loop-expr l = l.words.items ++ words_of (exprs_of (drop l.expr-index l.exprs)) ≡ words_of (exprs_of l.exprs)
