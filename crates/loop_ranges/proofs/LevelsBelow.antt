@@ -30,7 +30,7 @@ module _ (low most : ℤ) (n q : ℕ) (x : Loose) (h : low ≤ℤ pos 0) (pm : p
   abbrev step : ℤ
   step = ((most +ℤ most) -ℤ low) +ℤ pos q
 
-  level_in_below : (v : Level) (l : Loop) (ls : List Loop) (t : Turn) (ts : List Turn) (bound : ℤ) → AreLoops n ms (l ∷ ls) → AreLooseTurns low most x ms (l ∷ ls) (t ∷ ts) → HaveNone weights (l ∷ ls) → l.min ≤ q → low ≤ℤ bound →
+  pub level_in_below : (v : Level) (l : Loop) (ls : List Loop) (t : Turn) (ts : List Turn) (bound : ℤ) → AreLoops n ms (l ∷ ls) → AreLooseTurns low most x ms (l ∷ ls) (t ∷ ts) → HaveNone weights (l ∷ ls) → l.min ≤ q → low ≤ℤ bound →
       Before low n ms v l (weighed low ms weights ls) (level_pair low ms v.worths l (gain low (weighed low ms weights ls) l ms)) → AreBelow bound v.worths →
       AreBelow (bound +ℤ step) (level_by ms v l (level_pair low ms v.worths l (gain low (weighed low ms weights ls) l ms))).worths
   level_in_below v l ls t ts bound loops loose none few least k below a =

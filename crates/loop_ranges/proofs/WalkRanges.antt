@@ -102,7 +102,7 @@ module _ (low : ℤ) (x : Loose) (h : low ≤ℤ pos 0) where
           (subst (λ b. IsNearWay low (way_at ts (m.on - l.header)) (t.way b)) e (near (m.on - l.header)))
     ]
 
-    turned_near : (ts : List (Option ℤ)) (ms : List Step) → length ts ≡ l.end - l.header → Each (IsTurn low x l t weights) ms → AreNearWays low l t ts → AreNearWays low l t (turned low weights l.header ts ms)
+    pub turned_near : (ts : List (Option ℤ)) (ms : List Step) → length ts ≡ l.end - l.header → Each (IsTurn low x l t weights) ms → AreNearWays low l t ts → AreNearWays low l t (turned low weights l.header ts ms)
     turned_near ts [] long k near j = near j
     turned_near ts (m ∷ ms) long k near j = by_place (turned_near ts ms long k.1 near)
       where
@@ -120,7 +120,7 @@ module _ (low : ℤ) (x : Loose) (h : low ≤ℤ pos 0) where
           | inr q ↦ let e = turn_other low weights l.header (turned low weights l.header ts ms) m j q.1 in rw e (r j)
         ]
 
-    start_near : (o : Option ℕ) → ((b : ℕ) → o ≡ Some b → (l.header ≤ b) × (b < l.end)) → ((b : ℕ) → o ≡ Some b → IsThere (t.way b)) → AreNearWays low l t (with_back o l.header (replicate (l.end - l.header) None))
+    pub start_near : (o : Option ℕ) → ((b : ℕ) → o ≡ Some b → (l.header ≤ b) × (b < l.end)) → ((b : ℕ) → o ≡ Some b → IsThere (t.way b)) → AreNearWays low l t (with_back o l.header (replicate (l.end - l.header) None))
     start_near None within back i = rw (none_at (l.end - l.header) i) tt
     start_near (Some b) within back i = elim (eqb_tells i (b - l.header)) [
       | inl q ↦
@@ -137,7 +137,7 @@ module _ (low : ℤ) (x : Loose) (h : low ≤ℤ pos 0) where
     ways_are_near most ms within loose steps = turned_near (turn_start l) (range_steps l ms) (turn_start-long l) steps (start_near l.back within loose.back)
 
     -- what a turn gains is near what it gains loosely
-    turn_near : (most : ℤ) (ms : List Step) → ((b : ℕ) → l.back ≡ Some b → (l.header ≤ b) × (b < l.end)) → IsLooseTurn low most x ms l t → Each (IsTurn low x l t weights) (range_steps l ms) → IsNear low (gain low weights l ms) t.gain
+    pub turn_near : (most : ℤ) (ms : List Step) → ((b : ℕ) → l.back ≡ Some b → (l.header ≤ b) × (b < l.end)) → IsLooseTurn low most x ms l t → Each (IsTurn low x l t weights) (range_steps l ms) → IsNear low (gain low weights l ms) t.gain
     turn_near most ms within loose steps =
         let ways = ways_are_near most ms within loose steps in
         let e : l.header + 0 ≡ l.header = omega arith in
@@ -157,7 +157,7 @@ module _ (low most : ℤ) (x : Loose) (h : low ≤ℤ pos 0) (small : (most +ℤ
   ]
 
   -- the steps of a range are turns
-  range_turns : (n : ℕ) (ms : List Step) (l : Loop) (t : Turn) (weights : List ℤ) → IsLoopOf n ms l → Each (IsStep n) ms → worth_at weights l.header ≡ pos 0 → Each (IsNearWeight low x weights) ms → IsLooseTurn low most x ms l t → Each (IsTurn low x l t weights) (range_steps l ms)
+  pub range_turns : (n : ℕ) (ms : List Step) (l : Loop) (t : Turn) (weights : List ℤ) → IsLoopOf n ms l → Each (IsStep n) ms → worth_at weights l.header ≡ pos 0 → Each (IsNearWeight low x weights) ms → IsLooseTurn low most x ms l t → Each (IsTurn low x l t weights) (range_steps l ms)
   range_turns n ms l t weights fits steps none near loose =
       let inside = range_in n ms l fits in
       each_both (λ m. ((l.header ≤ m.at) × ((m.at - l.header) < (l.end - l.header))) × IsStep n m) (λ m. IsNearWeight low x weights m × TurnsLoosely low x l t m) (IsTurn low x l t weights) (range_steps l ms)
@@ -165,7 +165,7 @@ module _ (low most : ℤ) (x : Loose) (h : low ≤ℤ pos 0) (small : (most +ℤ
       (each_both (λ m. (l.header ≤ m.at) × ((m.at - l.header) < (l.end - l.header))) (IsStep n) (λ m. ((l.header ≤ m.at) × ((m.at - l.header) < (l.end - l.header))) × IsStep n m) (range_steps l ms) (λ m a b. (a, b)) inside (each_between (IsStep n) l.head l.rest ms steps))
       (each_both (IsNearWeight low x weights) (TurnsLoosely low x l t) (λ m. IsNearWeight low x weights m × TurnsLoosely low x l t m) (range_steps l ms) (λ m a b. (a, b)) (each_between (IsNearWeight low x weights) l.head l.rest ms near) loose.steps)
 
-  back_within : (n : ℕ) (ms : List Step) (l : Loop) → IsLoopOf n ms l → (b : ℕ) → l.back ≡ Some b → (l.header ≤ b) × (b < l.end)
+  pub back_within : (n : ℕ) (ms : List Step) (l : Loop) → IsLoopOf n ms l → (b : ℕ) → l.back ≡ Some b → (l.header ≤ b) × (b < l.end)
   back_within n ms l fits b is = let i : IsBack l ms (Some b) = subst (λ o. IsBack l ms o) is fits.back in (i.0, i.1)
 
   -- the ways of a turn are near the loose ones
@@ -200,7 +200,7 @@ module _ (low most : ℤ) (x : Loose) (h : low ≤ℤ pos 0) (small : (most +ℤ
             | inr q ↦ kept m q.1 n
           ]
 
-  weighed-long : (ms : List Step) (weights : List ℤ) (ls : List Loop) → length (weighed low ms weights ls) ≡ length weights
+  pub weighed-long : (ms : List Step) (weights : List ℤ) (ls : List Loop) → length (weighed low ms weights ls) ≡ length weights
   weighed-long ms weights [] = refl
   weighed-long ms weights (l ∷ ls) = length-set (weighed low ms weights ls) l.header (first_weight low l (gain low (weighed low ms weights ls) l ms)) ∙ weighed-long ms weights ls
 

@@ -172,7 +172,7 @@ module _ (s : System) (ls : List LoopShape) (ps : List Span) (q : Prices) (price
       }
 
   -- steps go on to own places
-  on_own : Each (λ m. is_own s.moves p m.on ≡ true) (function_steps s ls q.of v.worths p)
+  pub on_own : Each (λ m. is_own s.moves p m.on ≡ true) (function_steps s ls q.of v.worths p)
   on_own = steps_each (λ m. is_own s.moves p m.on ≡ true) q.of s.moves v.worths (is_walked s.claims ls p) s.moves
       (λ m im w. by_list m im (walked_in p (not (is_stop s.claims m.at || is_back ls m.at)) m.at w) (first_or (onward m)))
     where
@@ -188,7 +188,7 @@ module _ (s : System) (ls : List LoopShape) (ps : List Span) (q : Prices) (price
             (subst (λ a. is_own s.moves p (place_of s.moves a) ≡ true) k.2 (own_at s.moves p k.0 k.1 (subst (λ a. IsInSpan p a) (sym k.2) stays)))
       ]
 
-  begins_near : (a : ℕ) → is_own s.moves p a ≡ true → IsNear q.low (worth_at v.worths a) (worth_at (loose_function s ls price ws p).worths a)
+  pub begins_near : (a : ℕ) → is_own s.moves p a ≡ true → IsNear q.low (worth_at v.worths a) (worth_at (loose_function s ls price ws p).worths a)
   begins_near a own = elim (own_cases s.moves p a own) [
     | inl e ↦
         let z : worth_at v.worths a ≡ pos 0 = ap (λ c. worth_at v.worths c) e ∙ fresh.behind in

@@ -46,11 +46,11 @@ prices_positive f g (m ∷ ms) h =
     All-cons (λ m. pos 0 ≤ℤ g m) m ms (omega (arith, ints)) (prices_positive f g ms (All-tail (λ m. IsUpTo (f m) (g m)) m ms h))
 
 module _ (s : System) (ls : List LoopShape) (ps : List Span) (q : Prices) (price : Move → ℤ) (most : ℤ) (starts : ℕ) (b : IsBounded s ls ps q price most starts) where
-  prices : All (λ m. pos 0 ≤ℤ price m) s.moves
+  pub prices : All (λ m. pos 0 ≤ℤ price m) s.moves
   prices = prices_positive q.of price s.moves b.prices
 
   -- the address is the least of its function's
-  abbrev IsFirst : ℕ → Type 0
+  abbrev pub IsFirst : ℕ → Type 0
   IsFirst t = (x : ℕ) → has_moves s.moves x ≡ true → rank ps x ≡ rank ps t → t ≤ x
 
   -- before the functions from the number k on are settled
@@ -65,15 +65,15 @@ module _ (s : System) (ls : List LoopShape) (ps : List Span) (q : Prices) (price
     pub flows : (i : ℕ) → IsFrom s ls ps b.whole price i (worth_at ws i)
     pub near : (t : ℕ) → has_moves s.moves t ≡ true → rank ps t < k → IsFirst t → IsNear q.low (worth_at v.worths (place_of s.moves t)) (worth_at ws (place_of s.moves t))
 
-  in_one_of : (x : ℕ) → has_moves s.moves x ≡ true → IsInOne ps x
+  pub in_one_of : (x : ℕ) → has_moves s.moves x ≡ true → IsInOne ps x
   in_one_of x there = let m = move_of s.moves x there in subst (λ a. IsInOne ps a) m.2 (All-contains (λ (y : Move). IsInOne ps y.at) s.moves m.0 b.whole.fits.covered m.1)
 
   module _ (k : ℕ) (v : Level) (ws : List ℤ) (r : Span) (rs : List Span) (h : Holds k v ws (r ∷ rs)) (ir : Contains ps r) (number : (x : ℕ) → IsInSpan r x → rank ps x ≡ k) (apart : All (AreApart r) rs)
       (below : (a : ℕ) → worth_at (loose_function s ls price ws r).worths a ≤ℤ most) where
-    fresh_for : IsFreshFor s q v r
+    pub fresh_for : IsFreshFor s q v r
     fresh_for = record { worths = λ x t i. (h.fresh x t (inl i)).0; weights = λ x t i. (h.fresh x t (inl i)).1; behind = h.behind }
 
-    calls_near : (m : Move) → Contains s.moves m → IsInSpan r m.at → (t j : ℕ) → m.to ≡ Some t → m.behind ≡ Some j → IsNear q.low (worth_at v.worths (place_of s.moves t)) (worth_at ws (place_of s.moves t))
+    pub calls_near : (m : Move) → Contains s.moves m → IsInSpan r m.at → (t j : ℕ) → m.to ≡ Some t → m.behind ≡ Some j → IsNear q.low (worth_at v.worths (place_of s.moves t)) (worth_at ws (place_of s.moves t))
     calls_near m im inside t j e f =
         let lt = calls_before s ls ps b.whole.fits b.whole.filled m im t j e f in
         let n = number m.at inside in
@@ -86,11 +86,11 @@ module _ (s : System) (ls : List LoopShape) (ps : List Span) (q : Prices) (price
     held : Held q.low (function_steps s ls q.of v.worths r) (ground q.low (function_steps s ls q.of v.worths r) v (function_loops s ls q v.worths r)) (function_level s ls q v r) (function_loops s ls q v.worths r) (function_pairs s ls q v r)
     held = function_holds s ls ps b.whole q v r ir h.long_worths h.long_weights fresh_for.weights
 
-    leaves_other : (x : ℕ) → has_moves s.moves x ≡ true → (IsInSpan r x → ⊥) → (worth_at (function_level s ls q v r).worths (place_of s.moves x) ≡ worth_at v.worths (place_of s.moves x)) × (worth_at (function_level s ls q v r).weights (place_of s.moves x) ≡ worth_at v.weights (place_of s.moves x))
+    pub leaves_other : (x : ℕ) → has_moves s.moves x ≡ true → (IsInSpan r x → ⊥) → (worth_at (function_level s ls q v r).worths (place_of s.moves x) ≡ worth_at v.worths (place_of s.moves x)) × (worth_at (function_level s ls q v r).weights (place_of s.moves x) ≡ worth_at v.weights (place_of s.moves x))
     leaves_other x there out = function_leaves s ls ps b.whole q v r (place_of s.moves x) ir (inl (x, there, out, refl))
 
     -- headers of the function are not before its first address
-    headers_behind : (t : ℕ) → has_moves s.moves t ≡ true → rank ps t ≡ k → IsFirst t → (ms : List Step) (cs : List LoopClaim) (ks : List LoopShape) → NotBehind (place_of s.moves t) (loops_of q.of q.low s.moves s.claims r ms cs ks)
+    pub headers_behind : (t : ℕ) → has_moves s.moves t ≡ true → rank ps t ≡ k → IsFirst t → (ms : List Step) (cs : List LoopClaim) (ks : List LoopShape) → NotBehind (place_of s.moves t) (loops_of q.of q.low s.moves s.claims r ms cs ks)
     headers_behind t there rk first ms [] ks = tt
     headers_behind t there rk first ms (c ∷ cs) [] = tt
     headers_behind t there rk first ms (c ∷ cs) (l ∷ ks) = by_test (in_span r l.header) refl (has_moves s.moves l.header) refl (headers_behind t there rk first ms cs ks)
@@ -165,19 +165,21 @@ blank_above low zero (suc a) h = h
 blank_above low (suc n) zero h = omega (arith, ints)
 blank_above low (suc n) (suc a) h = blank_above low n a h
 
+pub start_holds : (s : System) (ls : List LoopShape) (ps : List Span) (q : Prices) (price : Move → ℤ) (most : ℤ) (starts : ℕ) (b : IsBounded s ls ps q price most starts) → Holds s ls ps q price most starts b 0 (blank (length s.moves) q.low) (no_worths (length s.moves)) ps
+start_holds s ls ps q price most starts b = record {
+  long_worths = (let a = length-append (replicate (length s.moves) q.low) (pos 0 ∷ []) in let c = length-replicate (length s.moves) q.low in omega (arith, a, c));
+  long_weights = (let c = length-replicate (length s.moves + 1) (pos 0) in omega (arith, c));
+  fresh = λ x there o. (blank_low q.low (length s.moves) (place_of s.moves x) (place_below s.moves x there), zero_at (length s.moves + 1) (place_of s.moves x));
+  behind = blank_end q.low (length s.moves);
+  above = λ a. blank_above q.low (length s.moves) a (let c = b.apart in let d = b.positive in omega (arith, ints));
+  long = (let c = length-replicate (length s.moves + 1) (pos 0) in omega (arith, c));
+  positive = λ a. let e = zero_at (length s.moves + 1) a in omega (arith, ints);
+  flows = start_flows s ls ps b.whole price (prices s ls ps q price most starts b);
+  near = λ t there lt first. absurd (omega (arith, lt));
+}
+
 pub walks_bounded : (s : System) (ls : List LoopShape) (ps : List Span) → WalksAreBounded s ls ps
 walks_bounded s ls ps q price most starts b =
-    walks_from s ls ps q price most starts b 0 (blank (length s.moves) q.low) (no_worths (length s.moves)) ps
-    (record {
-      long_worths = (let a = length-append (replicate (length s.moves) q.low) (pos 0 ∷ []) in let c = length-replicate (length s.moves) q.low in omega (arith, a, c));
-      long_weights = (let c = length-replicate (length s.moves + 1) (pos 0) in omega (arith, c));
-      fresh = λ x there o. (blank_low q.low (length s.moves) (place_of s.moves x) (place_below s.moves x there), zero_at (length s.moves + 1) (place_of s.moves x));
-      behind = blank_end q.low (length s.moves);
-      above = λ a. blank_above q.low (length s.moves) a (let c = b.apart in let d = b.positive in omega (arith, ints));
-      long = (let c = length-replicate (length s.moves + 1) (pos 0) in omega (arith, c));
-      positive = λ a. let e = zero_at (length s.moves + 1) a in omega (arith, ints);
-      flows = start_flows s ls ps b.whole price (prices s ls ps q price most starts b);
-      near = λ t there lt first. absurd (omega (arith, lt));
-    })
+    walks_from s ls ps q price most starts b 0 (blank (length s.moves) q.low) (no_worths (length s.moves)) ps (start_holds s ls ps q price most starts b)
     (λ r i. i) (numbered s ls ps b.whole q 0 ps b.whole.fits.apart (λ x i. omega arith)) b.whole.fits.apart
     (worths_below s ls ps b.whole price most (prices s ls ps q price most starts b) b.positive b.totals)

@@ -26,16 +26,16 @@ use Rattle.path_ranges.proofs.FunctionRanges.{is_own_of, own_move, own_is}
 use Rattle.path_ranges.proofs.SystemRanges.{walks_bounded}
 use Rattle.path_ranges.proofs.CountLemmas.{kept, loops-kept, all_kept, all_kept_most, reach_least, reach-add, reach_grows}
 
-abbrev AreAbove : ℤ → List ℤ → Type 0
+abbrev pub AreAbove : ℤ → List ℤ → Type 0
 AreAbove low ws = (a : ℕ) → low ≤ℤ worth_at ws a
 
 module _ (s : System) (ls : List LoopShape) (q : Prices) (most : ℤ) (starts : ℕ) (negative : q.low ≤ℤ pos 0) (positive : pos 0 ≤ℤ most) where
-  step_positive : pos 0 ≤ℤ loop_step q most starts
+  pub step_positive : pos 0 ≤ℤ loop_step q most starts
   step_positive = omega (arith, ints)
 
   module _ (v : Level) (p : Span) (f : IsLooseFunction s ls q most starts v p) where
     -- no step begins at a place that isn't the function's own
-    none_begins : (a : ℕ) → is_own_of s.moves p a s.moves ≡ false → Each (λ m. m.at ≢ a) (function_steps s ls q.of v.worths p)
+    pub none_begins : (a : ℕ) → is_own_of s.moves p a s.moves ≡ false → Each (λ m. m.at ≢ a) (function_steps s ls q.of v.worths p)
     none_begins a out = steps_each (λ m. m.at ≢ a) q.of s.moves v.worths (is_walked s.claims ls p) s.moves
         (λ m im w e. apart (is_own_of s.moves p a s.moves) out (subst (λ c. is_own_of s.moves p c s.moves ≡ true) e (own_move s.moves p s.moves m im (walked_in p (not (is_stop s.claims m.at || is_back ls m.at)) m.at w))))
       where
@@ -43,7 +43,7 @@ module _ (s : System) (ls : List LoopShape) (q : Prices) (most : ℤ) (starts : 
         apart true e h = cc
         apart false e h = cc
 
-    ground_below : (bound : ℤ) → most ≤ℤ bound → AreBelow bound v.worths → AreBelow bound (ground q.low (function_steps s ls q.of v.worths p) v (function_loops s ls q v.worths p)).worths
+    pub ground_below : (bound : ℤ) → most ≤ℤ bound → AreBelow bound v.worths → AreBelow bound (ground q.low (function_steps s ls q.of v.worths p) v (function_loops s ls q v.worths p)).worths
     ground_below bound le below a = by_own (is_own_of s.moves p a s.moves) refl
       where
         by_own : (t : Bool) → is_own_of s.moves p a s.moves ≡ t → worth_at (ground q.low (function_steps s ls q.of v.worths p) v (function_loops s ls q v.worths p)).worths a ≤ℤ bound
@@ -57,10 +57,10 @@ module _ (s : System) (ls : List LoopShape) (q : Prices) (most : ℤ) (starts : 
             let o = relaxed_other (weighed q.low (function_steps s ls q.of v.worths p) v.weights (function_loops s ls q v.worths p)) v.worths (function_steps s ls q.of v.worths p) a (none_begins a e) in
             let u = below a in omega (arith, ints)
 
-    function_below : (bound : ℤ) → most ≤ℤ bound → AreBelow bound v.worths → AreBelow (reach (loop_step q most starts) bound (length (function_loops s ls q v.worths p))) (function_level s ls q v p).worths
+    pub function_below : (bound : ℤ) → most ≤ℤ bound → AreBelow bound v.worths → AreBelow (reach (loop_step q most starts) bound (length (function_loops s ls q v.worths p))) (function_level s ls q v p).worths
     function_below bound le below = worths_below q.low most starts (length s.moves) f.loose (function_steps s ls q.of v.worths p) v (function_loops s ls q v.worths p) f.turns f.code bound (omega (arith, ints)) (ground_below bound le below)
 
-    function_above : AreAbove q.low v.worths → AreAbove q.low (function_level s ls q v p).worths
+    pub function_above : AreAbove q.low v.worths → AreAbove q.low (function_level s ls q v p).worths
     function_above above a =
         let c = f.code in
         let h = (settled_holds q.low (length s.moves) (function_steps s ls q.of v.worths p) v (function_loops s ls q v.worths p) c.blank.worths_long c.blank.weights_long c.steps c.loops c.blank.none).grows a in
@@ -79,7 +79,7 @@ module _ (s : System) (ls : List LoopShape) (q : Prices) (most : ℤ) (starts : 
       (λ a. subst (λ (z : ℤ). worth_at (functions_level s ls q (function_level s ls q v r) rs).worths a ≤ℤ z) (sym (reach-add (loop_step q most starts) bound (kept s.moves r s.claims.loops ls) (all_kept s.moves rs s.claims.loops ls))) (k.0 a), k.1)
 
 -- at first
-blank_within : (low most : ℤ) (n a : ℕ) → low ≤ℤ pos 0 → pos 0 ≤ℤ most → (low ≤ℤ worth_at (replicate n low ++ pos 0 ∷ []) a) × (worth_at (replicate n low ++ pos 0 ∷ []) a ≤ℤ most)
+pub blank_within : (low most : ℤ) (n a : ℕ) → low ≤ℤ pos 0 → pos 0 ≤ℤ most → (low ≤ℤ worth_at (replicate n low ++ pos 0 ∷ []) a) × (worth_at (replicate n low ++ pos 0 ∷ []) a ≤ℤ most)
 blank_within low most zero zero h p = (h, p)
 blank_within low most zero (suc a) h p = (h, p)
 blank_within low most (suc n) zero h p = (omega (arith, ints), omega (arith, ints))

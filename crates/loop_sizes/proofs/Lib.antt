@@ -1,0 +1,4 @@
+pub mod SuffixLemmas
+pub mod PairSizes
+pub mod TurnSizes
+pub mod LevelSizes

@@ -1,0 +1,32 @@
+-- Numbers that fit: all through the settling of a system.
+use Rattle.std.specs.Prelude.{ℕ, ◌^◌, ℤ, pos, ◌+ℤ◌, ◌-ℤ◌, ◌≤ℤ◌, ◌<ℤ◌, List, [], ◌∷◌, length}
+use Rattle.flow_system.specs.declared.moves.Move.{Move}
+use Rattle.flow_system.specs.declared.shapes.LoopShape.{LoopShape}
+use Rattle.flow_system.specs.declared.shapes.Span.{Span}
+use Rattle.flow_system.specs.Systems.{System}
+use Rattle.loop_walks.specs.Levels.{Level}
+use Rattle.loop_ranges.specs.Reach.{reach}
+use Rattle.loop_worths.specs.Sizes.{StaysSmall}
+use Rattle.loop_sizes.specs.Laws.{IsSized}
+use Rattle.path_places.specs.Laws.{function_steps}
+use Rattle.path_rows.specs.Driver.{Prices, blank, function_loops, function_level}
+use Rattle.path_ranges.specs.Bounded.{IsBounded}
+use Rattle.path_ranges.specs.Ranges.{loop_step}
+
+abbrev pub AllStaySmall : System → List LoopShape → Prices → Level → List Span → Type 0
+AllStaySmall s ls q v [] = Unit {0}
+AllStaySmall s ls q v (p ∷ ps) = StaysSmall q.low (function_steps s ls q.of v.worths p) v (function_loops s ls q v.worths p) × AllStaySmall s ls q (function_level s ls q v p) ps
+
+-- and no worth, weight or multiplier is larger than that
+abbrev pub AllAreSized : System → List LoopShape → Prices → ℤ → Level → List Span → Type 0
+AllAreSized s ls q size v [] = Unit {0}
+AllAreSized s ls q size v (p ∷ ps) = IsSized q.low size (function_steps s ls q.of v.worths p) v (function_loops s ls q v.worths p) × AllAreSized s ls q size (function_level s ls q v p) ps
+
+-- enough for all loops: what their worths reach, and twice a block, the greatest loose number and the most starts beside
+abbrev pub IsEnough : System → Prices → ℤ → ℕ → ℤ → Type 0
+IsEnough s q most starts size = (reach (loop_step q most starts) most (length s.claims.loops) +ℤ ((most -ℤ (q.low +ℤ q.low)) +ℤ pos starts)) ≤ℤ size
+
+-- at any prices
+abbrev pub NumbersFit : System → List LoopShape → List Span → Type 0
+NumbersFit s ls ps = (q : Prices) (price : Move → ℤ) (most : ℤ) (starts : ℕ) (size : ℤ) → IsBounded s ls ps q price most starts → IsEnough s q most starts size → size <ℤ pos (2 ^ 124) →
+    AllStaySmall s ls q (blank (length s.moves) q.low) ps × AllAreSized s ls q size (blank (length s.moves) q.low) ps
