@@ -4,3 +4,4 @@ pub mod Spread
 pub mod Alike
 pub mod Linked
 pub mod Placed
+pub mod Exits

@@ -1,7 +1,8 @@
 -- What is written of functions in the chosen forms is placed as a graph wants it.
-use Rattle.std.specs.Prelude.{◌≡◌, ℕ, ◌<◌, List}
+use Rattle.std.specs.Prelude.{◌≡◌, ℕ, ◌<◌, List, length}
 use Rattle.rv_core.specs.Code.{instruction_in}
 use Rattle.rv_core.specs.Images.{Image}
+use Rattle.flow_system.specs.Claims.{is_listed}
 use Rattle.flow_system.specs.Moves.{Code}
 use Rattle.code_items.specs.Placings.{Blocks, start_of}
 use Rattle.code_items.specs.Standing.{ListsExits}
@@ -11,9 +12,15 @@ use Rattle.code_forms.specs.Regions.{Rows}
 use Rattle.code_forms.specs.Sound.{FunctionsSound}
 use Rattle.laid_code.specs.Graphs.{Graph}
 use Rattle.laid_code.specs.Placed.{IsPlaced}
-use Rattle.placed_code.specs.Promised.{Promised, block_in}
+use Rattle.placed_code.specs.Promised.{Promised, blocks_in, block_in}
+use Rattle.placed_code.specs.Exits.{exits_of}
 use Rattle.placed_code.specs.Written.{IsWritten, RowsApart, placing_of}
 
 abbrev pub CodeIsPlaced : Image → Type 0
 CodeIsPlaced image = (g : Graph) (r : Rows) (fs : List Blocks) (c : Code) → Promised g fs → FunctionsSound fs → HasRoom r fs → RowsApart r fs → IsWritten r (formed r fs) image → ((a : ℕ) → c.fetch a ≡ instruction_in image a)
     → ((f b : ℕ) → f < g.functions → b < g.blocks f → ListsExits c (start_of (placing_of r (formed r fs)) f b) (block_in (formed r fs) f b)) → IsPlaced g (placing_of r (formed r fs)) c
+
+-- where these addresses are listed, and no others, each block lists its exits
+abbrev pub ExitsAreListed : Type 0
+ExitsAreListed = (r : Rows) (fs : List Blocks) (c : Code) → HasRoom r fs → RowsApart r fs → ((a : ℕ) → c.exit a ≡ is_listed (exits_of r (formed r fs)) a) → (f b : ℕ) → f < length (formed r fs) → b < length (blocks_in (formed r fs) f)
+    → ListsExits c (start_of (placing_of r (formed r fs)) f b) (block_in (formed r fs) f b)

@@ -1,3 +1,4 @@
 pub mod Promised
 pub mod Written
+pub mod Exits
 pub mod Laws

@@ -1,5 +1,5 @@
-// The law of code that is written.
-ghost use Rattle.placed_code.specs.Laws.{CodeIsPlaced};
+// The laws of code that is written.
+ghost use Rattle.placed_code.specs.Laws.{CodeIsPlaced, ExitsAreListed};
 
 use rv_core::Image;
 
@@ -9,3 +9,8 @@ pub fn code_is_placed(image: &Image)
 {
     let _ = &image.segments();
 }
+
+/// Where the addresses of exits are listed, and no others, each block lists its exits.
+pub fn exits_are_listed()
+    ensures { ExitsAreListed }
+{}

@@ -3,7 +3,8 @@
 //! `specs/Promised.antt` says when the items of functions keep to a graph, and `specs/Written.antt` when an image holds
 //! them in two rows, one in flash and one in the scratchpad. The law [`code_is_placed`] joins both with the choice of
 //! forms: then each function's instructions stand in a row from its base on, each of its blocks keeps what it promises,
-//! functions have no address in common, and no return is taken for a far jump. From there on it is known that every
+//! functions have no address in common, and no return is taken for a far jump. By [`exits_are_listed`] blocks list their
+//! exits where the claims on the image list those of `specs/Exits.antt`. From there on it is known that every
 //! reached address is code and that loops fit (`laid_code`).
 //!
 //! The crate knows no program and no compiler.
@@ -11,4 +12,4 @@
 
 mod laws;
 
-pub use laws::code_is_placed;
+pub use laws::{code_is_placed, exits_are_listed};
