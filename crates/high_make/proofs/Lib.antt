@@ -1,0 +1,4 @@
+pub mod Marks
+pub mod Listed
+pub mod Small
+pub mod Keeps
