@@ -1,0 +1,4 @@
+pub mod Whole
+pub mod Emitting
+pub mod Parts
+pub mod Stores
