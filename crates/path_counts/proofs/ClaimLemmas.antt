@@ -188,16 +188,20 @@ module _ (s : System) (ls : List LoopShape) (ps : List Span) (whole : IsReachedW
   pub any : (p : Span) (ms : List Step) (l : Loop) (k : Pair) → IsClaimed p ms l k → Any k
   any p ms l k h = tt
 
+  -- the loops of a function that is done are counted
+  pub function_counted : (v : Level) (r : Span) → Contains ps r → (done : IsDone s ls ps whole q least us v r) → AreCounted (function_steps s ls q.of v.worths r) (function_counts s ls q v r done.starts) (function_turnings s ls q v r) (function_backs s ls q v r done.starts) (function_loops s ls q v.worths r) (function_pairs s ls q v r)
+  function_counted v r ir done =
+      all_counted least q.low (CallsOpenly least s ls q v.worths r) (length s.moves) (function_steps s ls q.of v.worths r) (fits_function s ls ps whole q v.worths r ir).0 v.weights (function_ground s ls q v r).weights done.ready.long_weights done.ready.code.above done.ready.code.nothing
+      (function_ground s ls q v r) (function_loops s ls q v.worths r) (function_counts s ls q v r done.starts) (function_backs s ls q v r done.starts) (fits_function s ls ps whole q v.worths r ir).1 done.ready.code.turns
+      (bounded r v.worths s.claims.loops ls whole.fits.shapes (λ c i. i)) (λ a f. refl)
+      (made_weights (CallsOpenly least s ls q v.worths r) (function_ground s ls q v r).weights (function_steps s ls q.of v.worths r) (function_counts s ls q v r done.starts) (own_made s ls ps whole q least v r ir done.starts done.ready))
+      (own_turned s ls ps whole q least v r ir done.starts done.ready)
+
   pub claimed_functions : (v : Level) (rs : List Span) → ((r : Span) → Contains rs r → Contains ps r) → AreDone s ls ps whole q least us v rs → AllFunctions s ls q Any IsClaimed any v rs
   claimed_functions v [] sub done = tt
   claimed_functions v (r ∷ rs) sub done = (
     claimed_all r (function_steps s ls q.of v.worths r) (function_counts s ls q v r done.0.starts) (function_turnings s ls q v r) (function_backs s ls q v r done.0.starts) ir done.0.counts
-        (back_moves s ls ps whole q r ir (function_steps s ls q.of v.worths r) v.weights) (function_loops s ls q v.worths r) (function_pairs s ls q v r)
-        (all_counted least q.low (CallsOpenly least s ls q v.worths r) (length s.moves) (function_steps s ls q.of v.worths r) (fits_function s ls ps whole q v.worths r ir).0 v.weights (function_ground s ls q v r).weights done.0.ready.long_weights done.0.ready.code.above done.0.ready.code.nothing
-        (function_ground s ls q v r) (function_loops s ls q v.worths r) (function_counts s ls q v r done.0.starts) (function_backs s ls q v r done.0.starts) (fits_function s ls ps whole q v.worths r ir).1 done.0.ready.code.turns
-        (bounded r v.worths s.claims.loops ls whole.fits.shapes (λ c i. i)) (λ a f. refl)
-        (made_weights (CallsOpenly least s ls q v.worths r) (function_ground s ls q v r).weights (function_steps s ls q.of v.worths r) (function_counts s ls q v r done.0.starts) (own_made s ls ps whole q least v r ir done.0.starts done.0.ready))
-        (own_turned s ls ps whole q least v r ir done.0.starts done.0.ready)),
+        (back_moves s ls ps whole q r ir (function_steps s ls q.of v.worths r) v.weights) (function_loops s ls q v.worths r) (function_pairs s ls q v r) (function_counted v r ir done.0),
     claimed_functions (function_level s ls q v r) rs (λ p h. sub p (suc h.0, omega (arith, h.1), h.2)) done.1,
   )
     where
@@ -241,7 +245,7 @@ module _ (s : System) (ls : List LoopShape) (ps : List Span) (whole : IsReachedW
         ])) is.turns is.moves_back)
 
     -- the jump back is made as often as its loop turns again
-    back_count : (ws : List ℤ) → ms ≡ function_steps s ls q.of ws p → sum_if (begins_at l.back) s.moves us ≡ backs_to is.turns is.backs (place_of s.moves l.header)
+    pub back_count : (ws : List ℤ) → ms ≡ function_steps s ls q.of ws p → sum_if (begins_at l.back) s.moves us ≡ backs_to is.turns is.backs (place_of s.moves l.header)
     back_count ws e = by_has (has_moves s.moves l.back) refl
       where
         by_has : (t : Bool) → has_moves s.moves l.back ≡ t → sum_if (begins_at l.back) s.moves us ≡ backs_to is.turns is.backs (place_of s.moves l.header)

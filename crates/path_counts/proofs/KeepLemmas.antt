@@ -114,13 +114,13 @@ module _ (s : System) (ls : List LoopShape) (ps : List Span) (whole : IsReachedW
   abbrev n : ℕ → ℤ
   n = count (listed (parts_of s.moves (amounts_of s ls ps q))) s.moves
 
-  goes : IsGoing s ls ps whole q least (blank (length s.moves) q.low) ps (final_level s ls ps q) (flow_from s ls q (blank (length s.moves) q.low) ps (first_flow s))
+  pub goes : IsGoing s ls ps whole q least (blank (length s.moves) q.low) ps (final_level s ls ps q) (flow_from s ls q (blank (length s.moves) q.low) ps (first_flow s))
   goes = going s ls ps whole q least is.code is.entry
 
-  up : ClaimsAscend s.claims.loops
+  pub up : ClaimsAscend s.claims.loops
   up = sound_ascend s.claims whole.system.sound
 
-  counted : (a : ℕ) → n a ≡ pos (sum_if (begins_at a) s.moves us)
+  pub counted : (a : ℕ) → n a ≡ pos (sum_if (begins_at a) s.moves us)
   counted a = count_sum (listed (parts_of s.moves us)) s.moves us a (listed_amounts s.moves us goes.long_amounts whole.system.ascending)
 
   not_reached : (a : ℕ) → has_moves s.moves a ≡ false → sum_if (begins_at a) s.moves us ≡ 0
@@ -143,10 +143,10 @@ module _ (s : System) (ls : List LoopShape) (ps : List Span) (whole : IsReachedW
     | inr i ↦ stop_none (function_level s ls q v r) rs (λ p h. sub p (suc h.0, omega (arith, h.1), h.2)) done.1 a h stop i
   ]
 
-  covered : (a : ℕ) → has_moves s.moves a ≡ true → IsInOne ps a
+  pub covered : (a : ℕ) → has_moves s.moves a ≡ true → IsInOne ps a
   covered a h = let m = move_of s.moves a h in subst (λ b. IsInOne ps b) m.2 (All-contains (λ (x : Move). IsInOne ps x.at) s.moves m.0 whole.fits.covered m.1)
 
-  stopped : (a : ℕ) → is_stop s.claims a ≡ true → n a ≡ pos 0
+  pub stopped : (a : ℕ) → is_stop s.claims a ≡ true → n a ≡ pos 0
   stopped a stop = counted a ∙ ap pos (by_has (has_moves s.moves a) refl)
     where
       by_has : (t : Bool) → has_moves s.moves a ≡ t → sum_if (begins_at a) s.moves us ≡ 0

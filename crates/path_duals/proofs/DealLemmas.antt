@@ -33,6 +33,22 @@ dealt_map P Q f (c ∷ cs) [] ks h = absurd h
 dealt_map P Q f (c ∷ cs) (l ∷ ls) [] h = absurd h
 dealt_map P Q f (c ∷ cs) (l ∷ ls) (k ∷ ks) h = (f c l k h.0, dealt_map P Q f cs ls ks h.1)
 
+-- a claim stands in the lists with its loop and its multipliers
+abbrev pub Stands : List LoopClaim → List LoopShape → List Pair → LoopClaim → LoopShape → Pair → Type 0
+Stands [] ls ks c l k = ⊥
+Stands (d ∷ cs) [] ks c l k = ⊥
+Stands (d ∷ cs) (m ∷ ls) [] c l k = ⊥
+Stands (d ∷ cs) (m ∷ ls) (j ∷ ks) c l k = ((d ≡ c) × (m ≡ l) × (j ≡ k)) ⊎ Stands cs ls ks c l k
+
+pub dealt_stands : (P : LoopClaim → LoopShape → Pair → Type 0) (cs : List LoopClaim) (ls : List LoopShape) (ks : List Pair) (c : LoopClaim) (l : LoopShape) (k : Pair) → AreDealt P cs ls ks → Stands cs ls ks c l k → P c l k
+dealt_stands P [] ls ks c l k h i = absurd i
+dealt_stands P (d ∷ cs) [] ks c l k h i = absurd i
+dealt_stands P (d ∷ cs) (m ∷ ls) [] c l k h i = absurd i
+dealt_stands P (d ∷ cs) (m ∷ ls) (j ∷ ks) c l k h i = elim i [
+  | inl e ↦ subst (λ (x : LoopClaim). P x l k) e.0 (subst (λ (x : LoopShape). P d x k) e.1 (subst (λ (x : Pair). P d m x) e.2 h.0))
+  | inr e ↦ dealt_stands P cs ls ks c l k h.1 e
+]
+
 -- something holds of each loop of a function with its multipliers
 abbrev pub AreAll : (Loop → Pair → Type 0) → List Loop → List Pair → Type 0
 AreAll R [] ps = Unit {0}

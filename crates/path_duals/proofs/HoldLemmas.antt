@@ -188,3 +188,59 @@ module _ (owe : ℕ → ℤ) (positive : (a : ℕ) → pos 0 ≤ℤ owe a) where
 
   pub nevers_at_least : (cs : List Never) (a : ℕ) → pos 0 ≤ℤ held (never_limits cs (never_bounds owe cs)) a
   nevers_at_least = nevers_hold
+
+  -- elsewhere they hold nothing more
+
+  pub never_none : (cs : List Never) (a : ℕ) → is_never cs a ≡ false → held (never_limits cs (never_bounds owe cs)) a ≡ pos 0
+  never_none [] a h = refl
+  never_none (c ∷ cs) a h = elim (eqb_tells c.at a) [
+    | inl e ↦ absurd (first (c.at == a) e.0 h)
+    | inr e ↦
+        let r = never_none cs a (rest (c.at == a) e.0 h) in
+        let z = *ℤ-zero (owe c.at) in rw e.0 (omega (arith, ints))
+  ]
+    where
+      first : (t : Bool) → t ≡ true → t || is_never cs a ≡ false → ⊥
+      first true e h = cc
+      first false e h = cc
+
+      rest : (t : Bool) → t ≡ false → t || is_never cs a ≡ false → is_never cs a ≡ false
+      rest true e h = cc
+      rest false e h = h
+
+  extra_none : (c : LoopClaim) (a : ℕ) → (c.header == a) && (c.max == 0) ≡ false → (extra c *ℤ coefficient (most_terms c) a) ≡ pos 0
+  extra_none c a h = elim (eqb_tells c.max 0) [
+    | inl k ↦ elim (eqb_tells c.header a) [
+      | inl e ↦ absurd (both (c.header == a) (c.max == 0) e.0 k.0 h)
+      | inr e ↦
+          let z = *ℤ-zero (owe c.header) in
+          let k1 = k.1 in
+          let n : coefficient (most_terms c) a ≡ pos 0 = rw (e.0, k1) (none (c.back == a)) in rw (k.0, n) (omega (arith, ints))
+    ]
+    | inr k ↦ rw k.0 (omega (arith, ints))
+  ]
+    where
+      both : (t u : Bool) → t ≡ true → u ≡ true → t && u ≡ false → ⊥
+      both true true e f h = cc
+      both true false e f h = cc
+      both false u e f h = cc
+
+      none : (t : Bool) → pos 0 +ℤ (cond t (pos 0) (pos 0) +ℤ pos 0) ≡ pos 0
+      none true = refl
+      none false = refl
+
+  pub loops_same : (cs : List LoopClaim) (ps : List Pair) (a : ℕ) → is_shut cs a ≡ false → held (loop_limits cs (loop_bounds owe cs ps)) a ≡ held (loop_limits cs (both_of ps)) a
+  loops_same [] ps a h = refl
+  loops_same (c ∷ cs) [] a h = refl
+  loops_same (c ∷ cs) (p ∷ ps) a h =
+      let r = loops_same cs ps a (rest ((c.header == a) && (c.max == 0)) h) in
+      let x = extra_none c a (first ((c.header == a) && (c.max == 0)) h) in
+      let e = add-mul p.most (extra c) (coefficient (most_terms c) a) in omega (arith, ints)
+    where
+      first : (t : Bool) → t || is_shut cs a ≡ false → t ≡ false
+      first true h = cc
+      first false h = refl
+
+      rest : (t : Bool) → t || is_shut cs a ≡ false → is_shut cs a ≡ false
+      rest true h = cc
+      rest false h = h

@@ -36,7 +36,7 @@ use Rattle.path_duals.specs.Laws.{WalksAreDual}
 use Rattle.path_duals.proofs.PlainLemmas.{NoHeader, settled_plain}
 use Rattle.path_duals.proofs.PotentialLemmas.{all_of, potential_at}
 use Rattle.path_duals.proofs.HoldLemmas.{Alongside, hold, hold_none, hold_header, hold_back, hold_both, hold_free, never_pays, loops_hold, shut_pays, nevers_at_least}
-use Rattle.path_duals.proofs.DealLemmas.{AreDealt}
+use Rattle.path_duals.proofs.DealLemmas.{AreDealt, Stands}
 use Rattle.path_duals.proofs.PriceLemmas.{IsPriced, all_priced, final_dealt, dearest_most}
 
 -- ---- what is left at an address
@@ -85,7 +85,7 @@ either_of true y h = inl refl
 either_of false y h = inr h
 
 module _ (s : System) (ls : List LoopShape) (ps : List Span) (whole : IsReachedWhole s ls ps) (q : Prices) where
-  abbrev final : Level
+  abbrev pub final : Level
   final = final_level s ls ps q
 
   same_place : (a b : ℕ) → has_moves s.moves a ≡ true → has_moves s.moves b ≡ true → place_of s.moves a ≡ place_of s.moves b → a ≡ b
@@ -97,7 +97,7 @@ module _ (s : System) (ls : List LoopShape) (ps : List Span) (whole : IsReachedW
 
   -- ---- places of no header have no weight
 
-  abbrev IsPlain : ℕ → Type 0
+  abbrev pub IsPlain : ℕ → Type 0
   IsPlain a = (l : LoopShape) → Contains ls l → l.header ≢ a
 
   no_header : (p : Span) (ms : List Step) (a : ℕ) → has_moves s.moves a ≡ true → IsPlain a → (cs : List LoopClaim) (ks : List LoopShape) → ((l : LoopShape) → Contains ks l → Contains ls l) → NoHeader (place_of s.moves a) (loops_of q.of q.low s.moves s.claims p ms cs ks)
@@ -117,7 +117,7 @@ module _ (s : System) (ls : List LoopShape) (ps : List Span) (whole : IsReachedW
       plain_from (function_level s ls q v r) rs a h plain
       ∙ settled_plain q.low (function_steps s ls q.of v.worths r) (place_of s.moves a) v (function_loops s ls q v.worths r) (no_header r (function_steps s ls q.of v.worths r) a h plain s.claims.loops ls (λ l j. j))
 
-  plain_weight : (a : ℕ) → has_moves s.moves a ≡ true → IsPlain a → worth_at (final_level s ls ps q).weights (place_of s.moves a) ≡ pos 0
+  pub plain_weight : (a : ℕ) → has_moves s.moves a ≡ true → IsPlain a → worth_at (final_level s ls ps q).weights (place_of s.moves a) ≡ pos 0
   plain_weight a h plain = plain_from (blank (length s.moves) q.low) ps a h plain ∙ zero_at (length s.moves + 1) (place_of s.moves a)
 
   -- ---- the loops' multipliers
@@ -160,7 +160,7 @@ module _ (s : System) (ls : List LoopShape) (ps : List Span) (whole : IsReachedW
   -- at a jump back, they hold what its loop does
   pub back_held : (cs : List LoopClaim) (ks : List LoopShape) (us : List Pair) (a h0 : ℕ) → AreDealt (IsPriced s ls ps whole q final) cs ks us → ClaimsAscend cs → has_moves s.moves a ≡ true → is_back ls a ≡ true → is_back ks a ≡ true →
       ((l : LoopShape) → Contains ks l → l.back ≡ a → l.header ≡ h0) →
-      (c : LoopClaim) × (l : LoopShape) × (u : Pair) × IsPriced s ls ps whole q final c l u × Contains ks l × (c.back ≡ a) × (held (loop_limits cs (both_of us)) a ≡ hold c u a)
+      (c : LoopClaim) × (l : LoopShape) × (u : Pair) × IsPriced s ls ps whole q final c l u × Contains ks l × (c.back ≡ a) × (held (loop_limits cs (both_of us)) a ≡ hold c u a) × Stands cs ks us c l u
   back_held [] [] us a h0 k up h is one heads = cc
   back_held [] (l ∷ ks) us a h0 k up h is one heads = absurd k
   back_held (c ∷ cs) [] us a h0 k up h is one heads = absurd k
@@ -171,11 +171,11 @@ module _ (s : System) (ls : List LoopShape) (ps : List Span) (whole : IsReachedW
         let f = heads l (zero, omega arith, refl) e.1 in
         let g : c.header ≡ h0 = sym eh ∙ f in
         let r = nothing_all cs ks us a h0 k.1 h is (λ x j. heads x (suc j.0, omega (arith, j.1), j.2)) (subst (λ b. All (λ (d : LoopClaim). b < d.header) cs) g up.0) in
-        (c, l, u, k.0, (zero, omega arith, refl), sym k.0.back ∙ e.1, omega (arith, ints))
+        (c, l, u, k.0, (zero, omega arith, refl), sym k.0.back ∙ e.1, omega (arith, ints), inl (refl, refl, refl))
     | inr e ↦
         let r = back_held cs ks us a h0 k.1 up.1 h is (later (l.back == a) e.0 one) (λ x j. heads x (suc j.0, omega (arith, j.1), j.2)) in
         let z = nothing_one c l u a k.0 h is (λ f. e.1 (k.0.back ∙ f)) in
-        (r.0, r.1, r.2, r.3, (suc r.4.0, (let lt = r.4.1 in omega (arith, lt)), r.4.2), r.5, (let r6 = r.6 in omega (arith, ints)))
+        (r.0, r.1, r.2, r.3, (suc r.4.0, (let lt = r.4.1 in omega (arith, lt)), r.4.2), r.5, (let r6 = r.6 in omega (arith, ints)), inr r.7)
   ]
     where
       later : (t : Bool) → t ≡ false → t || is_back ks a ≡ true → is_back ks a ≡ true
@@ -183,7 +183,7 @@ module _ (s : System) (ls : List LoopShape) (ps : List Span) (whole : IsReachedW
       later false f g = g
 
   -- where no loop jumps back
-  abbrev IsForward : List LoopShape → ℕ → Type 0
+  abbrev pub IsForward : List LoopShape → ℕ → Type 0
   IsForward ks a = (l : LoopShape) → Contains ks l → l.back ≢ a
 
   forward_one : (c : LoopClaim) (l : LoopShape) (u : Pair) (a : ℕ) → IsPriced s ls ps whole q final c l u → has_moves s.moves a ≡ true → l.back ≢ a → c.header ≡ a → hold c u a ≡ neg_ℤ (worth_at (final_level s ls ps q).weights (place_of s.moves a))
@@ -228,13 +228,13 @@ module _ (s : System) (ls : List LoopShape) (ps : List Span) (whole : IsReachedW
 
   -- ---- the rows
 
-  abbrev owe : ℕ → ℤ
+  abbrev pub owe : ℕ → ℤ
   owe = owe_of s q.of (values_of s ls ps q)
 
-  abbrev p : ℕ → ℤ
+  abbrev pub p : ℕ → ℤ
   p = coefficient (potentials_of s.moves (final_level s ls ps q).worths s.moves)
 
-  owe_least : (a : ℕ) → pos 0 ≤ℤ owe a
+  pub owe_least : (a : ℕ) → pos 0 ≤ℤ owe a
   owe_least a = owed_least q.of p (loop_limits s.claims.loops (both_of (final_pairs s ls ps q))) s.moves a
 
   pub alongside : (cs : List LoopClaim) (ks : List LoopShape) (us : List Pair) → AreDealt (IsPriced s ls ps whole q final) cs ks us → Alongside cs us
@@ -244,7 +244,7 @@ module _ (s : System) (ls : List LoopShape) (ps : List Span) (whole : IsReachedW
   alongside (c ∷ cs) (l ∷ ks) [] k = absurd k
   alongside (c ∷ cs) (l ∷ ks) (u ∷ us) k = alongside cs ks us k.1
 
-  held_parts : (a : ℕ) → held (dual_of s q.of (values_of s ls ps q)).limits a ≡ held (never_limits s.claims.nevers (never_bounds owe s.claims.nevers)) a +ℤ held (loop_limits s.claims.loops (loop_bounds owe s.claims.loops (final_pairs s ls ps q))) a
+  pub held_parts : (a : ℕ) → held (dual_of s q.of (values_of s ls ps q)).limits a ≡ held (never_limits s.claims.nevers (never_bounds owe s.claims.nevers)) a +ℤ held (loop_limits s.claims.loops (loop_bounds owe s.claims.loops (final_pairs s ls ps q))) a
   held_parts a = int_sum_by-append (λ l. l.by *ℤ coefficient l.terms a) (never_limits s.claims.nevers (never_bounds owe s.claims.nevers)) (loop_limits s.claims.loops (loop_bounds owe s.claims.loops (final_pairs s ls ps q)))
 
   -- all limits hold no less than the loops' multipliers alone
@@ -269,11 +269,11 @@ module _ (s : System) (ls : List LoopShape) (ps : List Span) (whole : IsReachedW
   pub potential_place : (a : ℕ) → has_moves s.moves a ≡ true → p a ≡ worth_at (final_level s ls ps q).worths (place_of s.moves a)
   potential_place = potential_at s whole.system (final_level s ls ps q).worths
 
-  abbrev first_of : List ℕ → ℕ
+  abbrev pub first_of : List ℕ → ℕ
   first_of [] = 0
   first_of (x ∷ xs) = x
 
-  goes_back : (l : LoopShape) → Contains ls l → (m : Move) → Contains s.moves m → m.at ≡ l.back → destinations m ≡ l.header ∷ []
+  pub goes_back : (l : LoopShape) → Contains ls l → (m : Move) → Contains s.moves m → m.at ≡ l.back → destinations m ≡ l.header ∷ []
   goes_back l il m im e = All-contains (λ (x : Move). x.at ≡ l.back → destinations x ≡ l.header ∷ []) s.moves m (All-contains (IsLoop s) ls l whole.fits.loops il).goes_back im e
 
   back_covered : q.low ≤ℤ pos 0 → (m : Move) → Contains s.moves m → is_stop s.claims m.at ≡ false → is_back ls m.at ≡ true → q.of m ≤ℤ (fall p m +ℤ held (loop_limits s.claims.loops (both_of (final_pairs s ls ps q))) m.at)

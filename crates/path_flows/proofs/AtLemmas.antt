@@ -81,7 +81,7 @@ eq_not : (a b : ℕ) → a ≢ b → (a == b) ≡ false
 eq_not a b d = elim (eqb_tells a b) [ inl k ↦ absurd (d k.1) | inr k ↦ k.0 ]
 
 -- one destination is one that the move goes on to
-one_destination : (to back : Option ℕ) (h : ℕ) → option_to_list to ++ option_to_list back ≡ h ∷ [] → (onward_by to back ≡ h ∷ []) × ((a : ℕ) → calls_by to back a ≡ false)
+pub one_destination : (to back : Option ℕ) (h : ℕ) → option_to_list to ++ option_to_list back ≡ h ∷ [] → (onward_by to back ≡ h ∷ []) × ((a : ℕ) → calls_by to back a ≡ false)
 one_destination None None h e = let l = ap length e in absurd (omega (arith, l))
 one_destination (Some t) None h e = (e, λ a. refl)
 one_destination None (Some b) h e = (e, λ a. refl)
@@ -143,7 +143,7 @@ module _ (s : System) (ls : List LoopShape) (ps : List Span) (whole : IsReachedW
     pub shape_header : shape.header ≡ target
     pub shape_back : shape.back ≡ move.at
 
-  back_reached : (l : LoopShape) (b : ℕ) → back_place s.moves s.claims l.back ≡ Some b → (has_moves s.moves l.back ≡ true) × (place_of s.moves l.back ≡ b) × (is_stop s.claims l.back ≡ false)
+  pub back_reached : (l : LoopShape) (b : ℕ) → back_place s.moves s.claims l.back ≡ Some b → (has_moves s.moves l.back ≡ true) × (place_of s.moves l.back ≡ b) × (is_stop s.claims l.back ≡ false)
   back_reached l b is = by_has (has_moves s.moves l.back) (is_stop s.claims l.back) is
     where
       by_has : (t u : Bool) → cond (t && not u) (Some (place_of s.moves l.back)) None ≡ Some b → (t ≡ true) × (place_of s.moves l.back ≡ b) × (u ≡ false)

@@ -1,5 +1,5 @@
 -- The flow of one function of a system: what comes to its addresses leaves them, and what is made is open.
-use Rattle.std.proofs.Common.{◌≡◌, ℕ, zero, suc, ◌+◌, ◌<◌, ℤ, ◌≤ℤ◌, arith, refl, sym, ap, ◌∙◌, subst, List, length, Contains, All, inl, inr, ◌⊎◌, Bool, true, false, cond}
+use Rattle.std.proofs.Common.{◌≡◌, ℕ, zero, suc, ◌+◌, ◌<◌, ℤ, pos, ◌≤ℤ◌, arith, refl, sym, ap, ◌∙◌, subst, List, length, Contains, All, inl, inr, ◌⊎◌, Bool, true, false, cond}
 use Rattle.std.specs.Prelude.{◌||◌, not}
 use Rattle.std.proofs.lemmas.Int.{ints}
 use Rattle.std.proofs.lemmas.List.Elements.{All-contains}
@@ -29,7 +29,7 @@ use Rattle.path_places.specs.Laws.{function_steps, IsReachedWhole}
 use Rattle.path_places.proofs.PlaceLemmas.{place_below}
 use Rattle.path_places.proofs.LoopLemmas.{has_of, steps_each, onward_arrives, first_or}
 use Rattle.path_places.proofs.FunctionLemmas.{walked_in}
-use Rattle.path_rows.specs.Driver.{Prices, function_loops}
+use Rattle.path_rows.specs.Driver.{Prices, function_loops, function_level}
 use Rattle.path_rows.proofs.DriverLemmas.{fits_function, closed}
 use Rattle.path_flows.specs.Flows.{function_ground, function_turnings, first_counts, function_counts, function_backs}
 use Rattle.path_flows.specs.Opens.{CallsOpenly, IsOpenFunction}
@@ -40,22 +40,23 @@ module _ (s : System) (ls : List LoopShape) (ps : List Span) (whole : IsReachedW
   pub record IsReady (v : Level) (p : Span) (us : List ℕ) : Type 0 where
     pub code : IsOpenFunction least s ls q v p
     pub blank : (x : ℕ) → has_moves s.moves x ≡ true → IsInSpan p x → worth_at v.worths (place_of s.moves x) ≡ q.low
+    pub fresh : (x : ℕ) → has_moves s.moves x ≡ true → IsInSpan p x → worth_at v.weights (place_of s.moves x) ≡ pos 0
     pub long : length us ≡ length s.moves + 1
     pub long_worths : length s.moves < length v.worths
     pub long_weights : length s.moves < length v.weights
-    pub starts : (k : ℕ) → 0 < amount_at us k → (x : ℕ) × (has_moves s.moves x ≡ true) × (place_of s.moves x ≡ k) × (IsInSpan p x → least ≤ℤ worth_at (function_ground s ls q v p).worths (place_of s.moves x))
+    pub starts : (k : ℕ) → 0 < amount_at us k → (x : ℕ) × (has_moves s.moves x ≡ true) × (place_of s.moves x ≡ k) × (IsInSpan p x → (least ≤ℤ worth_at (function_ground s ls q v p).worths (place_of s.moves x)) × (worth_at (function_level s ls q v p).worths (place_of s.moves x) ≡ worth_at (function_ground s ls q v p).worths (place_of s.moves x)))
 
   module _ (v : Level) (p : Span) (ip : Contains ps p) (us : List ℕ) (ready : IsReady v p us) where
-    abbrev ms : List Step
+    abbrev pub ms : List Step
     ms = function_steps s ls q.of v.worths p
 
-    abbrev g : Level
+    abbrev pub g : Level
     g = function_ground s ls q v p
 
-    abbrev n : ℕ
+    abbrev pub n : ℕ
     n = length s.moves
 
-    steps : AreSteps n ms
+    pub steps : AreSteps n ms
     steps = (fits_function s ls ps whole q v.worths p ip).0
 
     starts_low : Each (BeginsLow q.low n v.worths) ms
@@ -78,25 +79,29 @@ module _ (s : System) (ls : List LoopShape) (ps : List Span) (whole : IsReachedW
     own : (a : ℕ) → begins ms a ≡ true → IsOwn a
     own a h = begins_has IsOwn ms a (steps_each (λ k. IsOwn k.at) q.of s.moves v.worths (is_walked s.claims ls p) s.moves (λ m im w. (m.at, has_of s.moves m im, walked_in p (not (is_stop s.claims m.at || is_back ls m.at)) m.at w, refl))) h
 
-    abbrev masked : List ℕ
+    abbrev pub masked : List ℕ
     masked = only_in (begins ms) 0 us
 
-    masked_long : length masked ≡ n + 1
+    pub masked_long : length masked ≡ n + 1
     masked_long = only_in-long (begins ms) 0 us ∙ ready.long
 
     masked_at : (a : ℕ) → amount_at masked a ≡ cond (begins ms a) (amount_at us a) 0
     masked_at a = let z : 0 + a ≡ a = omega arith in only_in_at (begins ms) 0 us a ∙ ap (λ k. cond (begins ms k) (amount_at us a) 0) z
 
-    masked_open : (a : ℕ) → 0 < amount_at masked a → least ≤ℤ worth_at g.worths a
-    masked_open a h = by_begins (begins ms a) refl (masked_at a)
+    -- where something starts, the worth is open, and that after the loops are settled
+    pub masked_same : (a : ℕ) → 0 < amount_at masked a → (least ≤ℤ worth_at g.worths a) × (worth_at (function_level s ls q v p).worths a ≡ worth_at g.worths a)
+    masked_same a h = by_begins (begins ms a) refl (masked_at a)
       where
-        by_begins : (t : Bool) → begins ms a ≡ t → amount_at masked a ≡ cond t (amount_at us a) 0 → least ≤ℤ worth_at g.worths a
+        by_begins : (t : Bool) → begins ms a ≡ t → amount_at masked a ≡ cond t (amount_at us a) 0 → (least ≤ℤ worth_at g.worths a) × (worth_at (function_level s ls q v p).worths a ≡ worth_at g.worths a)
         by_begins true e z =
             let x = ready.starts a (omega (arith, h, z)) in
             let y = own a e in
             let same = same_place s ls ps whole q y.0 x.0 y.1 x.1 (y.3 ∙ sym x.2) in
-            subst (λ k. least ≤ℤ worth_at g.worths k) x.2 (x.3 (subst (λ b. IsInSpan p b) same y.2))
+            subst (λ k. (least ≤ℤ worth_at g.worths k) × (worth_at (function_level s ls q v p).worths k ≡ worth_at g.worths k)) x.2 (x.3 (subst (λ b. IsInSpan p b) same y.2))
         by_begins false e z = absurd (omega (arith, h, z))
+
+    masked_open : (a : ℕ) → 0 < amount_at masked a → least ≤ℤ worth_at g.worths a
+    masked_open a h = (masked_same a h).0
 
     masked_begins : (a : ℕ) → 0 < amount_at masked a → begins ms a ≡ true
     masked_begins a h = by_begins (begins ms a) refl (masked_at a)
@@ -117,7 +122,7 @@ module _ (s : System) (ls : List LoopShape) (ps : List Span) (whole : IsReachedW
         stands (can_all_turn q.low n ms v.weights (function_loops s ls q v.worths p) steps (fits_function s ls ps whole q v.worths p ip).1)
 
     -- other places are no matter
-    same_first : spread (is_tight g) masked ms ≡ first_counts s ls q v p us
+    pub same_first : spread (is_tight g) masked ms ≡ first_counts s ls q v p us
     same_first = spread_same (is_tight g) (begins ms) n masked us ms (let l = masked_long in omega (arith, l)) (let l = ready.long in omega (arith, l)) (steps_are n ms steps) (begins_each ms)
         (λ a is. masked_at a ∙ ap (λ t. cond t (amount_at us a) 0) is)
 
@@ -136,7 +141,7 @@ module _ (s : System) (ls : List LoopShape) (ps : List Span) (whole : IsReachedW
         nothing e (suc u) z =
             let x = ready.starts (place_of s.moves a) (omega (arith, z)) in
             let same = same_place s ls ps whole q a x.0 there x.1 (sym x.2) in
-            let wide = subst (λ k. least ≤ℤ worth_at g.worths k) x.2 (x.3 (subst (λ b. IsInSpan p b) same inside)) in
+            let wide = subst (λ k. least ≤ℤ worth_at g.worths k) x.2 (x.3 (subst (λ b. IsInSpan p b) same inside)).0 in
             let k = relaxed_other (weighed q.low ms v.weights (function_loops s ls q v.worths p)) v.worths ms (place_of s.moves a) (begins_not ms (place_of s.moves a) e) in
             let low = ready.blank a there inside in
             let above = ready.code.above in

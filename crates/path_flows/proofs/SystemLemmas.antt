@@ -123,7 +123,7 @@ module _ (s : System) (ls : List LoopShape) (ps : List Span) (whole : IsReachedW
 
   module _ (k : ℕ) (v : Level) (r : Span) (rs : List Span) (numbered : Numbered s ls ps whole q k (r ∷ rs)) (sub : (p : Span) → Contains (r ∷ rs) p → Contains ps p) (apart : AreAllApart (r ∷ rs))
       (blank : (x : ℕ) → has_moves s.moves x ≡ true → IsInOne (r ∷ rs) x → worth_at v.worths (place_of s.moves x) ≡ q.low)
-      (long_worths : length s.moves < length v.worths) (long_weights : length s.moves < length v.weights) (code : IsOpenFunction least s ls q v r)
+      (fresh : IsFresh s ls ps whole q v (r ∷ rs)) (long_worths : length s.moves < length v.worths) (long_weights : length s.moves < length v.weights) (code : IsOpenFunction least s ls q v r)
       (f : Flowing) (going : IsGoing (function_level s ls q v r) rs (functions_level s ls q (function_level s ls q v r) rs) f) where
     abbrev n : ℕ
     n = length s.moves
@@ -156,10 +156,11 @@ module _ (s : System) (ls : List LoopShape) (ps : List Span) (whole : IsReachedW
     in_r m h = walked_in r (not (is_stop s.claims m.at || is_back ls m.at)) m.at h
 
     -- a function later in the list leaves this one as it is
-    ready : IsReady s ls ps whole q least v r f.starts
+    pub ready : IsReady s ls ps whole q least v r f.starts
     ready = record {
       code = code;
       blank = λ x h i. blank x h (inl i);
+      fresh = λ x h i. fresh x h (inl i);
       long = going.long_starts;
       long_worths = long_worths;
       long_weights = long_weights;
@@ -171,7 +172,7 @@ module _ (s : System) (ls : List LoopShape) (ps : List Span) (whole : IsReachedW
             λ i.
                 let a = (functions_leave s ls ps whole q (function_level s ls q v r) rs (place_of s.moves x.0) rest (elsewhere_all s ls ps whole q r rs x.0 x.1 i apart.0)).0 in
                 let b = start_ground s ls ps whole q v r ir x.0 i x.3 in
-                subst (λ (z : ℤ). least ≤ℤ z) (a ∙ b) x.4,
+                (subst (λ (z : ℤ). least ≤ℤ z) (a ∙ b) x.4, b),
           );
     }
 
@@ -356,7 +357,7 @@ module _ (s : System) (ls : List LoopShape) (ps : List Span) (whole : IsReachedW
     functions = tt;
   }
   flow_goes k v (r ∷ rs) numbered sub apart fresh blank long_worths long_weights code entry =
-      goes_on k v r rs numbered sub apart blank long_worths long_weights code.0 (flow_from s ls q (function_level s ls q v r) rs (first_flow s))
+      goes_on k v r rs numbered sub apart blank fresh long_worths long_weights code.0 (flow_from s ls q (function_level s ls q v r) rs (first_flow s))
       (flow_goes (k + 1) (function_level s ls q v r) rs numbered.1 (λ p h. sub p (suc h.0, omega (arith, h.1), h.2)) apart.1
       (λ x h o. (function_leaves s ls ps whole q v r (place_of s.moves x) ir (inl (x, h, apart_one r rs x apart.0 o, refl))).1 ∙ fresh x h (inr o))
       (λ x h o. (function_leaves s ls ps whole q v r (place_of s.moves x) ir (inl (x, h, apart_one r rs x apart.0 o, refl))).0 ∙ blank x h (inr o))
