@@ -8,6 +8,8 @@
 //! absolute values come to 2^126 fails its row, so that nothing wraps. It takes no memory, and its steps are linear in
 //! the moves, the claims and the certificate but for the searches in ascending lists.
 //!
+//! `slack` is what is left of one row, for a search that makes certificates.
+//!
 //! The crate knows nothing of files, of how a system is found or of how a certificate is.
 #![tactic(auto)]
 
@@ -27,3 +29,5 @@ mod wide;
 
 pub use checking::check;
 pub use row::{Row, Verdict};
+pub use rows::slack;
+pub use running::Running;

@@ -79,8 +79,8 @@ pub fn price(cycles: u64, scale: u64) -> i128
     i128::from(cycles) * i128::from(scale)
 }
 
-/// What is left of a move's row when its price is paid.
-fn row(system: &System, costs: &Costs, cert: &Cert, step: &Move) -> Option<Running>
+/// What is left of a move's row when its price is paid; none where the absolute values of the row come to 2^126.
+pub fn slack(system: &System, costs: &Costs, cert: &Cert, step: &Move) -> Option<Running>
     requires placed { IsPlaced step.now.at }
     requires form { IsInForm system.now.claims cert.now }
     ensures none { IsNone result ↔ (2 ^ 126 ≤ row_size (scaled_price (table_of costs.now) system.now cert.now) (potential cert.now) (limits system.now.claims cert.now) step.now) }
@@ -111,7 +111,7 @@ fn move_fault(system: &System, costs: &Costs, cert: &Cert, step: &Move) -> Optio
     requires form { IsInForm system.now.claims cert.now }
     ensures { result ≡ move_fault (scaled_price (table_of costs.now) system.now cert.now) (potential cert.now) (limits system.now.claims cert.now) step.now }
 {
-    match row(system, costs, cert, step) {
+    match slack(system, costs, cert, step) {
         Some(left) => uncovered(left, step),
         None => Some(Row::Wide { at: step.at }),
     }

@@ -2,7 +2,7 @@ use Rattle.std.proofs.Common.{arith, ap, ◌∙◌, ◌*◌, pos, FitsSigned}
 use Rattle.std.specs.Int.{w128}
 use Rattle.std.proofs.lemmas.Int.{ints, to_z-of_z}
 use Rattle.std.proofs.lemmas.Option.{IfSome_then}
-use Rattle.dual_check.proofs.rows.row.Goals as goal
+use Rattle.dual_check.proofs.rows.slack.Goals as goal
 
 pub returns-clause-none : goal.returns-clause-none
 returns-clause-none c =
