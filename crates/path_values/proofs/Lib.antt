@@ -1,0 +1,5 @@
+pub mod PotentialLemmas
+pub mod OwedLemmas
+pub mod SameLemmas
+pub mod MultiplierLemmas
+pub mod ValueLemmas

@@ -1,0 +1,4 @@
+pub mod Costs
+pub mod Owed
+pub mod Plain
+pub mod Laws

@@ -1,0 +1,21 @@
+-- A certificate with nothing for claims that forbid to visit an address.
+use Rattle.std.specs.Prelude.{pos, List, [], length}
+use Rattle.std.proofs.Math.ListN.{replicate}
+use Rattle.frac128.specs.Terms.{Terms}
+use Rattle.flow_system.specs.declared.cert.Cert.{Cert}
+use Rattle.flow_system.specs.declared.cert.Mark.TheVariants.{Neither}
+use Rattle.flow_system.specs.Claims.{Claims}
+use Rattle.loop_walks.specs.declared.step.Pair.{Pair}
+use Rattle.path_duals.specs.Duals.{both_of}
+
+abbrev pub plain_of : Claims → Terms → List Pair → Cert
+plain_of claims ts ps = record {
+  cycles = 0;
+  mark = Neither;
+  scale = 1;
+  potentials = ts;
+  nevers = replicate (length claims.nevers) (pos 0);
+  loops = both_of ps;
+  facts = [];
+  flow = record { unit = 0; parts = [] };
+}
