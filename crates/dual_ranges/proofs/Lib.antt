@@ -1,0 +1,3 @@
+pub mod ClaimSizes
+pub mod DealSizes
+pub mod RowSizes

@@ -1,0 +1,3 @@
+pub mod OpenLemmas
+pub mod CodeOpens
+pub mod SystemOpens
