@@ -1,5 +1,5 @@
 -- Elements and objects, one after another.
-use Rattle.std.proofs.Common.{◌≡◌, ℕ, ◌+◌, ◌<◌, List, [], ◌∷◌, length, drop, get_or, map, Option, Some, None, refl, sym, ap, ◌∙◌, arith}
+use Rattle.std.proofs.Common.{◌≡◌, ℕ, ◌+◌, ◌<◌, List, [], ◌∷◌, length, drop, get_or, map, refl, sym, ap, ◌∙◌, arith}
 use Rattle.std.proofs.lemmas.List.{drop_more}
 use Rattle.c_facts.specs.Sites.{count_exprs}
 use Rattle.c_typed.specs.declared.declaration.Object.{Object}
@@ -13,7 +13,7 @@ use Rattle.high_plan.specs.Statements as plans
 use Rattle.high_plan.specs.Statements.{all_declared, listed, stored_at}
 use Rattle.high_plan.specs.Values.{made}
 use Rattle.make_pieces.proofs.Lists.{joined_joined}
-use Rattle.make_statement.specs.Planned.{element_planned, filling_by, object_planned}
+use Rattle.make_statement.specs.Planned.{element_planned, object_planned}
 
 -- one element more of a list
 pub one_element : (plan : plans.Plan) (home : Home) (xs : List exprs.Expr) (i at : ℕ) (x : exprs.Expr) (k : ℕ) (a b : Statements) → i < length xs → x ≡ get_or xs i x → at ≡ i → b ≡ joined a (element_planned plan home (expr_of x) at k) →
@@ -38,10 +38,6 @@ one_object plan xs i x shift k a b lt is added =
     ap (λ c. joined c (all_declared plan (map object_of (drop (i + 1) xs)) shift k)) added
     ∙ joined_joined a (object_planned plan (object_of x) shift k) (all_declared plan (map object_of (drop (i + 1) xs)) shift k)
     ∙ sym (ap (λ ys. joined a (all_declared plan (map object_of ys) shift k)) (drop_more xs i x lt ∙ ap (λ y. y ∷ drop (i + 1) xs) (sym is)))
-
-pub filling_same : (plan : plans.Plan) (home : Home) (shift : ℕ) (number : Option ℕ) (from k : ℕ) → filling_by plan.bounds home shift number from k ≡ plans.filling plan home shift number from k
-filling_same plan home shift None from k = refl
-filling_same plan home shift (Some number) from k = refl
 
 pub count_length : (xs : List exprs.Expr) → count_exprs (exprs_of xs) ≡ length xs
 count_length [] = refl

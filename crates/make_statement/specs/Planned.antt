@@ -55,10 +55,6 @@ filling_round home k end =
     (Then (Set k (Binary binary.Add (Variable k) (Constant 1)))
     (alone (If (Binary binary.LessUnsigned (Variable k) (Constant end)) nothing (Leave 0))))
 
--- the filling of what a list leaves over, by the bounds of the loops
-abbrev pub filling_by : List Bounds → Home → (shift : ℕ) → Option ℕ → (from k : ℕ) → Statements
-filling_by bounds home shift number from k = plans.filling (record { homes = []; bounds = bounds; functions = 0 }) home shift number from k
-
 -- an element that has the value of an expression
 abbrev pub element_planned : plans.Plan → Home → c.Expr → (index k : ℕ) → Statements
 element_planned plan home e index k = joined (made plan.homes Value e k).code (alone (stored_at home (Constant index) (made plan.homes Value e k).value))

@@ -7,11 +7,11 @@ ghost use Rattle.high_plan.specs.Statements.{all_declared, declared, initialised
 ghost use Rattle.make_pieces.specs.View.{code_of};
 ghost use Rattle.make_statement.specs.Planned.{element_planned, list_planned, object_planned, plan_said};
 
-use super::loops::{filling, stored_at};
+use super::loops::{Filler, filling, stored_at};
 use super::plan::Plan;
 use c_typed::declaration::{Declaration, Initial, Object};
 use c_typed::expression::Expr as Source;
-use c_typed::statement::{ForStart, LoopId};
+use c_typed::statement::ForStart;
 use high_ir::expression::Expr;
 use high_plan::{Home, Purpose};
 use make_expression::{code, value};
@@ -20,26 +20,26 @@ use make_pieces::numbers::offset;
 use make_pieces::{Code, Valued};
 use wcc_base::Memory;
 
-/// An element of an object that has the value of an expression.
-fn element(plan: &Plan, home: Home, expr: &Source, index: u32, k: u32) -> Result<Code, Memory>
-    ensures { IfOk result (λ c. code_of c ≡ element_planned (plan_said plan.now) home (source_of expr.now) index k) }
-{
-    let Valued { code, value } = value(&plan.scope, expr, k)?;
-    code.then(stored_at(home, Expr::Constant(index), value))
+/// An element of an object.
+#[derive(Clone, Copy)]
+struct Slot {
+    home: Home,
+    index: u32,
 }
 
-/// The same of the element of this index, behind other code.
-fn with_element(
-    plan: &Plan,
-    home: Home,
-    expr: &Source,
-    index: usize,
-    k: u32,
-    before: Code,
-) -> Result<Code, Memory>
-    ensures { IfOk result (λ c. code_of c ≡ joined (code_of before) (element_planned (plan_said plan.now) home (source_of expr.now) index k)) }
+/// An element that has the value of an expression.
+fn element(plan: &Plan, at: Slot, expr: &Source, k: u32) -> Result<Code, Memory>
+    ensures { IfOk result (λ c. code_of c ≡ element_planned (plan_said plan.now) at.home (source_of expr.now) at.index k) }
 {
-    match element_at(plan, home, expr, index, k) {
+    let Valued { code, value } = value(&plan.scope, expr, k)?;
+    code.then(stored_at(at.home, Expr::Constant(at.index), value))
+}
+
+/// The same behind other code.
+fn with_element(plan: &Plan, at: Slot, expr: &Source, k: u32, before: Code) -> Result<Code, Memory>
+    ensures { IfOk result (λ c. code_of c ≡ joined (code_of before) (element_planned (plan_said plan.now) at.home (source_of expr.now) at.index k)) }
+{
+    match element(plan, at, expr, k) {
         Ok(code) => before.joined(code),
         Err(memory) => {
             before.let_go();
@@ -48,39 +48,32 @@ fn with_element(
     }
 }
 
-fn element_at(plan: &Plan, home: Home, expr: &Source, index: usize, k: u32) -> Result<Code, Memory>
-    ensures { IfOk result (λ c. code_of c ≡ element_planned (plan_said plan.now) home (source_of expr.now) index k) }
-{
-    match u32::try_from(index) {
-        Ok(index) => element(plan, home, expr, index, k),
-        Err(_) => Err(Memory),
-    }
-}
-
 /// The elements that a list has.
 fn listed(plan: &Plan, home: Home, values: &[Source], k: u32) -> Result<Code, Memory>
     ensures { IfOk result (λ c. code_of c ≡ listed (plan_said plan.now) home (exprs_of values.now) 0 k) }
 {
+    let count = offset(0, values.len())?;
     let mut code = Code::new(plan.scope.alloc);
-    for i in 0..values.len() {
-        code = with_element(plan, home, &values[i], i, k, code)?;
+    for index in 0..count {
+        let at = Slot { home, index };
+        code = with_element(plan, at, &values[index as usize], k, code)?;
     }
     Ok(code)
 }
 
+/// The elements that a list has, and then those that it leaves over.
 fn filled_list(
     plan: &Plan,
     home: Home,
     values: &[Source],
-    number: Option<LoopId>,
-    shift: u32,
+    filler: Filler,
     k: u32,
 ) -> Result<Code, Memory>
-    ensures { IfOk result (λ c. code_of c ≡ list_planned (plan_said plan.now) home (exprs_of values.now) (map_option loop_of number) shift k) }
+    ensures { IfOk result (λ c. code_of c ≡ list_planned (plan_said plan.now) home (exprs_of values.now) (map_option loop_of filler.number) filler.shift k) }
 {
     let count = offset(0, values.len())?;
     let code = listed(plan, home, values, k)?;
-    match filling(plan.scope.alloc, plan.bounds, home, shift, number, count, k) {
+    match filling(plan, home, filler, count, k) {
         Ok(filling) => code.joined(filling),
         Err(memory) => {
             code.let_go();
@@ -101,12 +94,18 @@ fn initialised(
 {
     match initial {
         Initial::Absent => Ok(Code::new(plan.scope.alloc)),
-        Initial::Value(value) => Ok(element(plan, home, value, 0, k)?),
+        Initial::Value(value) => Ok(element(plan, Slot { home, index: 0 }, value, k)?),
         Initial::List {
             values,
             filling,
             ..
-        } => Ok(filled_list(plan, home, values, *filling, shift, k)?),
+        } => {
+            let filler = Filler {
+                number: *filling,
+                shift,
+            };
+            Ok(filled_list(plan, home, values, filler, k)?)
+        }
     }
 }
 

@@ -1,19 +1,19 @@
 // Loops.
-ghost use Rattle.std.specs.Prelude.{◌≡◌, IfOk, map};
+ghost use Rattle.std.specs.Prelude.{◌≡◌, IfOk};
 ghost use Rattle.c_facts.specs.Most.{bounds_at};
 ghost use Rattle.c_tree.specs.Named.{map_option};
-ghost use Rattle.c_typed.specs.View.{initial_of, loop_of as number_of, object_of, start_of};
+ghost use Rattle.c_typed.specs.View.{loop_of as number_of};
 ghost use Rattle.high_code.specs.Code.{nothing};
 ghost use Rattle.high_ir.specs.declared.expression.BinaryOperator.TheVariants as binary;
 ghost use Rattle.high_ir.specs.Tree.{Binary, Constant, If, Leave, Set, Variable};
 ghost use Rattle.high_ir.specs.View.{expr_of, statement_of};
-ghost use Rattle.high_plan.specs.Statements.{filled, fillings_in, fillings_of, loops_before, looped, stored_at};
+ghost use Rattle.high_plan.specs.Statements.{filled, filling, looped, stored_at};
 ghost use Rattle.make_pieces.specs.View.{code_of};
-ghost use Rattle.make_statement.specs.Planned.{filling_by, filling_round};
+ghost use Rattle.make_statement.specs.Planned.{filling_round, plan_said};
 
+use super::plan::Plan;
 use c_facts::{Bounds, Starts};
-use c_typed::declaration::{Declaration, Initial, Object};
-use c_typed::statement::{ForStart, LoopId};
+use c_typed::statement::LoopId;
 use high_ir::expression::{BinaryOperator, Expr};
 use high_ir::statement::Statement;
 use high_plan::Home;
@@ -117,10 +117,19 @@ fn next_and_leave(alloc: Global, k: u32, end: u32) -> Result<(Statement, Stateme
     }
 }
 
-/// Elements from `from` on are 0: a loop whose bounds are how many they are.
-fn filled(alloc: Global, home: Home, id: u32, from: u32, count: u32, k: u32) -> Result<Code, Memory>
-    ensures { IfOk result (λ c. code_of c ≡ filled home id from count k) }
+/// What a list leaves over: so many elements from `from` on, which the loop of this number fills.
+#[derive(Clone, Copy)]
+struct Rest {
+    id: u32,
+    from: u32,
+    count: u32,
+}
+
+/// Elements of an object are 0: a loop whose bounds are how many they are.
+fn filled(alloc: Global, home: Home, rest: Rest, k: u32) -> Result<Code, Memory>
+    ensures { IfOk result (λ c. code_of c ≡ filled home rest.id rest.from rest.count k) }
 {
+    let Rest { id, from, count } = rest;
     let starts = Starts {
         least: count,
         most: count,
@@ -140,61 +149,28 @@ fn filled(alloc: Global, home: Home, id: u32, from: u32, count: u32, k: u32) -> 
     }
 }
 
-/// The filling of the elements that a list leaves over.
-pub fn filling(
-    alloc: Global,
-    bounds: &[Bounds],
-    home: Home,
-    shift: u32,
-    number: Option<LoopId>,
-    from: u32,
-    k: u32,
-) -> Result<Code, Memory>
-    ensures { IfOk result (λ c. code_of c ≡ filling_by bounds.now home shift (map_option number_of number) from k) }
+/// The loop of the source that fills what a list leaves over, where there is one. It stands before `shift` loops whose
+/// keywords come first.
+#[derive(Clone, Copy)]
+pub struct Filler {
+    pub number: Option<LoopId>,
+    pub shift: u32,
+}
+
+/// The filling of the elements that a list leaves over, from `from` on.
+pub fn filling(plan: &Plan, home: Home, filler: Filler, from: u32, k: u32) -> Result<Code, Memory>
+    ensures { IfOk result (λ c. code_of c ≡ filling (plan_said plan.now) home filler.shift (map_option number_of filler.number) from k) }
 {
-    match number {
+    let alloc = plan.scope.alloc;
+    match filler.number {
         None => Ok(Code::new(alloc)),
         Some(number) => {
-            let id = number.0.saturating_sub(1).saturating_sub(shift);
-            let count = bounds_at(bounds, number.0).max;
-            filled(alloc, home, id, from, count, k)
+            let rest = Rest {
+                id: number.0.saturating_sub(1).saturating_sub(filler.shift),
+                from,
+                count: bounds_at(plan.bounds, number.0).max,
+            };
+            filled(alloc, home, rest, k)
         }
-    }
-}
-
-fn fillings_of(initial: &Initial) -> u32
-    ensures { result ≡ fillings_of (initial_of initial.now) }
-{
-    match initial {
-        Initial::Absent => 0,
-        Initial::Value(_) => 0,
-        Initial::List { filling, .. } => match filling {
-            None => 0,
-            Some(_) => 1,
-        },
-    }
-}
-
-fn fillings_in(objects: &[Object]) -> Result<u32, Memory>
-    ensures { IfOk result (λ n. n ≡ fillings_in (map object_of objects.now)) }
-{
-    let mut fillings = 0;
-    for object in objects {
-        fillings = sum(fillings, fillings_of(&object.initial))?;
-    }
-    Ok(fillings)
-}
-
-/// How many loops stand in the head of a `for`.
-pub fn loops_before(start: &ForStart) -> Result<u32, Memory>
-    ensures { IfOk result (λ n. n ≡ loops_before (start_of start.now)) }
-{
-    match start {
-        ForStart::Absent => Ok(0),
-        ForStart::Expression(_) => Ok(0),
-        ForStart::Declaration(declaration) => match declaration {
-            Declaration::Objects { objects, .. } => Ok(fillings_in(objects)?),
-            Declaration::Prototype { .. } => Ok(0),
-        },
     }
 }

@@ -20,7 +20,7 @@ use super::continuing::{continues, ends_in_block, rounded};
 use super::declaring::{declared, started};
 use super::exits::Exits;
 use super::labels::{Choice, default_number, is_label, label_tests};
-use super::loops::{bounds_at, looped, loops_before};
+use super::loops::{bounds_at, looped};
 use super::parts::Parts;
 use super::plan::Plan;
 use super::returning::returned;
@@ -33,6 +33,7 @@ use high_ir::expression::Expr;
 use high_ir::statement::Statement;
 use high_plan::Purpose;
 use make_expression::{choose, chosen, code, is_joint, value};
+use make_loops::loops_before;
 use make_pieces::numbers::sum;
 use make_pieces::statements::let_go;
 use make_pieces::{Code, Steady};
@@ -170,16 +171,23 @@ fn number_behind(number: LoopId, start: &ForStart) -> Result<u32, Memory>
 }
 
 /// The word of a switch, the number of its default, and the tests of its labels.
+#[derive(Drop)]
+struct Selector {
+    word: Steady,
+    default: u32,
+    tests: Code,
+}
+
 fn tested_word(
     plan: &Plan,
     test: &Source,
     k: u32,
     items: &[Item],
     noted: u32,
-) -> Result<(Steady, u32, Code), Memory>
-    ensures word { IfOk result (λ p. steady_of p.0 ≡ firm k (made plan.now.scope.homes.now Value (source_of test.now) k) End) }
-    ensures default { IfOk result (λ p. p.1 ≡ default_number (items_of items.now) 1) }
-    ensures tests { IfOk result (λ p. code_of p.2 ≡ label_tests (leaf_expr p.0.value) noted (items_of items.now) 1) }
+) -> Result<Selector, Memory>
+    ensures word { IfOk result (λ s. steady_of s.word ≡ firm k (made plan.now.scope.homes.now Value (source_of test.now) k) End) }
+    ensures default { IfOk result (λ s. s.default ≡ default_number (items_of items.now) 1) }
+    ensures tests { IfOk result (λ s. code_of s.tests ≡ label_tests (leaf_expr s.word.value) noted (items_of items.now) 1) }
 {
     let alloc = plan.scope.alloc;
     let default = default_number(items)?;
@@ -189,7 +197,11 @@ fn tested_word(
         noted,
     };
     match label_tests(alloc, choice_by, items) {
-        Ok(tests) => Ok((word, default, tests)),
+        Ok(tests) => Ok(Selector {
+            word,
+            default,
+            tests,
+        }),
         Err(memory) => {
             word.let_go();
             Err(memory)
@@ -198,17 +210,15 @@ fn tested_word(
 }
 
 /// A choice by a word: which label is noted, and then the parts.
-fn switched(
-    alloc: Global,
-    test: Steady,
-    noted: u32,
-    default: u32,
-    tests: Code,
-    parts: Code,
-) -> Result<Code, Memory>
-    ensures { IfOk result (λ c. code_of c ≡ switched_to (steady_of test) noted default (code_of tests) (code_of parts)) }
+fn switched(alloc: Global, selector: Selector, noted: u32, parts: Code) -> Result<Code, Memory>
+    ensures { IfOk result (λ c. code_of c ≡ switched_to (steady_of selector.word) noted selector.default (code_of selector.tests) (code_of parts)) }
 {
-    let Steady { code, .. } = test;
+    let Selector {
+        word,
+        default,
+        tests,
+    } = selector;
+    let Steady { code, .. } = word;
     let note = Statement::Set {
         variable: noted,
         value: Expr::Constant(default),
@@ -398,7 +408,7 @@ fn chosen_part(
     let noted = sum(k, 1)?;
     let parts = parts(plan, noted, items, sum(k, 2)?, exits.in_switch()?)?;
     match tested_word(plan, test, k, items, noted) {
-        Ok((word, default, tests)) => Ok(switched(alloc, word, noted, default, tests, parts)?),
+        Ok(selector) => Ok(switched(alloc, selector, noted, parts)?),
         Err(memory) => {
             parts.let_go();
             Err(memory)

@@ -6,15 +6,15 @@ use Rattle.high_code.specs.Code.{joined}
 use Rattle.high_plan.specs.Statements.{filling, listed}
 use Rattle.make_pieces.specs.View.{code_of}
 use Rattle.make_statement.specs.Planned.{plan_said}
-use Rattle.make_statement.proofs.Lists.{count_length, filling_same}
+use Rattle.make_statement.proofs.Lists.{count_length}
 use Rattle.make_statement.proofs.declaring.filled_list.Goals as goal
 
 pub returns-in-Ok : goal.returns-in-Ok
 returns-in-Ok c =
     let plan = plan_said c.args.plan.now in
-    let number = map_option loop_of c.args.number in
+    let number = map_option loop_of c.args.filler.number in
     let count : c.in_ok-count.count ≡ count_exprs (exprs_of c.args.values.now) = omega (arith, c.in_ok-count.ensures, count_length c.args.values.now) in
     subst (λ s. IfOk c.joined.result (λ x. code_of x ≡ s))
     (ap (λ x. joined x (code_of c.in-Ok.filling)) c.in_ok-code.ensures
-    ∙ ap (joined (listed plan c.args.home (exprs_of c.args.values.now) 0 c.args.k)) (c.in-Ok.ensures ∙ filling_same plan c.args.home c.args.shift number c.in_ok-count.count c.args.k ∙ ap (λ n. filling plan c.args.home c.args.shift number n c.args.k) count))
+    ∙ ap (joined (listed plan c.args.home (exprs_of c.args.values.now) 0 c.args.k)) (c.in-Ok.ensures ∙ ap (λ n. filling plan c.args.home c.args.filler.shift number n c.args.k) count))
     c.joined.ensures

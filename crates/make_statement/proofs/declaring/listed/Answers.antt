@@ -9,14 +9,14 @@ use Rattle.make_statement.specs.Planned.{plan_said}
 use Rattle.make_statement.proofs.Lists.{one_element}
 use Rattle.make_statement.proofs.declaring.listed.Goals as goal
 
-pub loop-i-preserved : goal.loop-i-preserved
-loop-i-preserved c =
-    let below : c.loop-i.i < length c.args.values.now = omega (arith, c.loop-i-test.true) in
-    one_element (plan_said c.args.plan.now) c.args.home c.args.values.now c.loop-i.i c.loop-i.i c.index-values-i.result c.args.k (code_of c.loop-i.code) (code_of c.in_ok-code.code) below c.index-values-i.is refl c.in_ok-code.ensures
-    ∙ c.loop-i.invariant
+pub loop-index-preserved : goal.loop-index-preserved
+loop-index-preserved c =
+    let below : c.loop-index.index < length c.args.values.now = omega (arith, c.loop-index-test.true, c.in_ok-count.ensures) in
+    one_element (plan_said c.args.plan.now) c.args.home c.args.values.now c.loop-index.index c.loop-index.index c.index-values-index.result c.args.k (code_of c.loop-index.code) (code_of c.in_ok-code.code) below c.index-values-index.is refl c.in_ok-code.ensures
+    ∙ c.loop-index.invariant
 
 pub returns : goal.returns
 returns c =
-    sym (joined_end (code_of c.loop-i.code))
-    ∙ sym (ap (λ xs. joined (code_of c.loop-i.code) (listed (plan_said c.args.plan.now) c.args.home (exprs_of xs) c.loop-i.i c.args.k)) (drop_of_length-le c.args.values.now (omega (arith, c.loop-i-test.false))))
-    ∙ c.loop-i.invariant
+    sym (joined_end (code_of c.loop-index.code))
+    ∙ sym (ap (λ xs. joined (code_of c.loop-index.code) (listed (plan_said c.args.plan.now) c.args.home (exprs_of xs) c.loop-index.index c.args.k)) (drop_of_length-le c.args.values.now (omega (arith, c.loop-index-test.false, c.in_ok-count.ensures))))
+    ∙ c.loop-index.invariant

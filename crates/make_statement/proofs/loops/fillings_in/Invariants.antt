@@ -1,7 +1,0 @@
-use Rattle.std.proofs.Common.{◌≡◌, ◌+◌, drop, map}
-use Rattle.c_typed.specs.View.{object_of}
-use Rattle.high_plan.specs.Statements.{fillings_in}
-use Rattle.make_statement.proofs.loops.fillings_in.Given as goal
-
-abbrev pub invariant-loop-object : goal.invariant-loop-object
-invariant-loop-object l = l.fillings + fillings_in (map object_of (drop l.object-index l.objects)) ≡ fillings_in (map object_of l.objects)
