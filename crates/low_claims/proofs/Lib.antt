@@ -1,3 +1,4 @@
 pub mod Sites
 pub mod Growing
 pub mod Closing
+pub mod Numbering

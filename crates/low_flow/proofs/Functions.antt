@@ -23,6 +23,7 @@ use Rattle.low_plan.specs.Programs.{body_piece, lowered_function, turned}
 use Rattle.low_words.proofs.Writing.{write_inside}
 use Rattle.low_events.specs.Segments.{AllInside, Quiet}
 use Rattle.low_events.proofs.Pieces.{all_behind, part_above}
+use Rattle.low_nesting.proofs.Free.{pieces_free}
 use Rattle.low_nesting.proofs.Loops.{all_loops_inside}
 use Rattle.low_values.specs.Meeting.{IsClaimed, MeetsFrame, MeetsWorld, array_value, array_values, passed_values}
 use Rattle.low_flow.specs.Claims.{built, IsSound, whole}
@@ -30,7 +31,6 @@ use Rattle.low_flow.specs.Following.{Goer, Place, IsPlace, Activation, After, An
 use Rattle.low_flow.proofs.Steps.{after_map, and_then, now}
 use Rattle.low_flow.proofs.Parts.{in_larger, reach_in, reach_then}
 use Rattle.low_flow.proofs.Jumps.{begin_block, enters}
-use Rattle.low_flow.proofs.Growing.{pieces_free}
 use Rattle.low_flow.proofs.Ends.{Ends}
 use Rattle.low_flow.proofs.Following.{all_follow}
 

@@ -1,5 +1,5 @@
 -- Runs that stay within a part of a function, one after another.
-use Rattle.std.proofs.Common.{◌≡◌, ℕ, suc, ◌+◌, ◌≤◌, List, [], ◌∷◌, ◌++◌, length, Option, Some, None, refl, subst, arith}
+use Rattle.std.proofs.Common.{ℕ, suc, ◌+◌, ◌≤◌, List, [], ◌∷◌, ◌++◌, length, Option, Some, None, subst, arith}
 use Rattle.std.specs.Prelude.{slice_index_or}
 use Rattle.high_ir.specs.Meaning.{Outcome, Goes, Leaves, Returns, Bad}
 use Rattle.low_ir.specs.declared.run.Began.{Began}
@@ -9,6 +9,7 @@ use Rattle.low_plan.specs.Operators.{Code}
 use Rattle.low_plan.specs.Statements.{Piece, landed, landed_by, one_block}
 use Rattle.low_events.specs.Segments.{AllInside, Segment}
 use Rattle.low_events.proofs.Pieces.{all_before, all_behind, part_loops_before, part_loops_behind, part_then, part_wider, still}
+use Rattle.low_nesting.proofs.Free.{landed_loops}
 use Rattle.low_flow.specs.Claims.{whole}
 use Rattle.low_flow.specs.Following.{Activation, After, Begun, Does, Extent, Goer, Here, Place, Reached, Returning, extent}
 use Rattle.low_flow.proofs.Steps.{after_map, and_then, now}
@@ -52,16 +53,6 @@ module _ (q : Low) (at : Place) where
   in_back n m n2 m2 n3 size ls more before within low high inside a b h =
       part_wider at.number at.last q n m n3 size (more ++ ls) a b low high
       (part_loops_before at.number at.last q n m ls more a b (all_before at.number at.last n m n2 m2 more before within inside) h)
-
-  landed_loops : (n : ℕ) (p : Piece) → (landed n p).loops ≡ p.loops
-  landed_loops n p = by_first p.first.mark p.first.code p.first.end
-    where
-      by_first : (m : Option ℕ) (c : Code) (e : End ℕ) → (landed_by m c e n p).loops ≡ p.loops
-      by_first (Some m) c e = refl
-      by_first None (i ∷ is) e = refl
-      by_first None [] (Branch c x y taken other) = refl
-      by_first None [] (Return x) = refl
-      by_first None [] (Jump b) = refl
 
   -- what is behind a statement has no loops
   pub in_join : (n t : ℕ) (k : Block ℕ Note) (n2 m2 size : ℕ) (more : List Loop) → n + length (landed n (one_block k t)).new ≤ n2 → n2 + m2 ≤ suc at.last → n2 + m2 ≤ n + size → AllInside n2 m2 more → InPart (extent n (landed n (one_block k t)).new (landed n (one_block k t)).loops) (record { from = n; count = size; loops = more })

@@ -24,6 +24,7 @@ use Rattle.low_values.proofs.Values.{works, operand_found, operand_free}
 use Rattle.low_values.proofs.Shares.{begun, scaled_written}
 use Rattle.low_values.proofs.Tests.{tests, tested_free}
 use Rattle.low_events.specs.Segments.{AllInside}
+use Rattle.low_nesting.proofs.Free.{before_free, get_free, landed_free, landed_length, piece_free, pieces_free, test_free}
 use Rattle.low_nesting.proofs.Loops.{all_loops_inside, inside_append, inside_wider, landed_inside, loops_inside}
 use Rattle.low_flow.specs.Claims.{Around, Fits, IsFollowed, whole}
 use Rattle.low_flow.specs.Following.{Goer, Place, IsPlace, Activation, After, Extent, IsAt, Stand, Meets, Entered, Begun, Here, Inside, Ahead, Reached, Returning, Does, extent}
@@ -36,7 +37,7 @@ use Rattle.low_flow.proofs.Stores.{stores}
 use Rattle.low_flow.proofs.Keeping.{keep_inner, keep_state, store_passes}
 use Rattle.low_flow.proofs.Ends.{loop_does, out_does, then_does, to_goal, to_join}
 use Rattle.low_flow.proofs.Jumps.{arrives, branch_step, enters, jump_step, landing, stand_back, stand_front, stand_landed, stand_one}
-use Rattle.low_flow.proofs.Growing.{before_free, exits_more, get_free, landed_length, landed_free, landed_goal, leads_within, all_lead_within, piece_free, pieces_free, room_back, room_front, test_free}
+use Rattle.low_flow.proofs.Growing.{all_lead_within, exits_more, landed_goal, leads_within, room_back, room_front}
 
 module _ (q : Low) (at : Place) (is_place : IsPlace q at) (act : Activation) (call : high.Calls) where
   abbrev Stands : ℕ → List (code.Block ℕ Note) → Type 0

@@ -31,7 +31,7 @@ closed_append fs seen [] ys h k = subst (λ s. IsClosed fs s ys) (append-nil see
 closed_append fs seen (x ∷ xs) ys h k = (h.0, closed_append fs (seen ++ x ∷ []) xs ys h.1 (subst (λ s. IsClosed fs s ys) (sym (append_assoc seen (x ∷ []) xs)) k))
 
 -- the rank of a function that is there
-rank_is : (fs : List Function) (g n : ℕ) (h : Function) → slice_get fs g ≡ Some h → rank_or fs g n ≡ h.rank
+pub rank_is : (fs : List Function) (g n : ℕ) (h : Function) → slice_get fs g ≡ Some h → rank_or fs g n ≡ h.rank
 rank_is fs g n h e =
     let inside = slice_get_within fs g h e in
     get_or-map (λ (x : Function). x.rank) fs g h n inside ∙ ap (λ (x : Function). x.rank) (get_or_from_slice_get fs g h h e)
@@ -47,7 +47,7 @@ rank_past [] g n e = refl
 rank_past (x ∷ fs) zero n e = cc
 rank_past (x ∷ fs) (suc g) n e = rank_past fs g n e
 
-callee_there : (fs : List Function) (g n : ℕ) → rank_or fs g n < n → Callee fs g n
+pub callee_there : (fs : List Function) (g n : ℕ) → rank_or fs g n < n → Callee fs g n
 callee_there fs g n low = by_get (slice_get fs g) refl
   where
     by_get : (o : Option Function) → slice_get fs g ≡ o → Callee fs g n
@@ -58,7 +58,7 @@ module _ (p : Program) (high : IsHigh p) where
   abbrev fs : List Function
   fs = p.functions
 
-  falls : (f : ℕ) (h : Function) → slice_get fs f ≡ Some h → RanksFall fs h
+  pub falls : (f : ℕ) (h : Function) → slice_get fs f ≡ Some h → RanksFall fs h
   falls f h e =
       let inside = slice_get_within fs f h e in
       subst (RanksFall fs) (get_or_from_slice_get fs f h h e) (All-get_or (RanksFall fs) fs f h inside high.ranks)

@@ -1,4 +1,3 @@
-pub mod Numbering
 pub mod Serving
 pub mod Start
 pub mod Programs

@@ -1,8 +1,7 @@
 -- Each call in a function of the low program is served.
-use Rattle.std.proofs.Common.{◌≡◌, ℕ, zero, suc, ◌<◌, true, List, [], ◌∷◌, ◌++◌, length, map, replicate, Some, refl, sym, ap, ◌∙◌, subst, arith}
-use Rattle.std.specs.Prelude.{All, if◌then◌else◌, nat_lt, reverse, slice_get, slice_index_or}
+use Rattle.std.proofs.Common.{◌≡◌, ℕ, zero, suc, ◌<◌, true, List, [], ◌∷◌, ◌++◌, length, map, Some, refl, sym, ap, ◌∙◌, subst, arith}
+use Rattle.std.specs.Prelude.{All, if◌then◌else◌, nat_lt, slice_get, slice_index_or}
 use Rattle.std.proofs.lemmas.Bool.Decides.{nat_tests}
-use Rattle.std.proofs.lemmas.List.{get_or-map, length-replicate}
 use Rattle.std.proofs.lemmas.List.Elements.{All-get_or}
 use Rattle.std.proofs.lemmas.Option.{same_Some, slice_get_within, get_or_from_slice_get}
 use Rattle.high_ir.specs.declared.object.Base.{Base}
@@ -14,7 +13,7 @@ use Rattle.high_ir.specs.Tree.{Function, Program, Statement, Set, Put, Get, Keep
 use Rattle.low_ir.specs.Code.{Low}
 use Rattle.low_ir.specs.Effects.{is_member}
 use Rattle.low_plan.specs.Values.{Scope}
-use Rattle.low_plan.specs.Calls.{Passed, Site, all_passed, meant, none_passed, numbered, order, place_in, sites_of, sites_of_all}
+use Rattle.low_plan.specs.Calls.{Passed, Site, all_passed, meant, numbered, order, place_in, sites_of, sites_of_all}
 use Rattle.low_plan.specs.Programs.{lowered, scope_of}
 use Rattle.low_values.specs.Meeting.{IsClaimed}
 use Rattle.low_values.proofs.Elements.{from_value}
@@ -24,10 +23,10 @@ use Rattle.low_flow.proofs.Functions.{function_does, is_here}
 use Rattle.low_order.proofs.Members.{member_first, member_more}
 use Rattle.low_order.specs.Orders.{IsOrdered}
 use Rattle.low_claims.specs.Closed.{AreCovered, IsCovered, listed, listed_at}
-use Rattle.low_claims.proofs.Closing.{closed, functions_grow}
+use Rattle.low_claims.proofs.Numbering.{Stood, all_there, has_number, length-numbered, listed_count, number_of, stood}
+use Rattle.low_claims.proofs.Closing.{closed}
 use Rattle.low_claims.proofs.Sites.{sites-callees}
 use Rattle.low_program.specs.Kept.{AllHaveWords, HasWords}
-use Rattle.low_program.proofs.Numbering.{AllThere, Stood, has_number, length-numbered, number_of, stood}
 
 -- a list of one array has it
 one_member : (o : ℕ) → is_member (o ∷ []) o ≡ true
@@ -67,11 +66,6 @@ passes passed (b ∷ bs) ns (suc j) o e f =
     let rest : slice_get c.value j ≡ Some o = ap (λ xs. slice_get xs (suc j)) (same_Some (a.value ∷ c.value) ns c.then_is) ∙ f in
     later passed b bs j o (passes passed bs c.value j o c.is rest)
 
--- each of these is in the program
-all_there : (p : Program) (passed : Passed) (gs : List ℕ) → ((g : ℕ) → is_member gs g ≡ true → (h : Function) × (slice_get p.functions g ≡ Some h)) → AllThere p passed gs
-all_there p passed [] h = tt
-all_there p passed (g ∷ gs) h = (h g (member_first g gs), all_there p passed gs (λ c e. h c (member_more g gs c e)))
-
 module _ (p : Program) (ordered : IsOrdered p) where
   abbrev q : Low
   q = lowered p
@@ -91,16 +85,8 @@ module _ (p : Program) (ordered : IsOrdered p) where
       stood p table (order p) [] 0 (place_in (order p) f) f h (all_there p table (order p) there) refl a.number e
 
   -- how many lists a function has
-  list_count : (f : ℕ) (h : Function) → slice_get p.functions f ≡ Some h → length (listed table f) ≡ h.arrays
-  list_count f h e =
-      let inside = slice_get_within p.functions f h e in
-      let grown = functions_grow (length p.objects) p.functions (reverse (order p)) (none_passed p.functions) in
-      let first : listed (none_passed p.functions) f ≡ replicate h.arrays [] =
-      get_or-map (λ (x : Function). replicate x.arrays []) p.functions f h [] inside ∙ ap (λ (x : Function). replicate x.arrays []) (get_or_from_slice_get p.functions f h h e) in
-      grown.sizes f ∙ ap length first ∙ length-replicate {A = List ℕ} h.arrays []
-
   count_claims : (n f : ℕ) (h : Function) → slice_get p.functions f ≡ Some h → length (scope_at n f h).claims ≡ h.arrays
-  count_claims n f h e = length-numbered n (listed table f) ∙ list_count f h e
+  count_claims n f h e = length-numbered n (listed table f) ∙ listed_count p f h e
 
   -- a function of the low program as a place
   abbrev pub place_of : (f : ℕ) (h : Function) → is_member (order p) f ≡ true → slice_get p.functions f ≡ Some h → Place

@@ -1,17 +1,19 @@
 -- Claims and functions by their numbers.
-use Rattle.std.proofs.Common.{◌≡◌, ℕ, zero, suc, ◌+◌, ◌<◌, true, List, [], ◌∷◌, ◌++◌, length, Some, refl, sym, ap, ◌∙◌, subst, arith, append_assoc, length-append}
-use Rattle.std.specs.Prelude.{slice_get, slice_index_or}
+use Rattle.std.proofs.Common.{◌≡◌, ℕ, zero, suc, ◌+◌, ◌<◌, true, List, [], ◌∷◌, ◌++◌, length, replicate, Some, refl, sym, ap, ◌∙◌, subst, arith, append_assoc, length-append}
+use Rattle.std.specs.Prelude.{reverse, slice_get, slice_index_or}
 use Rattle.std.specs.List.{flat_map}
-use Rattle.std.proofs.lemmas.List.{get_or-append-add, get_or_append_left}
+use Rattle.std.proofs.lemmas.List.{get_or-append-add, get_or-map, get_or_append_left, length-replicate}
 use Rattle.std.proofs.lemmas.List.Concat.{flat_map-cons}
-use Rattle.std.proofs.lemmas.Option.{same_Some}
+use Rattle.std.proofs.lemmas.Option.{same_Some, slice_get_within, get_or_from_slice_get}
 use Rattle.high_ir.specs.Tree.{Function, Program}
 use Rattle.low_ir.specs.Code as code
 use Rattle.low_ir.specs.Code.{Note}
 use Rattle.low_ir.specs.Effects.{is_member}
-use Rattle.low_plan.specs.Calls.{Passed, claims_among, numbered}
+use Rattle.low_plan.specs.Calls.{Passed, all_passed, claims_among, none_passed, numbered, order}
 use Rattle.low_plan.specs.Programs.{lowered_function, lowered_functions, lowered_in, scope_of}
+use Rattle.low_order.proofs.Members.{member_first, member_more}
 use Rattle.low_claims.specs.Closed.{listed}
+use Rattle.low_claims.proofs.Closing.{functions_grow}
 
 pub length-numbered : (n : ℕ) (cs : List (List ℕ)) → length (numbered n cs) ≡ length cs
 length-numbered n [] = refl
@@ -93,3 +95,17 @@ module _ (p : Program) (passed : Passed) where
         function = ap (λ o. slice_get (lowered_in p passed n g o ++ rest) (suc i)) all.0.1 ∙ s.function;
         claims = λ k low. ap (λ xs. slice_index_or xs (s.number + k) []) (sym same) ∙ s.claims k low;
       }
+
+-- functions that are members of a list are in the program
+pub all_there : (p : Program) (passed : Passed) (gs : List ℕ) → ((g : ℕ) → is_member gs g ≡ true → (h : Function) × (slice_get p.functions g ≡ Some h)) → AllThere p passed gs
+all_there p passed [] h = tt
+all_there p passed (g ∷ gs) h = (h g (member_first g gs), all_there p passed gs (λ c e. h c (member_more g gs c e)))
+
+-- of a function as many lists are kept as it has array parameters
+pub listed_count : (p : Program) (f : ℕ) (h : Function) → slice_get p.functions f ≡ Some h → length (listed (all_passed p) f) ≡ h.arrays
+listed_count p f h e =
+    let inside = slice_get_within p.functions f h e in
+    let grown = functions_grow (length p.objects) p.functions (reverse (order p)) (none_passed p.functions) in
+    let first : listed (none_passed p.functions) f ≡ replicate h.arrays [] =
+    get_or-map (λ (x : Function). replicate x.arrays []) p.functions f h [] inside ∙ ap (λ (x : Function). replicate x.arrays []) (get_or_from_slice_get p.functions f h h e) in
+    grown.sizes f ∙ ap length first ∙ length-replicate {A = List ℕ} h.arrays []
