@@ -1,5 +1,5 @@
 -- Loops keep their bounds: a loop whose header is left has an open weight, and so it turns along open ways or needn't turn.
-use Rattle.std.proofs.Common.{◌≡◌, ◌≢◌, ℕ, zero, suc, ◌+◌, ◌-◌, ◌*◌, ◌≤◌, ◌<◌, ℤ, pos, ◌+ℤ◌, ◌-ℤ◌, ◌*ℤ◌, ◌≤ℤ◌, ◌<ℤ◌, arith, refl, sym, ap, ◌∙◌, subst, List, [], ◌∷◌, length, inl, inr, ◌⊎◌, Bool, true, false, cond, Option, Some, None}
+use Rattle.std.proofs.Common.{◌≡◌, ◌≢◌, ℕ, zero, suc, ◌+◌, ◌-◌, ◌*◌, ◌≤◌, ◌<◌, ℤ, pos, ◌-ℤ◌, ◌≤ℤ◌, ◌<ℤ◌, arith, refl, sym, ap, ◌∙◌, subst, List, [], ◌∷◌, length, inl, inr, ◌⊎◌, Bool, true, false, cond, Option, Some, None}
 use Rattle.std.specs.Prelude.{◌==◌, nat_le, min, unsigned_abs}
 use Rattle.std.specs.Int.RustNames.{int_lt}
 use Rattle.std.proofs.lemmas.Int.{ints}
@@ -10,11 +10,11 @@ use Rattle.std.proofs.Math.ListN.{replicate}
 use Rattle.loop_walks.specs.declared.step.Step.{Step}
 use Rattle.loop_walks.specs.declared.step.Loop.{Loop}
 use Rattle.loop_walks.specs.declared.step.Pair.{Pair}
-use Rattle.loop_walks.specs.Walks.{larger, worth_at, cost, head_steps, body_steps, range_steps}
-use Rattle.loop_walks.specs.Turns.{greater, further, way_at, turned, with_back as start_back, turn_start, turn_ways, gain}
+use Rattle.loop_walks.specs.Walks.{worth_at, head_steps, body_steps, range_steps}
+use Rattle.loop_walks.specs.Turns.{way_at, turned, with_back as start_back, turn_start, turn_ways, gain}
 use Rattle.loop_walks.specs.Multipliers.{first_weight, whole, over, least_of, pair_of}
 use Rattle.loop_walks.specs.Levels.{weighed, gains, onward, Level, level_pair, level_by, level_pairs}
-use Rattle.loop_walks.specs.Rows.{IsStep, AreSteps, Each, IsBack, IsLoopOf, HeadersAbove, AreLoops}
+use Rattle.loop_walks.specs.Rows.{AreSteps, Each, IsBack, IsLoopOf, HeadersAbove, AreLoops}
 use Rattle.loop_walks.proofs.EachLemmas.{each_map, each_beside}
 use Rattle.loop_walks.proofs.TurnLemmas.{IsInRange, turn_at, turn_other, turned-long, turn_start-long}
 use Rattle.loop_walks.proofs.LevelLemmas.{set_other, weighed-long, From, from_above}
@@ -23,7 +23,7 @@ use Rattle.loop_flows.specs.Flows.{Turning, backs_to, HeadersBehind, AreTurned}
 use Rattle.loop_passes.specs.Turns.{further_turns, turning_of, with_way, with_back, turnings}
 use Rattle.loop_passes.specs.Opens.{TurnsOpenly, TurnAllOpenly, EachMade}
 use Rattle.loop_passes.proofs.TurnLemmas.{turnings_behind}
-use Rattle.loop_passes.proofs.OpenLemmas.{Turns, departed_made, weight_turns}
+use Rattle.loop_passes.proofs.OpenLemmas.{departed_made, weight_turns}
 use Rattle.loop_counts.specs.Counts.{KeepsBounds, IsCounted, AreCounted, AreBounded}
 
 -- ---- without a jump back there is no way

@@ -46,10 +46,10 @@ append_none : (xs : List Limit) → xs ++ [] ≡ xs
 append_none [] = refl
 append_none (x ∷ xs) = ap (λ ys. x ∷ ys) (append_none xs)
 
-below_zero : (n : ℕ) → neg_ℤ (pos n) ≤ℤ pos 0
+pub below_zero : (n : ℕ) → neg_ℤ (pos n) ≤ℤ pos 0
 below_zero n = omega (arith, ints)
 
-below_all : (n k : ℕ) → neg_ℤ (pos n) ≤ℤ pos k
+pub below_all : (n k : ℕ) → neg_ℤ (pos n) ≤ℤ pos k
 below_all n k = omega (arith, ints)
 
 times_one : (n : ℕ) → n * 1 ≡ n
@@ -71,7 +71,7 @@ module _ (t : Table) (s : System) (ls : List LoopShape) (ps : List Span) (whole 
   abbrev x : Values
   x = values_of s ls ps (costs_of t s)
 
-  abbrev cert : Mark → Cert
+  abbrev pub cert : Mark → Cert
   cert m = certificate_with m s (costs_of t s) (values_of s ls ps (costs_of t s)) (amounts_of s ls ps (costs_of t s))
 
   negative : (costs_of t s).low ≤ℤ pos 0
@@ -80,12 +80,12 @@ module _ (t : Table) (s : System) (ls : List LoopShape) (ps : List Span) (whole 
   dual : IsDual s (dual_of s (costs_of t s).of (values_of s ls ps (costs_of t s)))
   dual = walks_dual s ls ps whole (costs_of t s) negative
 
-  limits_same : (m : Mark) → limits s.claims (cert m) ≡ (dual_of s (costs_of t s).of (values_of s ls ps (costs_of t s))).limits
+  pub limits_same : (m : Mark) → limits s.claims (cert m) ≡ (dual_of s (costs_of t s).of (values_of s ls ps (costs_of t s))).limits
   limits_same m =
       ap (λ ks. never_limits s.claims.nevers (cert m).nevers ++ (loop_limits s.claims.loops (cert m).loops ++ ks)) (fact_none s.claims.facts)
       ∙ ap (λ ks. never_limits s.claims.nevers (cert m).nevers ++ ks) (append_none (loop_limits s.claims.loops (cert m).loops))
 
-  price_same : (m : Mark) (k : Move) → scaled_price t s (cert m) k ≡ (costs_of t s).of k
+  pub price_same : (m : Mark) (k : Move) → scaled_price t s (cert m) k ≡ (costs_of t s).of k
   price_same m k = ap pos (times_one (move_cost t s k))
 
   row : (m : Mark) (k : Move) → Contains s.moves k → IsCovered (scaled_price t s (cert m)) (potential (cert m)) (limits s.claims (cert m)) k
@@ -94,7 +94,7 @@ module _ (t : Table) (s : System) (ls : List LoopShape) (ps : List Span) (whole 
       subst (λ js. IsCovered (scaled_price t s (cert m)) (potential (cert m)) js k) (sym (limits_same m))
       (let e = price_same m k in omega (arith, ints))
 
-  entry_is : (m : Mark) → potential (cert m) s.entry ≡ entry_worth s (values_of s ls ps (costs_of t s))
+  pub entry_is : (m : Mark) → potential (cert m) s.entry ≡ entry_worth s (values_of s ls ps (costs_of t s))
   entry_is m = potential_place s ls ps whole (costs_of t s) s.entry whole.system.entry
 
   accepts : (m : Mark) → HasRanges t s (cert m) → KeepsMark m t s (cert m) → Accepts t s (cert m)

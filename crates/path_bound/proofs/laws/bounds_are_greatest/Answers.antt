@@ -1,0 +1,5 @@
+use Rattle.path_bound.proofs.BoundLemmas.{all_greatest}
+use Rattle.path_bound.proofs.laws.bounds_are_greatest.Goals as goal
+
+pub returns : goal.returns
+returns c is = all_greatest _ _ _ _ c.requires is
