@@ -124,9 +124,9 @@ module _ (scope : Scope) (f : ℕ) (h : high.Function) where
         }
 
   -- a mark that is none of the body's is the opening mark
-  pub opening_at : (g m b : ℕ) (limit : ℕ) → m < limit → AllOf (λ x. limit ≤ x) (marks_of h.body) → mark_in (slice_get (lowered_function scope f h).blocks b) ≡ Some m → (f ≡ m) × (b ≡ 0)
-  opening_at g m zero limit low marks e = (same_Some f m (sym first_mark ∙ e), refl)
-  opening_at g m (suc b) limit low marks e = by_block (slice_get code.new b) refl (ap mark_in (sym (slice_get-map (turned (length code.new)) code.new b)) ∙ e)
+  pub opening_at : (m b limit : ℕ) → m < limit → AllOf (λ x. limit ≤ x) (marks_of h.body) → mark_in (slice_get (lowered_function scope f h).blocks b) ≡ Some m → (f ≡ m) × (b ≡ 0)
+  opening_at m zero limit low marks e = (same_Some f m (sym first_mark ∙ e), refl)
+  opening_at m (suc b) limit low marks e = by_block (slice_get code.new b) refl (ap mark_in (sym (slice_get-map (turned (length code.new)) code.new b)) ∙ e)
     where
       by_block : (o : Option (Block ℕ Note)) → slice_get code.new b ≡ o → mark_in (option_map (turned (length code.new)) o) ≡ Some m → (f ≡ m) × (suc b ≡ 0)
       by_block None is k = cc

@@ -34,10 +34,6 @@ of_members : (P : ℕ → Type 0) (xs : List ℕ) → ((x : ℕ) → is_member x
 of_members P [] h = tt
 of_members P (x ∷ xs) h = (h x (member_first x xs), of_members P xs (λ y e. h y (member_more x xs y e)))
 
-of_row : (P : ℕ → Type 0) (xs : List ℕ) → All P xs → AllOf P xs
-of_row P [] h = tt
-of_row P (x ∷ xs) h = (All-head P x xs h, of_row P xs (All-tail P x xs h))
-
 front : (P : ℕ → Type 0) (xs ys : List ℕ) → All P (xs ++ ys) → AllOf P xs
 front P [] ys h = tt
 front P (x ∷ xs) ys h = (All-head P x (xs ++ ys) h, front P xs ys (All-tail P x (xs ++ ys) h))
@@ -89,16 +85,13 @@ module _ (p : Program) (high : IsHigh p) where
     stands : Stood p table q.claims q.functions i number function
     same : fn ≡ lowered_function (scope_of p table function (numbered stands.number (listed table number))) number function
 
-  abbrev none : ℕ
-  none = 0
-
   function_at : (i : ℕ) (fn : code.Function ℕ Note) → slice_get q.functions i ≡ Some fn → At i fn
   function_at i fn e =
       let all = all_there p table (order p) there in
       let size = length-lowered (order p) 0 all in
       let low = slice_get_within q.functions i fn e in
-      let f = get_or (order p) i none in
-      let at : slice_get (order p) i ≡ Some f = slice_get-get_or (order p) i none (omega (arith, size, low)) in
+      let f = get_or (order p) i 0 in
+      let at : slice_get (order p) i ≡ Some f = slice_get-get_or (order p) i 0 (omega (arith, size, low)) in
       let k = there f (member_at (order p) i f at) in
       let s = stood p table (order p) [] 0 i f k.0 all refl at k.1 in
       record {
@@ -127,7 +120,7 @@ module _ (p : Program) (high : IsHigh p) where
           let a = function_at g gn is in
           let scope = scope_of p table a.function (numbered a.stands.number (listed table a.number)) in
           let low = slice_get_within p.functions f h there_is in
-          let r = opening_at scope a.number a.function 0 m b (length p.functions) (omega (arith, low, same)) (others a.number a.function a.there_is) (ap (λ (x : code.Function ℕ Note). mark_in (slice_get x.blocks b)) (sym a.same) ∙ k) in
+          let r = opening_at scope a.number a.function m b (length p.functions) (omega (arith, low, same)) (others a.number a.function a.there_is) (ap (λ (x : code.Function ℕ Note). mark_in (slice_get x.blocks b)) (sym a.same) ∙ k) in
           let number : a.number ≡ f = r.0 ∙ same in
           (sym (place_at g a.number a.at) ∙ ap (place_in (order p)) number ∙ place_at i f at, r.1)
 

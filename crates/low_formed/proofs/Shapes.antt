@@ -5,7 +5,7 @@ use Rattle.std.proofs.lemmas.Bool.{eq-eqb}
 use Rattle.std.proofs.lemmas.List.{length-map}
 use Rattle.std.proofs.lemmas.List.Elements.{All-cons, All-nil}
 use Rattle.std.proofs.lemmas.List.Kept.{AllPairs-cons}
-use Rattle.std.proofs.lemmas.Option.{same_Some, slice_get-map, slice_get-get_or}
+use Rattle.std.proofs.lemmas.Option.{same_Some, slice_get_within, slice_get-map, slice_get-get_or}
 use Rattle.low_ir.specs.Code.{End, Jump, Branch, Return, Block, Function, Loop, Note}
 use Rattle.low_ir.specs.Formed.{AreNested, HoldsWhole, IsLoop, LeadsOn, LeadsTo, LeadsTo_as, is_back, only_jump}
 use Rattle.low_plan.specs.Programs.{turned, turned_end, turned_loop}
@@ -20,11 +20,6 @@ each_get Q n (y ∷ bs) zero x i h e total =
     let at : n + length bs ≡ i = omega (arith, total) in
     subst (λ j. Q j x) at (subst (Q (n + length bs)) (same_Some y x e) h.0)
 each_get Q n (y ∷ bs) (suc b) x i h e total = each_get Q n bs b x i h.1 e (omega (arith, total))
-
-slice_below : {A : Type 0} (xs : List A) (j : ℕ) (x : A) → slice_get xs j ≡ Some x → j < length xs
-slice_below [] j x e = cc
-slice_below (y ∷ xs) zero x e = omega arith
-slice_below (y ∷ xs) (suc j) x e = let h = slice_below xs j x e in omega (arith, h)
 
 -- the goal of a block, in both numberings
 record Led (last : ℕ) (P : ℕ → Type 0) (n : ℕ) : Type 0 where
@@ -105,7 +100,7 @@ module _ (fn : Function ℕ Note) (bs : List (Block ℕ Note)) (last : ℕ) (cou
   pub forward : (ls : List Loop) → Each (FallsAt ls) 0 bs → (b n : ℕ) → LeadsTo fn b n → n ≤ b → is_back (map (turned_loop last) ls) b n ≡ true
   forward ls each b n h low =
       let f = from b n h in
-      let inside = slice_below bs b f.block f.at in
+      let inside = slice_get_within bs b f.block f.at in
       let i = last - b in
       let l = led last (Falls ls i) f.block.end n (each_get (FallsAt ls) 0 bs b f.block i each f.at (omega (arith, inside, count))) f.leads in
       let is = l.is in
@@ -129,7 +124,7 @@ module _ (fn : Function ℕ Note) (bs : List (Block ℕ Note)) (last : ℕ) (cou
             ap (λ xs. slice_get xs b) blocks ∙ slice_get-map (turned last) bs b ∙ ap (option_map (turned last)) at ∙ ap (λ y. Some (turned last y)) jumps;
         entered = λ b n h within out.
             let f = from b n h in
-            let there = slice_below bs b f.block f.at in
+            let there = slice_get_within bs b f.block f.at in
             let i = last - b in
             let k = each_get (LoopAt l) 0 bs b f.block i each f.at (omega (arith, there, count)) in
             let outside : (i < l.latch) ⊎ (l.header < i) = ⊎_elim (λ (e : b < last - l.header). inr (omega (arith, e, order, high))) (λ (e : last - l.latch < b). inl (omega (arith, e, order, high, there, count))) out in

@@ -2,7 +2,7 @@
 use Rattle.std.proofs.Common.{◌≡◌, ℕ, zero, suc, ◌+◌, ◌<◌, ◌≤◌, Bool, true, false, List, [], ◌∷◌, ◌++◌, length, Option, Some, None, refl, subst, arith, length-append}
 use Rattle.std.specs.Prelude.{◌==◌, ◌&&◌, if◌then◌else◌, nat_lt, slice_get}
 use Rattle.std.proofs.lemmas.Bool.{ltb-true}
-use Rattle.std.proofs.lemmas.Option.{same_Some}
+use Rattle.std.proofs.lemmas.Option.{same_Some, slice_get_within}
 use Rattle.rv_core.specs.declared.row.Condition.{Condition}
 use Rattle.high_ir.specs.declared.object.Array.{Array}
 use Rattle.high_ir.specs.declared.object.Base.{Base as HighBase}
@@ -130,11 +130,6 @@ pub record ScopeOk (size claims : ℕ) (scope : Scope) : Type 0 where
   pub registers : first_free scope ≤ size
   pub claimed : (j c : ℕ) → slice_get scope.claims j ≡ Some (Some c) → c < claims
 
-slice_below : {A : Type 0} (xs : List A) (j : ℕ) (x : A) → slice_get xs j ≡ Some x → j < length xs
-slice_below [] j x e = cc
-slice_below (y ∷ xs) zero x e = omega arith
-slice_below (y ∷ xs) (suc j) x e = let h = slice_below xs j x e in omega (arith, h)
-
 module _ (size claims f : ℕ) (scope : Scope) (ok : ScopeOk size claims scope) where
   abbrev pub Is : Operand ℕ → Type 0
   Is x = OperandOk size scope.objects claims f x
@@ -168,7 +163,7 @@ module _ (size claims f : ℕ) (scope : Scope) (ok : ScopeOk size claims scope) 
       by_claim None is e = cc
       by_claim (Some None) is e = cc
       by_claim (Some (Some claim)) is e =
-          let low = slice_below scope.claims j (Some claim) is in
+          let low = slice_get_within scope.claims j (Some claim) is in
           let k = ok.registers in
           subst (BaseOk size scope.objects claims f) (same_Some (Through (pointer scope j) claim) c e) (omega (arith, low, k), ok.claimed j claim is)
 
