@@ -14,8 +14,10 @@ use Rattle.high_plan.specs.Programs.{program_planned}
 use Rattle.high_law.specs.Plans.{KeepsSource}
 use Rattle.high_law.proofs.Law.{planned_keeps}
 use Rattle.high_planned.specs.Checked.{IsChecked}
+use Rattle.high_planned.proofs.Operations.{operations_most}
 use Rattle.high_planned.proofs.Planned.{planned_is_high}
 use Rattle.make_statement.specs.Planned.{IsSmall}
+use Rattle.high_make.specs.Trees.{FitsTree}
 use Rattle.high_make.proofs.Small.{small_facts}
 
 -- there is at most one proof of each of these, so that they follow from there being a tree
@@ -26,7 +28,7 @@ small-prop : (bounds : List Bounds) → IsProp (All IsSmall bounds)
 small-prop bounds = Prim.hlevel props
 
 module _ (names : List (List ℕ)) (program : Program) (facts : Facts) (typed : ∥ IsTypedTree names program ∥₁) (are : AreFacts program names facts) where
-  checked : IsTypedTree names program → IsChecked names program facts
+  abbrev checked : IsTypedTree names program → IsChecked names program facts
   checked tree = record { unit = tree.unit; passes = tree.passes; program_is = tree.program_is; shallow = tree.shallow; facts_are = are }
 
   abbrev planned : high.Program
@@ -34,6 +36,9 @@ module _ (names : List (List ℕ)) (program : Program) (facts : Facts) (typed : 
 
   pub keeps : ∥ KeepsSource names program facts planned (planned_listing program facts) ∥₁
   keeps = ∥∥₁_map typed (λ tree. planned_keeps names program facts (checked tree))
+
+  pub fits : ∥ FitsTree names program planned ∥₁
+  fits = ∥∥₁_map typed (λ tree. record { unit = tree.unit; passes = tree.passes; source_is = tree.program_is; operations = operations_most names program facts (checked tree) })
 
   pub is_high : IsHigh planned
   is_high = ∥∥₁_elim typed (is_high-prop planned) (λ tree. planned_is_high names program facts (checked tree))

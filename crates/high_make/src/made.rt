@@ -7,6 +7,7 @@ ghost use Rattle.high_ir.specs.Programs.{program_of};
 ghost use Rattle.high_law.specs.Plans.{KeepsSource};
 ghost use Rattle.high_pass.specs.Listing.{listing_of};
 ghost use Rattle.high_plan.specs.Programs.{program_planned};
+ghost use Rattle.high_make.specs.Trees.{FitsTree};
 
 use super::copies::copies;
 use c_facts::Facts;
@@ -46,6 +47,7 @@ pub fn make(alloc: Global, unit: &Typed, facts: &Facts) -> Result<Carried, Memor
     ensures planned { IfOk result (λ c. program_of c.program ≡ program_planned (source_of unit.now.program) facts.now (main_of (source_of unit.now.program) unit.now.program.names.items)) }
     ensures listed { IfOk result (λ c. listing_of c.copies ≡ planned_listing (source_of unit.now.program) facts.now) }
     ensures keeps { IfOk result (λ c. ∥ KeepsSource unit.now.program.names.items (source_of unit.now.program) facts.now (program_of c.program) (listing_of c.copies) ∥₁) }
+    ensures fits { IfOk result (λ c. ∥ FitsTree unit.now.program.names.items (source_of unit.now.program) (program_of c.program) ∥₁) }
 {
     let copies = copies(alloc, unit.program(), facts)?;
     match high(alloc, unit, facts) {
