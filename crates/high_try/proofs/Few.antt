@@ -1,16 +1,13 @@
 -- Operations of lists, and that a program has no more operations than nodes.
-use Rattle.std.proofs.Common.{◌≡◌, ℕ, ◌+◌, ◌≤◌, List, [], ◌∷◌, length, refl, sym, ap, ◌∙◌, arith}
+use Rattle.std.proofs.Common.{◌≡◌, ◌+◌, ◌≤◌, List, [], ◌∷◌, length, refl, sym, ap, ◌∙◌, arith}
 use Rattle.std.specs.Prelude.{Vec, sum_by}
 use Rattle.std.specs.Global.{Global}
 use Rattle.std.proofs.lemmas.List.Sums.{sum_by-cons}
-use Rattle.high_ir.specs.declared.expression.Expr as exprs
-use Rattle.high_ir.specs.declared.object.Base.{Base}
 use Rattle.high_ir.specs.declared.statement.Statement as statements
 use Rattle.high_ir.specs.Size.{expr_nodes, expr_operations, function_nodes, nodes, nodes_all, operations, operations_all}
 use Rattle.high_ir.specs.Tree.{Expr, Constant, Variable, Element, Unary, Binary, Statement, Set, Put, Get, Keep, Mark, Seq, If, Loop, Block, Leave, Call, Return, Statements, End, Then, Function}
-use Rattle.high_ir.specs.View.{expr_of, statement_of, statements_of}
+use Rattle.high_ir.specs.View.{statement_of, statements_of}
 use Rattle.high_ir.proofs.Rows.{statement_of-Seq}
-use Rattle.high_ir.proofs.Sizes.{sum_by-map}
 
 operations_all-statements_of : (xs : List statements.Statement) → operations_all (statements_of xs) ≡ sum_by (λ s. operations (statement_of s)) xs
 operations_all-statements_of [] = refl

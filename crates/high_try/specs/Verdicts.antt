@@ -1,5 +1,5 @@
 -- What a verdict says of a run in the high form and of what a source means on the same input.
-use Rattle.std.specs.Prelude.{◌≡◌, ◌≢◌, ℕ, ℤ, ◌<◌, List, length, Option, Some, None, slice_get, sum_by}
+use Rattle.std.specs.Prelude.{◌≡◌, ◌≢◌, ℕ, ℤ, List, Option, Some, None, slice_get, sum_by}
 use Rattle.wcc_base.specs.Words.{signed_word}
 use Rattle.c_semantics.specs.declared.source_run.SourceRun.{SourceRun}
 use Rattle.c_semantics.specs.declared.source_run.SourceRun.TheVariants.{Done, Undefined, Broken}
