@@ -1,0 +1,13 @@
+pub mod Covers
+pub mod Operators
+pub mod Values
+pub mod Statements
+pub mod Sums
+pub mod Pieces
+pub mod Narrow
+pub mod Rooms
+pub mod Programs
+pub mod Turned
+pub mod Weights
+pub mod Reaches
+pub mod Loops
