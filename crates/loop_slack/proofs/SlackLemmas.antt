@@ -1,7 +1,7 @@
 -- Steps that are made cost all that the last worths fall: those worths are squeezed to those of each pass where it goes.
 use Rattle.std.proofs.Common.{◌≡◌, ◌≢◌, ℕ, zero, suc, ◌+◌, ◌-◌, ◌*◌, ◌≤◌, ◌<◌, ℤ, pos, ◌+ℤ◌, ◌-ℤ◌, ◌*ℤ◌, ◌≤ℤ◌, ◌<ℤ◌, arith, refl, sym, ap, ◌∙◌, subst, List, [], ◌∷◌, length, inl, inr, ◌⊎◌, Bool, true, false, cond, Option, Some, None, get_or-set_other}
-use Rattle.std.specs.Prelude.{◌==◌, ◌&&◌, nat_le, min, unsigned_abs, slice_set}
-use Rattle.std.specs.Int.RustNames.{int_le, int_lt}
+use Rattle.std.specs.Prelude.{◌==◌, nat_le, min, unsigned_abs, slice_set}
+use Rattle.std.specs.Int.RustNames.{int_lt}
 use Rattle.std.proofs.lemmas.Int.{ints}
 use Rattle.std.proofs.lemmas.Grind.{get_or-set_at}
 use Rattle.std.proofs.Math.ListN.{length-set, replicate}
@@ -20,7 +20,7 @@ use Rattle.loop_walks.proofs.TurnLemmas.{IsInRange, turned_other, turn_start-lon
 use Rattle.loop_walks.proofs.LevelLemmas.{set_other, weighed-long, From, from_above}
 use Rattle.loop_flows.specs.Passes.{amount_at, made, handed, spread, remains, departed}
 use Rattle.loop_flows.specs.Hands.{StandsOpen}
-use Rattle.loop_flows.specs.Flows.{Turning, only_at, together, turns_of, turn_counts, counts_of, backs_of, backs_to, HeadersBehind}
+use Rattle.loop_flows.specs.Flows.{Turning, only_at, together, turns_of, turn_counts, counts_of, backs_of, backs_to}
 use Rattle.loop_flows.proofs.SpreadLemmas.{handed-long}
 use Rattle.loop_flows.proofs.TotalLemmas.{only-long, only_elsewhere, only_there, all_at_target}
 use Rattle.loop_passes.specs.Turns.{is_tight, is_way, in_range, is_turn, turns_from, further_turns, turning_of, with_way, with_back, turnings}

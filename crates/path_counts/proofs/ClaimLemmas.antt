@@ -1,7 +1,7 @@
 -- Each loop claim is kept by the counts of its header and jump back, just so where it has a multiplier.
 use Rattle.std.proofs.Common.{◌≡◌, ◌≢◌, ℕ, zero, suc, ◌+◌, ◌*◌, ◌≤◌, ◌<◌, ℤ, pos, ◌≤ℤ◌, arith, refl, sym, ap, ◌∙◌, subst, List, [], ◌∷◌, length, Contains, All, inl, inr, ◌⊎◌, Bool, true, false, cond}
 use Rattle.std.specs.Prelude.{◌==◌, ◌&&◌, ◌||◌, not}
-use Rattle.std.proofs.lemmas.Bool.Decides.{eqb_tells, nat_tests}
+use Rattle.std.proofs.lemmas.Bool.Decides.{eqb_tells}
 use Rattle.std.proofs.lemmas.List.Elements.{All-head, All-tail, All-contains}
 use Rattle.std.proofs.Math.Nat.{suc-mul}
 use Rattle.flow_system.specs.declared.claims.LoopClaim.{LoopClaim}
@@ -10,7 +10,7 @@ use Rattle.flow_system.specs.declared.shapes.LoopShape.{LoopShape}
 use Rattle.flow_system.specs.declared.shapes.Span.{Span}
 use Rattle.flow_system.specs.Moves.{destinations}
 use Rattle.flow_system.specs.Systems.{System, has_moves}
-use Rattle.flow_system.specs.Shapes.{AreShapesOf, IsLoop, onward_by, onward, is_back, IsInSpan, IsInOne}
+use Rattle.flow_system.specs.Shapes.{AreShapesOf, IsLoop, is_back, IsInSpan}
 use Rattle.loop_walks.specs.declared.step.Step.{Step}
 use Rattle.loop_walks.specs.declared.step.Loop.{Loop}
 use Rattle.loop_walks.specs.declared.step.Pair.{Pair}
@@ -20,24 +20,24 @@ use Rattle.loop_walks.specs.Rows.{Each}
 use Rattle.loop_flows.specs.Passes.{departed}
 use Rattle.loop_flows.specs.Flows.{Turning, backs_from, backs_to}
 use Rattle.loop_passes.specs.Opens.{EachMade}
-use Rattle.loop_counts.specs.Counts.{KeepsBounds, IsCounted, AreCounted, AreBounded}
+use Rattle.loop_counts.specs.Counts.{IsCounted, AreCounted, AreBounded}
 use Rattle.loop_counts.proofs.CountLemmas.{none_leave, all_counted}
 use Rattle.path_places.specs.Reached.{in_span}
 use Rattle.path_places.specs.Places.{place_of, is_never, is_shut, is_stop, is_walked, loop_of, loops_of}
 use Rattle.path_places.specs.Laws.{function_steps, IsReachedWhole}
 use Rattle.path_places.proofs.LoopLemmas.{has_of, steps_each}
-use Rattle.path_places.proofs.FunctionLemmas.{ClaimsAscend, move_of, differ, is_back_at, back_inside, walked_not}
-use Rattle.path_rows.specs.Driver.{Prices, blank, function_loops, function_level, function_pairs}
+use Rattle.path_places.proofs.FunctionLemmas.{ClaimsAscend, differ, is_back_at, back_inside}
+use Rattle.path_rows.specs.Driver.{Prices, function_loops, function_level, function_pairs}
 use Rattle.path_rows.proofs.DriverLemmas.{fits_function}
-use Rattle.path_duals.proofs.DealLemmas.{AreDealt, AreAll, Found, IsDone as IsDealt, AllFunctions, all_dealt}
+use Rattle.path_duals.proofs.DealLemmas.{AreAll, Found, AllFunctions}
 use Rattle.path_flows.specs.Flows.{function_ground, function_turnings, function_counts, function_backs}
 use Rattle.path_flows.specs.Opens.{CallsOpenly}
-use Rattle.path_flows.proofs.SumLemmas.{sum_if, begins_at, At, EachTurn, each_turn, backs_if, backs_from-if, backs_to-if, backs_no}
-use Rattle.path_flows.proofs.AtLemmas.{same_place, at_contains, IsBackMove, back_moves, EachLoop}
+use Rattle.path_flows.proofs.SumLemmas.{sum_if, begins_at, EachTurn, each_turn, backs_if, backs_from-if, backs_to-if, backs_no}
+use Rattle.path_flows.proofs.AtLemmas.{same_place, at_contains, IsBackMove, back_moves}
 use Rattle.path_flows.proofs.ConservedLemmas.{no_sum}
 use Rattle.path_flows.proofs.PassLemmas.{own_turned, own_made}
 use Rattle.path_flows.proofs.SystemLemmas.{IsDone, AreDone}
-use Rattle.path_counts.specs.Laws.{HasBounds, BacksAreFree}
+use Rattle.path_counts.specs.Laws.{HasBounds}
 
 -- a claim of so many visits and jumps back
 pub record IsKept (c : LoopClaim) (k : Pair) (visits back : ℕ) : Type 0 where

@@ -1,44 +1,41 @@
 -- The listed flow keeps all claims of a system without facts, and limits with a multiplier just so.
-use Rattle.std.proofs.Common.{◌≡◌, ◌≢◌, ℕ, zero, suc, ◌+◌, ◌*◌, ◌≤◌, ◌<◌, ℤ, pos, neg_ℤ, ◌+ℤ◌, ◌-ℤ◌, ◌*ℤ◌, ◌≤ℤ◌, arith, refl, sym, ap, ◌∙◌, subst, List, [], ◌∷◌, ◌++◌, length, Contains, All, inl, inr, ◌⊎◌, Bool, true, false, cond}
+use Rattle.std.proofs.Common.{◌≡◌, ◌≢◌, ℕ, zero, suc, ◌+◌, ◌*◌, ℤ, pos, ◌+ℤ◌, ◌-ℤ◌, ◌*ℤ◌, arith, refl, sym, ap, ◌∙◌, subst, List, [], ◌∷◌, length, Contains, All, inl, inr, Bool, true, false, cond}
 use lib.IntN.{*ℤ-zero}
 use Rattle.std.specs.Prelude.{◌==◌, ◌||◌}
 use Rattle.std.proofs.lemmas.Int.{ints}
 use Rattle.std.proofs.lemmas.Bool.Decides.{eqb_tells}
 use Rattle.std.proofs.lemmas.List.Elements.{All-contains, All-cons, All-nil, All-append}
 use Rattle.frac128.specs.Terms.{applied}
-use Rattle.frac128.proofs.SignedLemmas.{mul-add, mul-sub, add-mul, sub-mul, neg-mul}
+use Rattle.frac128.proofs.SignedLemmas.{mul-sub, sub-mul, neg-mul}
 use Rattle.flow_system.specs.declared.claims.Never.{Never}
 use Rattle.flow_system.specs.declared.claims.LoopClaim.{LoopClaim}
-use Rattle.flow_system.specs.declared.claims.FactClaim.{FactClaim}
 use Rattle.flow_system.specs.declared.moves.Move.{Move}
 use Rattle.flow_system.specs.declared.shapes.LoopShape.{LoopShape}
 use Rattle.flow_system.specs.declared.shapes.Span.{Span}
 use Rattle.flow_system.specs.Systems.{System, has_moves}
-use Rattle.flow_system.specs.Shapes.{AreShapesOf, is_back, IsInSpan, IsInOne}
+use Rattle.flow_system.specs.Shapes.{is_back, IsInOne}
 use Rattle.flow_system.specs.Counts.{count, KeepsNever, KeepsLoop, KeepsFact}
 use Rattle.flow_system.specs.Flows.{IsFlow}
-use Rattle.flow_system.specs.Certificates.{Limit, never_limits, least_terms, most_terms, least_limit, most_limit, loop_limits, listed}
+use Rattle.flow_system.specs.Certificates.{never_limits, least_terms, most_terms, least_limit, most_limit, loop_limits, listed}
 use Rattle.flow_system.specs.Bounds.{IsExact}
 use Rattle.loop_walks.specs.declared.step.Pair.{Pair}
 use Rattle.loop_walks.specs.Levels.{Level}
-use Rattle.loop_flows.specs.Flows.{backs_from}
 use Rattle.path_places.specs.Places.{place_of, is_never, is_shut, is_stop}
 use Rattle.path_places.specs.Laws.{function_steps, IsReachedWhole}
 use Rattle.path_places.proofs.LoopLemmas.{has_of}
 use Rattle.path_places.proofs.FunctionLemmas.{ClaimsAscend, move_of, differ, sound_ascend}
-use Rattle.path_rows.specs.Driver.{Prices, blank, function_level, function_pairs}
-use Rattle.path_rows.proofs.DriverLemmas.{closed}
-use Rattle.path_duals.specs.Duals.{never_bounds, loop_bounds, final_level, final_pairs, values_of, owe_of, dual_of, no_pairs}
+use Rattle.path_rows.specs.Driver.{Prices, blank, function_level}
+use Rattle.path_duals.specs.Duals.{never_bounds, loop_bounds, final_level, final_pairs, values_of, owe_of, dual_of}
 use Rattle.path_duals.proofs.DealLemmas.{AreDealt, Found, IsDone as IsDealt, all_dealt}
 use Rattle.path_duals.proofs.PriceLemmas.{IsPriced}
 use Rattle.path_duals.proofs.RowLemmas.{final_priced, leads}
-use Rattle.path_flows.specs.Flows.{Flowing, amounts_of, parts_of, first_flow, flow_from, function_turnings, function_backs, function_counts}
-use Rattle.path_flows.proofs.SumLemmas.{sum_if, begins_at, EachTurn, each_turn, backs_from-if, backs_no, count_sum}
+use Rattle.path_flows.specs.Flows.{amounts_of, parts_of, first_flow, flow_from, function_turnings, function_backs, function_counts}
+use Rattle.path_flows.proofs.SumLemmas.{sum_if, begins_at, each_turn, backs_from-if, backs_no, count_sum}
 use Rattle.path_flows.proofs.AtLemmas.{same_place, at_contains, IsBackMove, back_moves}
-use Rattle.path_flows.proofs.SystemLemmas.{IsDone, AreDone, IsGoing}
+use Rattle.path_flows.proofs.SystemLemmas.{AreDone, IsGoing}
 use Rattle.path_flows.proofs.ConservedLemmas.{listed_amounts, no_sum, going, all_conserved}
 use Rattle.loop_counts.proofs.CountLemmas.{none_leave}
-use Rattle.path_counts.specs.Laws.{HasBounds, BacksAreFree, IsOpenSystem, FlowsKeepClaims, FlowsAreExact}
+use Rattle.path_counts.specs.Laws.{IsOpenSystem, FlowsKeepClaims, FlowsAreExact}
 use Rattle.path_counts.proofs.ClaimLemmas.{IsKept, none_kept, IsClaimed, Any, any, no_step, claimed_functions, kept_one}
 
 eq_not : (a b : ℕ) → a ≢ b → (a == b) ≡ false

@@ -1,5 +1,5 @@
 -- The flow of a system without facts keeps its claims, and those with a multiplier just so.
-use Rattle.std.specs.Prelude.{◌≡◌, ◌≢◌, ◌⊎◌, ℕ, ◌≤◌, ℤ, pos, ◌≤ℤ◌, List, [], length, Bool, true, Contains, All}
+use Rattle.std.specs.Prelude.{◌≡◌, ◌≢◌, ◌⊎◌, ◌≤◌, ℤ, pos, ◌≤ℤ◌, List, [], length, true, Contains, All}
 use Rattle.flow_system.specs.declared.claims.LoopClaim.{LoopClaim}
 use Rattle.flow_system.specs.declared.shapes.LoopShape.{LoopShape}
 use Rattle.flow_system.specs.declared.shapes.Span.{Span}

@@ -1,5 +1,5 @@
 -- The multipliers of the functions' loops, each at its claim.
-use Rattle.std.proofs.Common.{◌≡◌, ℕ, zero, suc, ◌<◌, ℤ, pos, arith, refl, subst, List, [], ◌∷◌, inl, inr, ◌⊎◌, Bool, true, false, cond}
+use Rattle.std.proofs.Common.{◌≡◌, ℕ, ℤ, pos, refl, subst, List, [], ◌∷◌, inl, inr, ◌⊎◌, Bool, true, false, cond}
 use Rattle.std.specs.Prelude.{◌&&◌}
 use Rattle.flow_system.specs.declared.claims.LoopClaim.{LoopClaim}
 use Rattle.flow_system.specs.declared.shapes.LoopShape.{LoopShape}

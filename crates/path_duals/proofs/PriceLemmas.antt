@@ -1,5 +1,5 @@
 -- The multipliers of each loop are settled at the final worths, and a header that is a jump back has none.
-use Rattle.std.proofs.Common.{◌≡◌, ◌≢◌, ℕ, zero, suc, ◌<◌, ℤ, pos, ◌+ℤ◌, ◌-ℤ◌, ◌*ℤ◌, ◌≤ℤ◌, arith, refl, sym, ap, ◌∙◌, subst, List, [], ◌∷◌, ◌++◌, length, Contains, inl, inr, ◌⊎◌, Bool, true, false, cond, Some, None, length-append}
+use Rattle.std.proofs.Common.{◌≡◌, ◌≢◌, ℕ, zero, suc, ◌<◌, ℤ, pos, ◌+ℤ◌, ◌-ℤ◌, ◌*ℤ◌, ◌≤ℤ◌, arith, refl, sym, ap, ◌∙◌, subst, List, [], ◌∷◌, ◌++◌, length, Contains, inl, inr, Bool, true, false, cond, Some, None, length-append}
 use Rattle.std.specs.Prelude.{◌==◌, ◌&&◌, not}
 use Rattle.std.proofs.lemmas.Int.{ints}
 use Rattle.std.proofs.Math.ListN.{replicate}
@@ -10,7 +10,7 @@ use Rattle.flow_system.specs.declared.moves.Move.{Move}
 use Rattle.flow_system.specs.declared.shapes.LoopShape.{LoopShape}
 use Rattle.flow_system.specs.declared.shapes.Span.{Span}
 use Rattle.flow_system.specs.Systems.{System, has_moves}
-use Rattle.flow_system.specs.Shapes.{AreShapesOf, is_back, IsInSpan, IsInOne}
+use Rattle.flow_system.specs.Shapes.{AreShapesOf, is_back, IsInOne}
 use Rattle.loop_walks.specs.declared.step.Step.{Step}
 use Rattle.loop_walks.specs.declared.step.Loop.{Loop}
 use Rattle.loop_walks.specs.declared.step.Pair.{Pair}
@@ -19,15 +19,14 @@ use Rattle.loop_walks.specs.Levels.{Level}
 use Rattle.loop_walks.specs.Rows.{Each, IsSettled, AreSettled, PaysBack}
 use Rattle.loop_walks.proofs.LargerLemmas.{larger_left, larger_right}
 use Rattle.path_places.specs.Reached.{in_span}
-use Rattle.path_places.specs.Places.{place_of, is_stop, is_walked, back_place, dearest_from, loop_of, loops_of}
+use Rattle.path_places.specs.Places.{place_of, is_stop, is_walked, back_place, dearest_from, loop_of}
 use Rattle.path_places.specs.Laws.{function_steps, IsReachedWhole}
-use Rattle.path_places.proofs.RankLemmas.{is_in_span}
 use Rattle.path_places.proofs.PlaceLemmas.{place_tells}
 use Rattle.path_places.proofs.LoopLemmas.{has_of, steps_each}
 use Rattle.path_places.proofs.FunctionLemmas.{functions_are, walked_not, differ}
 use Rattle.path_rows.specs.Driver.{Prices, blank, function_loops, function_level, function_pairs}
 use Rattle.path_rows.specs.Laws.{LoopsAreSettled}
-use Rattle.path_duals.specs.Duals.{dealt, no_pairs, pairs_from}
+use Rattle.path_duals.specs.Duals.{no_pairs, pairs_from}
 use Rattle.path_duals.proofs.DealLemmas.{AreDealt, AreAll, Found, IsDone, AllFunctions, all_dealt}
 use Rattle.path_duals.proofs.BlockedLemmas.{Blocked, AreBlocked, AllAbove, settled_long, settled_grows, settled_blocks}
 
