@@ -10,9 +10,10 @@
 
 mod claims;
 mod functions;
+mod lowering;
 mod noting;
 mod order;
 mod passing;
 mod program;
 
-pub use program::{Parts, lower};
+pub use lowering::lower;

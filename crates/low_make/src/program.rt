@@ -24,7 +24,7 @@ use low_statement::place_in;
 use std::alloc::Global;
 use wcc_base::Memory;
 
-/// A program in the low form.
+/// What a program in the low form is made of.
 #[derive(Drop)]
 pub struct Parts {
     pub functions: Vec<Function>,
@@ -132,8 +132,8 @@ fn add_all(
     Ok(())
 }
 
-/// The program in the low form.
-pub fn lower(alloc: Global, program: &High) -> Result<Parts, Memory>
+/// What the program in the low form is made of.
+pub fn parts_of(alloc: Global, program: &High) -> Result<Parts, Memory>
     ensures { IfOk result (λ p. parts_program p ≡ lowered (program_of program.now)) }
 {
     let order = order_of(alloc, program)?;

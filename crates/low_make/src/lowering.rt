@@ -1,0 +1,25 @@
+// The program in the low form.
+ghost use Rattle.std.specs.Prelude.{◌≡◌, IfOk};
+ghost use Rattle.high_ir.specs.Programs.{program_of};
+ghost use Rattle.low_ir.specs.Programs.{low_of};
+ghost use Rattle.low_plan.specs.Programs.{lowered};
+
+use super::program::parts_of;
+use high_ir::High;
+use low_ir::Low;
+use std::alloc::Global;
+use wcc_base::Memory;
+
+/// The program in the low form that a program in the high form becomes.
+pub fn lower(alloc: Global, program: &High) -> Result<Low, Memory>
+    ensures { IfOk result (λ l. low_of l ≡ lowered (program_of program.now)) }
+{
+    let parts = parts_of(alloc, program)?;
+    Ok(Low {
+        functions: parts.functions,
+        claims: parts.claims,
+        objects: parts.objects,
+        main: parts.main,
+        marks: parts.marks,
+    })
+}
