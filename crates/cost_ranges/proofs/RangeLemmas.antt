@@ -36,4 +36,6 @@ costs_ranged t s ls ps h =
         potentials = all_map (λ p. unsigned_abs p.1 ≤ 2 ^ 97) (λ p. IsSmall p.1) (potentials_of s.moves (values_of s ls ps (cost_prices t s)).worths s.moves) (λ p k. omega (arith, k)) n.potentials;
         nevers = all_map (λ w. unsigned_abs w ≤ 8 * 2 ^ 97) IsSmall (never_multipliers s (price t s) (values_of s ls ps (cost_prices t s))) (λ w k. omega (arith, k)) n.nevers;
         loops = all_map (λ w. (unsigned_abs w.0 ≤ 2 ^ 97) × (unsigned_abs w.1 ≤ 9 * 2 ^ 97)) (λ w. IsSmall w.0 × IsSmall w.1) (loop_multipliers s (price t s) (values_of s ls ps (cost_prices t s))) (λ w k. let a = k.0 in let c = k.1 in (omega (arith, a), omega (arith, c))) n.loops;
-        rows = all_map (λ m. row_size (price t s) (coefficient (potentials_of s.moves (values_of s ls ps (cost_prices t s)).worths s.moves)) (dual_of s (price t s) (values_of s ls ps (cost_prices t s))).limits m ≤ 32 * 2 ^ 97) (λ m. IsNarrow (row_size (price t s) (coefficient (potentials_of s.moves (values_of s ls ps (cost_prices t s)).worths s.moves)) (dual_of s (price t s) (values_of s ls ps (cost_prices t s))).limits m)) s.moves (λ m k. omega (arith, k)) n.rows } }
+        rows = all_map (λ m. row_size (price t s) (coefficient (potentials_of s.moves (values_of s ls ps (cost_prices t s)).worths s.moves)) (dual_of s (price t s) (values_of s ls ps (cost_prices t s))).limits m ≤ 32 * 2 ^ 97) (λ m. IsNarrow (row_size (price t s) (coefficient (potentials_of s.moves (values_of s ls ps (cost_prices t s)).worths s.moves)) (dual_of s (price t s) (values_of s ls ps (cost_prices t s))).limits m)) s.moves (λ m k. omega (arith, k)) n.rows;
+      };
+    }
