@@ -194,6 +194,9 @@ settles_end low ms v gs ps ls i whole all h s =
 ground_by : (low : ℤ) (ms : List Step) (v : Level) (worths weights : List ℤ) (ls : List Loop) → weights ≡ weighed low ms v.weights ls → worths ≡ relaxed weights v.worths ms → level_of worths weights ≡ ground low ms v ls
 ground_by low ms v worths weights ls e f = ap (λ (x : List ℤ). level_of x weights) f ∙ ap (λ (x : List ℤ). level_of (relaxed x v.worths ms) x) e
 
+pub worths_by : (low : ℤ) (ms : List Step) (v : Level) (worths weights : List ℤ) (ls : List Loop) → weights ≡ (ground low ms v ls).weights → worths ≡ (ground low ms v ls).worths → worths ≡ relaxed weights v.worths ms
+worths_by low ms v worths weights ls e f = f ∙ sym (ap (λ (x : List ℤ). relaxed x v.worths ms) e)
+
 -- low and low' being one number in two forms
 pub settled_by : (low low' : ℤ) (ms : List Step) (v : Level) (worths weights gs : List ℤ) (ls : List Loop) (w : Level) (ps : List Pair) → low' ≡ low → weights ≡ weighed low' ms v.weights ls → worths ≡ relaxed weights v.worths ms → gs ≡ gains low' ms v.weights ls →
     AreLevels low' ms (level_of worths weights) ls gs w ps → (w ≡ settled low ms v ls) × (ps ≡ settled_pairs low ms v ls)

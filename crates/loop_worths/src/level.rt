@@ -3,7 +3,7 @@ ghost use Rattle.std.specs.Prelude.{◌≡◌, ◌<◌, ◌≤◌, ◌-◌, leng
 ghost use Rattle.loop_walks.specs.Walks.{worth_at, head_steps, body_steps, range_steps};
 ghost use Rattle.loop_walks.specs.Turns.{gain};
 ghost use Rattle.loop_walks.specs.Multipliers.{first_weight};
-ghost use Rattle.loop_walks.specs.Levels.{level_of, weighed, gains, level_pair, raised, level_by, settled, settled_pairs};
+ghost use Rattle.loop_walks.specs.Levels.{level_of, weighed, gains, ground, level_pair, raised, level_by, settled, settled_pairs};
 ghost use Rattle.loop_walks.specs.Rows.{AreSteps, AreLoops, ArePaid, AreSettled, HaveNone};
 ghost use Rattle.loop_worths.specs.Rings.{IsWalkStep, IsRing};
 ghost use Rattle.loop_worths.specs.Sizes.{IsSmall, AreSmall, HaveSmallPrices, IsSmallTurn, AreSmallTurns, IsSmallLevel, AreSmallLevels, StaysSmall};
@@ -52,6 +52,29 @@ fn weigh(
         let i = code.loops.len() - 1 - k;
         gains[i] = weigh_one(alloc, low, weights, code.loops[i], code.steps)?;
     }
+    Ok(gains)
+}
+
+/// The walk to the ends, as long as no loop is settled: gives all headers their first weights, the places their worths,
+/// and says what a turn of each loop gains.
+pub fn ground(
+    alloc: Global,
+    low: i128,
+    worths: &mut [i128],
+    weights: &mut [i128],
+    code: Code,
+) -> Result<Vec<i128>, AllocError>
+    requires long { length weights.now ≡ length worths.now }
+    requires some { 0 < length worths.now }
+    requires steps { AreSteps (length worths.now - 1) code.steps.now }
+    requires loops { AreLoops (length worths.now - 1) code.steps.now code.loops.now }
+    requires small { StaysSmall low code.steps.now (level_of worths.now weights.now) code.loops.now }
+    ensures gains { IfOk result (λ v. v.items ≡ gains low code.entry.steps.now weights.old code.entry.loops.now) }
+    ensures worths { IfOk result (λ v. worths.new ≡ (ground low code.entry.steps.now (level_of worths.old weights.old) code.entry.loops.now).worths) }
+    ensures weights { IfOk result (λ v. weights.new ≡ (ground low code.entry.steps.now (level_of worths.old weights.old) code.entry.loops.now).weights) }
+{
+    let gains = weigh(alloc, low, weights, code)?;
+    walk(weights, worths, code.steps);
     Ok(gains)
 }
 
@@ -140,7 +163,6 @@ pub fn settle(
     ensures paid { IfOk result (λ ps. ArePaid (level_of worths.new weights.new) code.entry.steps.now) }
     ensures settled { IfOk result (λ ps. AreSettled (level_of worths.new weights.new) code.entry.loops.now ps.items) }
 {
-    let gains = weigh(alloc, low, weights, code)?;
-    walk(weights, worths, code.steps);
+    let gains = ground(alloc, low, worths, weights, code)?;
     settle_loops(alloc, low, worths, weights, code, &gains)
 }

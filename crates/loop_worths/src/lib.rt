@@ -10,4 +10,6 @@ mod pair;
 mod turn;
 mod walk;
 
-pub use level::settle;
+pub use level::{ground, settle};
+pub use turn::{further, gain_by, turn_ways, way_at};
+pub use walk::sum;

@@ -24,7 +24,7 @@ fn greater(a: Option<i128>, b: Option<i128>) -> Option<i128>
 }
 
 /// A way at a further price and weight, but worth no less than a block.
-fn further(low: i128, price: i128, weight: i128, way: Option<i128>) -> Option<i128>
+pub fn further(low: i128, price: i128, weight: i128, way: Option<i128>) -> Option<i128>
     requires price { IsSmall price }
     requires weight { IsSmall weight }
     requires way { IfSome way IsSmall }
@@ -37,7 +37,7 @@ fn further(low: i128, price: i128, weight: i128, way: Option<i128>) -> Option<i1
 }
 
 /// The way from a place of the range, by its number there.
-fn way_at(ways: &[Option<i128>], place: usize) -> Option<i128>
+pub fn way_at(ways: &[Option<i128>], place: usize) -> Option<i128>
     ensures { result ≡ way_at ways.now place }
 {
     if place < ways.len() {
@@ -85,7 +85,7 @@ fn begin(ways: &mut [Option<i128>], back: Option<usize>, first: usize)
 }
 
 /// What a turn gains, by its way, if there is one, and the price of the jump back.
-fn gain_by(low: i128, price: i128, way: Option<i128>) -> i128
+pub fn gain_by(low: i128, price: i128, way: Option<i128>) -> i128
     requires price { IsSmall price }
     requires way { IfSome way IsSmall }
     ensures { result ≡ gain_by low price way }
@@ -96,19 +96,12 @@ fn gain_by(low: i128, price: i128, way: Option<i128>) -> i128
     }
 }
 
-/// The way of a turn of a loop, if there is one, in a list of as many places as the loop has.
-fn turn(
-    low: i128,
-    weights: &[i128],
-    ring: Loop,
-    steps: &[Step],
-    ways: &mut [Option<i128>],
-) -> Option<i128>
+/// The ways from the places of a loop to its jump back, in a list of as many places as the loop has.
+fn turn(low: i128, weights: &[i128], ring: Loop, steps: &[Step], ways: &mut [Option<i128>])
     requires fits { IsRing (length weights.now) steps.now ring }
     requires small { IsSmallTurn low weights.now steps.now ring }
     requires none { ways.now ≡ replicate (ring.end - ring.header) None }
-    ensures way { result ≡ way_at (turn_ways low weights.now ring steps.now) 0 }
-    ensures small { IfSome result IsSmall }
+    ensures { ways.new ≡ turn_ways low weights.now ring steps.now }
 {
     begin(ways, ring.back, ring.header);
     walk(
@@ -118,7 +111,23 @@ fn turn(
         ways,
         &steps[ring.head..ring.rest],
     );
-    ways[0]
+}
+
+/// The ways from the places of a loop to its jump back.
+pub fn turn_ways(
+    alloc: Global,
+    low: i128,
+    weights: &[i128],
+    ring: Loop,
+    steps: &[Step],
+) -> Result<Vec<Option<i128>>, AllocError>
+    requires fits { IsRing (length weights.now) steps.now ring }
+    requires small { IsSmallTurn low weights.now steps.now ring }
+    ensures { IfOk result (λ v. v.items ≡ turn_ways low weights.now ring steps.now) }
+{
+    let mut ways = vec![in alloc; None; ring.end - ring.header]?;
+    turn(low, weights, ring, steps, &mut ways);
+    Ok(ways)
 }
 
 /// What a turn of a loop gains.
@@ -133,7 +142,6 @@ pub(crate) fn gain(
     requires small { IsSmallTurn low weights.now steps.now ring }
     ensures { IfOk result (λ g. g ≡ gain low weights.now ring steps.now) }
 {
-    let mut ways = vec![in alloc; None; ring.end - ring.header]?;
-    let way = turn(low, weights, ring, steps, &mut ways);
-    Ok(gain_by(low, ring.price, way))
+    let ways = turn_ways(alloc, low, weights, ring, steps)?;
+    Ok(gain_by(low, ring.price, way_at(&ways, 0)))
 }

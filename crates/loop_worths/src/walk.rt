@@ -14,7 +14,7 @@ pub(crate) fn larger(a: i128, b: i128) -> i128
 }
 
 /// Three numbers added.
-pub(crate) fn sum(a: i128, b: i128, c: i128) -> i128
+pub fn sum(a: i128, b: i128, c: i128) -> i128
     requires a { IsSmall a }
     requires b { IsSmall b }
     requires c { IsSmall c }

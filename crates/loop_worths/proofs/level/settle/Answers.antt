@@ -9,20 +9,14 @@ use Rattle.loop_walks.specs.Rows.{ArePaid, AreSettled}
 use Rattle.loop_walks.proofs.LevelLemmas.{settled_holds}
 use Rattle.loop_worths.specs.Outcomes.{AreLevels}
 use Rattle.loop_worths.specs.Sizes.{StaysSmall}
-use Rattle.loop_worths.proofs.CodeLemmas.{rings, walk_steps, gains-long, small_levels, settled_by}
+use Rattle.loop_worths.proofs.CodeLemmas.{rings, gains-long, worths_by, small_levels, settled_by}
 use Rattle.loop_worths.proofs.level.settle.Goals as goal
 
-pub weigh-requires-clause-loops : goal.weigh-requires-clause-loops
-weigh-requires-clause-loops c = rings (length c.args.worths.now - 1) (length c.args.weights.now) c.args.code.steps.now c.args.code.loops.now (let a = c.requires.some in let b = c.requires.long in omega (arith, a, b)) c.requires.steps c.requires.loops
-
-pub walk-requires-clause-steps : goal.walk-requires-clause-steps
-walk-requires-clause-steps c = walk_steps (length c.args.worths.now - 1) (length c.args.worths.now) c.args.code.steps.now (let a = c.requires.some in omega (arith, a)) c.requires.steps
-
 pub settle_loops-requires-clause-long : goal.settle_loops-requires-clause-long
-settle_loops-requires-clause-long c = let a = c.weigh.auto.weights in let b = c.walk.auto.worths in let d = c.requires.long in omega (arith, a, b, d)
+settle_loops-requires-clause-long c = let a = c.ground.auto.weights in let b = c.ground.auto.worths in let d = c.requires.long in omega (arith, a, b, d)
 
 pub settle_loops-requires-clause-loops : goal.settle_loops-requires-clause-loops
-settle_loops-requires-clause-loops c = rings (length c.args.worths.now - 1) (length c.walk.new.worths) c.args.code.steps.now c.args.code.loops.now (let a = c.requires.some in let b = c.walk.auto.worths in omega (arith, a, b)) c.requires.steps c.requires.loops
+settle_loops-requires-clause-loops c = rings (length c.args.worths.now - 1) (length c.ground.new.worths) c.args.code.steps.now c.args.code.loops.now (let a = c.requires.some in let b = c.ground.auto.worths in omega (arith, a, b)) c.requires.steps c.requires.loops
 
 pub settle_loops-requires-clause-gains : goal.settle_loops-requires-clause-gains
 settle_loops-requires-clause-gains c = ap length c.deref.ensures.value ∙ (ap length c.in_ok-gains.ensures.gains ∙ gains-long (to_z w128 (of_z w128 c.args.low)) c.args.code.steps.now c.args.weights.now c.args.code.loops.now)
@@ -30,8 +24,8 @@ settle_loops-requires-clause-gains c = ap length c.deref.ensures.value ∙ (ap l
 pub settle_loops-requires-clause-small : goal.settle_loops-requires-clause-small
 settle_loops-requires-clause-small c =
     let v = level_of c.args.worths.now c.args.weights.now in
-    small_levels (to_z w128 (of_z w128 c.args.low)) c.args.code.steps.now v c.walk.new.worths c.weigh.new.weights c.deref.result.now c.args.code.loops.now
-    c.in_ok-gains.ensures.weights c.walk.ensures (c.deref.ensures.value ∙ c.in_ok-gains.ensures.gains)
+    small_levels (to_z w128 (of_z w128 c.args.low)) c.args.code.steps.now v c.ground.new.worths c.ground.new.weights c.deref.result.now c.args.code.loops.now
+    c.in_ok-gains.ensures.weights (worths_by (to_z w128 (of_z w128 c.args.low)) c.args.code.steps.now v c.ground.new.worths c.ground.new.weights c.args.code.loops.now c.in_ok-gains.ensures.weights c.in_ok-gains.ensures.worths) (c.deref.ensures.value ∙ c.in_ok-gains.ensures.gains)
     (subst (λ (z : ℤ). StaysSmall z c.args.code.steps.now v c.args.code.loops.now) (sym (to_z-of_z w128 c.args.low c.ranges.low)) c.requires.small)
 
 pub returns : goal.returns
@@ -44,9 +38,9 @@ returns c =
     let low = to_z w128 (of_z w128 c.args.low) in
     let gs = c.deref.result.now in
     let held = settled_holds c.args.low (length c.args.worths.now - 1) steps v loops (let a = c.requires.some in omega (arith, a)) (let a = c.requires.some in let b = c.requires.long in omega (arith, a, b)) c.requires.steps c.requires.loops c.requires.none in
-    let Given : Vec Pair Global → Type 0 = λ ps. AreLevels low steps (level_of c.walk.new.worths c.weigh.new.weights) loops gs w ps.items in
+    let Given : Vec Pair Global → Type 0 = λ ps. AreLevels low steps (level_of c.ground.new.worths c.ground.new.weights) loops gs w ps.items in
     let both : (ps : Vec Pair Global) → Given ps → (w ≡ settled c.args.low steps v loops) × (ps.items ≡ settled_pairs c.args.low steps v loops) =
-    λ ps h. settled_by c.args.low low steps v c.walk.new.worths c.weigh.new.weights gs loops w ps.items e c.in_ok-gains.ensures.weights c.walk.ensures (c.deref.ensures.value ∙ c.in_ok-gains.ensures.gains) h in
+    λ ps h. settled_by c.args.low low steps v c.ground.new.worths c.ground.new.weights gs loops w ps.items e c.in_ok-gains.ensures.weights (worths_by low steps v c.ground.new.worths c.ground.new.weights loops c.in_ok-gains.ensures.weights c.in_ok-gains.ensures.worths) (c.deref.ensures.value ∙ c.in_ok-gains.ensures.gains) h in
     let r = c.settle_loops.result in
     let told = c.settle_loops.ensures in
     record {
