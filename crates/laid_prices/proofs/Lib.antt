@@ -1,0 +1,9 @@
+pub mod RepeatLemmas
+pub mod NestLemmas
+pub mod RowLemmas
+pub mod CallLemmas
+pub mod TableLemmas
+pub mod ValueLemmas
+pub mod TurnLemmas
+pub mod PaidLemmas
+pub mod BoundLemmas
