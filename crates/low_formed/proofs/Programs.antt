@@ -77,15 +77,15 @@ module _ (p : Program) (high : IsHigh p) where
       ap (λ o. length (lowered_in p table n g o ++ lowered_functions p table m gs)) all.0.1 ∙ ap suc (length-lowered gs m all.1)
 
   -- the function that stands at a number
-  record At (i : ℕ) (fn : code.Function ℕ Note) : Type 0 where
-    number : ℕ
-    function : Function
-    at : slice_get (order p) i ≡ Some number
-    there_is : slice_get p.functions number ≡ Some function
-    stands : Stood p table q.claims q.functions i number function
-    same : fn ≡ lowered_function (scope_of p table function (numbered stands.number (listed table number))) number function
+  pub record At (i : ℕ) (fn : code.Function ℕ Note) : Type 0 where
+    pub number : ℕ
+    pub function : Function
+    pub at : slice_get (order p) i ≡ Some number
+    pub there_is : slice_get p.functions number ≡ Some function
+    pub stands : Stood p table q.claims q.functions i number function
+    pub same : fn ≡ lowered_function (scope_of p table function (numbered stands.number (listed table number))) number function
 
-  function_at : (i : ℕ) (fn : code.Function ℕ Note) → slice_get q.functions i ≡ Some fn → At i fn
+  pub function_at : (i : ℕ) (fn : code.Function ℕ Note) → slice_get q.functions i ≡ Some fn → At i fn
   function_at i fn e =
       let all = all_there p table (order p) there in
       let size = length-lowered (order p) 0 all in
