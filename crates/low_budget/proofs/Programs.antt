@@ -26,11 +26,11 @@ use Rattle.low_budget.proofs.Narrow.{pieces_narrow}
 use Rattle.low_budget.proofs.Rooms.{function_few}
 
 -- numbers at some places
-abbrev total : List ℕ → ℕ
+abbrev pub total : List ℕ → ℕ
 total [] = 0
 total (w ∷ ws) = w + total ws
 
-abbrev total_at : List ℕ → List ℕ → ℕ
+abbrev pub total_at : List ℕ → List ℕ → ℕ
 total_at ws [] = 0
 total_at ws (g ∷ gs) = slice_index_or ws g 0 + total_at ws gs
 
@@ -55,7 +55,7 @@ at_others ws g (x ∷ gs) e =
         by_test false k = k
 
 -- places that differ have no more than all
-distinct_less : (ws gs : List ℕ) → Distinct gs → total_at ws gs ≤ total ws
+pub distinct_less : (ws gs : List ℕ) → Distinct gs → total_at ws gs ≤ total ws
 distinct_less ws [] h = omega arith
 distinct_less ws (g ∷ gs) h =
     let ws2 = slice_set ws g 0 in
