@@ -1,0 +1,4 @@
+pub mod Bases
+pub mod Functions
+pub mod Totals
+pub mod Law
