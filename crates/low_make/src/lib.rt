@@ -3,9 +3,11 @@
 //! The functions that calls reach from main come in an order in which each stands behind those that it calls (`order`);
 //! callers before those that they call say which arrays are passed (`passing`); then each function is made (`functions`).
 //!
-//! Proved: `lower` makes the program that `low_plan` defines, or memory ran out.
+//! Proved: `lower` makes the program that `low_plan` defines, or memory ran out. By `low_law` each good run of the program in
+//! the high form is a good run of it with the same output, value and marks; it has the functions, loops and arrays that
+//! calls reach from main; and it takes, and may execute, at most so many machine instructions.
 //!
-//! This crate knows no meaning, no machine register and no address.
+//! This crate knows no machine register and no address.
 #![tactic(auto)]
 
 mod claims;

@@ -2,6 +2,7 @@
 ghost use Rattle.std.specs.Prelude.{◌≡◌, IfOk};
 ghost use Rattle.high_ir.specs.Programs.{program_of};
 ghost use Rattle.low_ir.specs.Programs.{low_of};
+ghost use Rattle.low_law.specs.Programs.{KeepsProgram};
 ghost use Rattle.low_plan.specs.Programs.{lowered};
 
 use super::program::parts_of;
@@ -10,9 +11,11 @@ use low_ir::Low;
 use std::alloc::Global;
 use wcc_base::Memory;
 
-/// The program in the low form that a program in the high form becomes.
+/// The program in the low form that a program in the high form becomes. It fails only for want of
+/// memory.
 pub fn lower(alloc: Global, program: &High) -> Result<Low, Memory>
-    ensures { IfOk result (λ l. low_of l ≡ lowered (program_of program.now)) }
+    ensures lowered { IfOk result (λ l. low_of l ≡ lowered (program_of program.now)) }
+    ensures keeps { IfOk result (λ l. KeepsProgram (program_of program.now) (low_of l)) }
 {
     let parts = parts_of(alloc, program)?;
     Ok(Low {
