@@ -1,0 +1,5 @@
+pub mod Spaces
+pub mod Rising
+pub mod Accesses
+pub mod Matching
+pub mod Naming
