@@ -1,0 +1,12 @@
+pub mod Ordered
+pub mod Blocks
+pub mod Apart
+pub mod Along
+pub mod Regions
+pub mod Loops
+pub mod Marks
+pub mod Claimed
+pub mod Exits
+pub mod Sound
+pub mod Ranges
+pub mod Counts
