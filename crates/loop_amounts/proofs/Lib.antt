@@ -1,0 +1,4 @@
+pub mod WrapLemmas
+pub mod SpreadLemmas
+pub mod PassLemmas
+pub mod TurnLemmas

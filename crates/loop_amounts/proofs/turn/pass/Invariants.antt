@@ -1,0 +1,11 @@
+use Rattle.std.proofs.Common.{◌≤◌, ◌++◌, take, drop}
+use Rattle.loop_flows.specs.Passes.{spread}
+use Rattle.loop_flows.specs.Flows.{together}
+use Rattle.loop_passes.specs.Turns.{is_turn}
+use Rattle.loop_amounts.specs.Wraps.{SameCounts}
+use Rattle.loop_amounts.proofs.turn.pass.Given as goal
+
+abbrev pub invariant-loop-k : goal.invariant-loop-k
+invariant-loop-k l =
+    let chosen = is_turn l.low l.weights l.ring l.ways in
+    (l.k ≤ l.ring.rest) × SameCounts (take l.k l.counts ++ together (drop l.k l.counts) (spread chosen l.amounts (drop l.k l.steps))) (together l.fn.counts (spread chosen l.fn.amounts l.steps))

@@ -1,0 +1,126 @@
+// The pass of a loop's further turns.
+ghost use Rattle.std.specs.Prelude.{◌≡◌, ◌-◌, ◌≤◌, ◌<◌, take, drop, length, All};
+ghost use Rattle.loop_flows.specs.Passes.{spread};
+ghost use Rattle.loop_flows.specs.Flows.{only_at, together};
+ghost use Rattle.loop_passes.specs.Turns.{is_way, is_turn, further_turns};
+ghost use Rattle.loop_walks.specs.Rows.{AreSteps, Each, IsLoopOf};
+ghost use Rattle.loop_walks.specs.Turns.{turn_ways};
+ghost use Rattle.loop_worths.specs.Rings.{IsWalkStep};
+ghost use Rattle.loop_worths.specs.Sizes.{IsSmall, AreSmall, AreSmallWays, HaveSmallPrices};
+ghost use Rattle.loop_amounts.specs.Wraps.{SameCounts, AgreeIn};
+ghost use Rattle.loop_amounts.specs.Made.{NotChosen};
+
+use crate::count::{add, clear};
+use crate::pass::make_if;
+use loop_walks::{Loop, Step};
+use loop_worths::{further, way_at};
+
+/// How often a loop turns again for each start: as often as it may where a turn gains, and else as often as it has to.
+pub(crate) fn further_turns(ring: Loop, gain: i128) -> u32
+    ensures { result ≡ further_turns ring gain }
+{
+    if gain < 0 {
+        if ring.min <= 1 {
+            return 0;
+        }
+        return ring.min - 1;
+    }
+    if ring.max == 0 {
+        return 0;
+    }
+    ring.max - 1
+}
+
+/// Whether a way is no longer than another one.
+fn is_way(a: Option<i128>, b: Option<i128>) -> bool
+    ensures { result ≡ is_way a b }
+{
+    match a {
+        None => false,
+        Some(x) => match b {
+            None => false,
+            Some(y) => x <= y,
+        },
+    }
+}
+
+/// Whether the way to the jump back goes along a step.
+fn is_turn(low: i128, weights: &[i128], ring: Loop, ways: &[Option<i128>], step: Step) -> bool
+    requires step { IsWalkStep (length weights.now) step }
+    requires price { IsSmall step.price }
+    requires weights { AreSmall weights.now }
+    requires ways { AreSmallWays ways.now }
+    ensures { result ≡ is_turn low weights.now ring ways.now step }
+{
+    if step.at < ring.header {
+        return false;
+    }
+    if ring.end <= step.at {
+        return false;
+    }
+    let here = way_at(ways, step.at - ring.header);
+    let on = way_at(ways, step.on - ring.header);
+    is_way(here, further(low, step.price, weights[step.at], on))
+}
+
+/// So much is at the header, and nothing at the other places of a loop.
+fn begin(amounts: &mut [u128], ring: Loop, turns: u128)
+    requires { (ring.header < ring.end) × (ring.end < length amounts.now) }
+    ensures { AgreeIn ring.header ring.end amounts.new (only_at (length amounts.old - 1) ring.header turns) }
+{
+    clear(amounts, ring.header, ring.end);
+    amounts[ring.header] = turns;
+}
+
+/// Adds how often each step of a loop's range is made, of what is at the places.
+fn pass(
+    low: i128,
+    weights: &[i128],
+    ring: Loop,
+    ways: &[Option<i128>],
+    amounts: &mut [u128],
+    counts: &mut [u128],
+    steps: &[Step],
+)
+    requires order { (ring.head ≤ ring.rest) × (ring.rest ≤ length steps.now) }
+    requires steps { All (IsWalkStep (length weights.now)) steps.now }
+    requires amounts { length amounts.now ≡ length weights.now }
+    requires counts { length counts.now ≡ length steps.now }
+    requires prices { HaveSmallPrices steps.now }
+    requires weights { AreSmall weights.now }
+    requires ways { AreSmallWays ways.now }
+    requires before { Each (NotChosen (is_turn low weights.now ring ways.now)) (take ring.head steps.now) }
+    requires behind { Each (NotChosen (is_turn low weights.now ring ways.now)) (drop ring.rest steps.now) }
+    ensures { SameCounts counts.new (together counts.old (spread (is_turn low weights.now ring ways.now) amounts.old steps.now)) }
+{
+    for k in ring.head..ring.rest {
+        let chosen = is_turn(low, weights, ring, ways, steps[k]);
+        add(counts, k, make_if(chosen, amounts, steps[k]));
+    }
+}
+
+/// Adds how often the further turns of a loop make each step, where so many of them start at the header.
+pub(crate) fn turn_pass(
+    low: i128,
+    weights: &[i128],
+    ring: Loop,
+    ways: &[Option<i128>],
+    turns: u128,
+    amounts: &mut [u128],
+    counts: &mut [u128],
+    steps: &[Step],
+)
+    requires some { 0 < length weights.now }
+    requires steps { AreSteps (length weights.now - 1) steps.now }
+    requires ring { IsLoopOf (length weights.now - 1) steps.now ring }
+    requires amounts { length amounts.now ≡ length weights.now }
+    requires counts { length counts.now ≡ length steps.now }
+    requires prices { HaveSmallPrices steps.now }
+    requires weights { AreSmall weights.now }
+    requires ways { AreSmallWays ways.now }
+    requires all { ways.now ≡ turn_ways low weights.now ring steps.now }
+    ensures { SameCounts counts.new (together counts.old (spread (is_turn low weights.now ring ways.now) (only_at (length weights.now - 1) ring.header turns) steps.now)) }
+{
+    begin(amounts, ring, turns);
+    pass(low, weights, ring, ways, amounts, counts, steps);
+}
