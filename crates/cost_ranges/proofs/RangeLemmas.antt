@@ -1,5 +1,5 @@
 -- All ranges of a search by costs.
-use Rattle.std.proofs.Common.{◌≡◌, ℕ, ◌+◌, ◌*◌, ◌≤◌, ◌<◌, ◌^◌, ℤ, pos, neg_ℤ, ◌+ℤ◌, ◌≤ℤ◌, ◌<ℤ◌, arith, List, [], ◌∷◌, All, unsigned_abs}
+use Rattle.std.proofs.Common.{◌*◌, ◌≤◌, ◌^◌, ℤ, pos, ◌≤ℤ◌, arith, List, [], ◌∷◌, All, unsigned_abs}
 use Rattle.std.proofs.lemmas.Int.{ints}
 use Rattle.std.proofs.lemmas.List.Elements.{All-head, All-tail, All-cons, All-nil}
 use Rattle.frac128.specs.Terms.{coefficient}
@@ -9,8 +9,8 @@ use Rattle.flow_system.specs.declared.shapes.LoopShape.{LoopShape}
 use Rattle.flow_system.specs.declared.shapes.Span.{Span}
 use Rattle.flow_system.specs.Systems.{System}
 use Rattle.flow_system.specs.Flows.{price}
-use Rattle.flow_system.specs.Certificates.{row_size, IsNarrow, IsSmall}
-use Rattle.path_duals.specs.Duals.{values_of, potentials_of, never_multipliers, loop_multipliers, dual_of}
+use Rattle.flow_system.specs.Certificates.{loop_limits, row_size, IsNarrow, IsSmall}
+use Rattle.path_duals.specs.Duals.{values_of, potentials_of, both_of, never_multipliers, loop_multipliers, dual_of}
 use Rattle.path_limits.specs.Limits.{cost_prices}
 use Rattle.path_limits.proofs.LimitLemmas.{costs_bounded}
 use Rattle.path_opens.proofs.SystemOpens.{all_open}
@@ -37,5 +37,8 @@ costs_ranged t s ls ps h =
         nevers = all_map (λ w. unsigned_abs w ≤ 8 * 2 ^ 97) IsSmall (never_multipliers s (price t s) (values_of s ls ps (cost_prices t s))) (λ w k. omega (arith, k)) n.nevers;
         loops = all_map (λ w. (unsigned_abs w.0 ≤ 2 ^ 97) × (unsigned_abs w.1 ≤ 9 * 2 ^ 97)) (λ w. IsSmall w.0 × IsSmall w.1) (loop_multipliers s (price t s) (values_of s ls ps (cost_prices t s))) (λ w k. let a = k.0 in let c = k.1 in (omega (arith, a), omega (arith, c))) n.loops;
         rows = all_map (λ m. row_size (price t s) (coefficient (potentials_of s.moves (values_of s ls ps (cost_prices t s)).worths s.moves)) (dual_of s (price t s) (values_of s ls ps (cost_prices t s))).limits m ≤ 32 * 2 ^ 97) (λ m. IsNarrow (row_size (price t s) (coefficient (potentials_of s.moves (values_of s ls ps (cost_prices t s)).worths s.moves)) (dual_of s (price t s) (values_of s ls ps (cost_prices t s))).limits m)) s.moves (λ m k. omega (arith, k)) n.rows;
+        long = n.long;
+        pairs = all_map (λ p. (unsigned_abs p.least ≤ 2 ^ 97) × (unsigned_abs p.most ≤ 2 ^ 97)) (λ p. IsSmall p.least × IsSmall p.most) (values_of s ls ps (cost_prices t s)).pairs (λ p k. let a = k.0 in let c = k.1 in (omega (arith, a), omega (arith, c))) n.pairs;
+        plain = all_map (λ m. row_size (price t s) (coefficient (potentials_of s.moves (values_of s ls ps (cost_prices t s)).worths s.moves)) (loop_limits s.claims.loops (both_of (values_of s ls ps (cost_prices t s)).pairs)) m ≤ 32 * 2 ^ 97) (λ m. IsNarrow (row_size (price t s) (coefficient (potentials_of s.moves (values_of s ls ps (cost_prices t s)).worths s.moves)) (loop_limits s.claims.loops (both_of (values_of s ls ps (cost_prices t s)).pairs)) m)) s.moves (λ m k. omega (arith, k)) n.plain;
       };
     }

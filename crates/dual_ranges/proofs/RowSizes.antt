@@ -1,10 +1,10 @@
 -- What is left at an address, and the terms of a row, in size.
-use Rattle.std.proofs.Common.{◌≡◌, ◌≢◌, ℕ, zero, suc, ◌+◌, ◌*◌, ◌≤◌, ◌<◌, ◌^◌, ℤ, pos, neg_ℤ, ◌+ℤ◌, ◌-ℤ◌, ◌*ℤ◌, ◌≤ℤ◌, ◌<ℤ◌, arith, refl, sym, ap, ◌∙◌, subst, List, [], ◌∷◌, ◌++◌, length, Contains, All, inl, inr, ◌⊎◌, Bool, true, false, cond, Option, Some, None, unsigned_abs}
+use Rattle.std.proofs.Common.{◌≡◌, ℕ, zero, suc, ◌+◌, ◌*◌, ◌≤◌, ◌<◌, ◌^◌, ℤ, pos, neg_ℤ, ◌+ℤ◌, ◌-ℤ◌, ◌*ℤ◌, ◌≤ℤ◌, arith, refl, sym, ap, ◌∙◌, List, [], ◌∷◌, ◌++◌, length, Contains, All, inl, inr, Bool, true, false, cond, Option, Some, None, unsigned_abs}
 use Rattle.std.specs.Prelude.{◌==◌, ◌&&◌, not, nat_lt}
 use Rattle.std.specs.Option.{option_to_list}
 use Rattle.std.specs.Int.RustNames.{int_le}
 use Rattle.std.proofs.lemmas.Int.{ints}
-use Rattle.std.proofs.lemmas.Bool.Decides.{nat_tests, eqb_tells}
+use Rattle.std.proofs.lemmas.Bool.Decides.{nat_tests}
 use Rattle.std.proofs.lemmas.List.Elements.{All-head, All-tail, All-contains, All-cons, All-nil}
 use Rattle.frac128.specs.Terms.{int_sum_by, coefficient}
 use Rattle.flow_system.specs.declared.claims.Never.{Never}
@@ -12,29 +12,30 @@ use Rattle.flow_system.specs.declared.claims.LoopClaim.{LoopClaim}
 use Rattle.flow_system.specs.declared.moves.Move.{Move}
 use Rattle.flow_system.specs.declared.shapes.LoopShape.{LoopShape}
 use Rattle.flow_system.specs.declared.shapes.Span.{Span}
-use Rattle.flow_system.specs.Claims.{Claims, is_aligned, is_above, exit_flaws, never_flaws, region_flaws, loop_flaws, fact_flaws, AreSound}
+use Rattle.flow_system.specs.Claims.{Claims, is_aligned, exit_flaws, never_flaws, region_flaws, loop_flaws, fact_flaws, AreSound}
 use Rattle.flow_system.specs.Moves.{destinations}
 use Rattle.flow_system.specs.Systems.{System, has_moves}
-use Rattle.flow_system.specs.Certificates.{Limit, never_limits, loop_limits, held, fall, size_by, row_size}
+use Rattle.flow_system.specs.Certificates.{Limit, never_limits, loop_limits, held, size_by, row_size}
 use Rattle.flow_system.specs.Shapes.{AreShapesOf, IsLoop}
 use Rattle.loop_walks.specs.declared.step.Pair.{Pair}
 use Rattle.loop_walks.specs.Walks.{larger, worth_at}
 use Rattle.loop_ranges.specs.Near.{IsUpTo}
 use Rattle.path_places.specs.Places.{place_of}
-use Rattle.path_places.specs.Laws.{IsReachedWhole}
 use Rattle.path_places.proofs.LoopLemmas.{has_of}
-use Rattle.path_places.proofs.FunctionLemmas.{ClaimsAscend, sound_ascend}
-use Rattle.path_rows.specs.Driver.{Prices, blank, functions_level}
+use Rattle.path_places.proofs.FunctionLemmas.{sound_ascend}
+use Rattle.path_places.specs.Reached.{in_span}
+use Rattle.loop_walks.specs.Levels.{Level}
+use Rattle.path_rows.specs.Driver.{Prices, blank, function_level, function_pairs}
 use Rattle.path_loose.proofs.TotalLemmas.{times, once}
 use Rattle.path_loose.proofs.PartLemmas.{least_turns, back_part, back_total}
 use Rattle.path_loose.proofs.PlaceFlows.{closed}
 use Rattle.path_loose.proofs.EntryFlows.{flow_below}
-use Rattle.path_duals.specs.Duals.{values_of, potentials_of, owed, most_owed, both_of, never_bounds, loop_bounds, final_level, final_pairs, owe_of, dual_of}
+use Rattle.path_duals.specs.Duals.{dealt, no_pairs, pairs_from, values_of, potentials_of, owed, most_owed, both_of, never_bounds, loop_bounds, final_level, final_pairs, owe_of, dual_of}
 use Rattle.path_duals.proofs.DealLemmas.{AreDealt}
 use Rattle.path_duals.proofs.PotentialLemmas.{potential_at}
 use Rattle.loop_ranges.specs.Reach.{reach}
 use Rattle.path_ranges.specs.Bounded.{IsBounded}
-use Rattle.path_ranges.specs.Ranges.{loop_step, IsLevelWithin}
+use Rattle.path_ranges.specs.Ranges.{loop_step}
 use Rattle.path_ranges.proofs.CountLemmas.{reach_least}
 use Rattle.path_ranges.proofs.SystemRanges.{prices}
 use Rattle.path_ranges.proofs.WorthRanges.{worths_bounded}
@@ -115,6 +116,32 @@ size_larger n x y h k = by_test (int_le x y)
     by_test : (t : Bool) → unsigned_abs (cond t y x) ≤ n
     by_test true = k
     by_test false = h
+
+-- ---- one pair for each claim
+
+dealt_long : (all : List Move) (p : Span) (ls : List LoopShape) (known new : List Pair) → length known ≡ length ls → length (dealt all p ls known new) ≡ length ls
+dealt_long all p [] known new h = refl
+dealt_long all p (l ∷ ls) [] new h = absurd (omega (arith, h))
+dealt_long all p (l ∷ ls) (k ∷ known) [] h = ap suc (dealt_long all p ls known [] (omega (arith, h)))
+dealt_long all p (l ∷ ls) (k ∷ known) (x ∷ new) h = by_test (in_span p l.header && has_moves all l.header) (dealt_long all p ls known new (omega (arith, h))) (dealt_long all p ls known (x ∷ new) (omega (arith, h)))
+  where
+    by_test : (t : Bool) → length (dealt all p ls known new) ≡ length ls → length (dealt all p ls known (x ∷ new)) ≡ length ls → length (cond t (x ∷ dealt all p ls known new) (k ∷ dealt all p ls known (x ∷ new))) ≡ suc (length ls)
+    by_test true e f = ap suc e
+    by_test false e f = ap suc f
+
+pairs_long : (s : System) (ls : List LoopShape) (q : Prices) (v : Level) (ps : List Span) (known : List Pair) → length known ≡ length ls → length (pairs_from s ls q v ps known) ≡ length ls
+pairs_long s ls q v [] known h = h
+pairs_long s ls q v (p ∷ ps) known h = pairs_long s ls q (function_level s ls q v p) ps (dealt s.moves p ls known (function_pairs s ls q v p)) (dealt_long s.moves p ls known (function_pairs s ls q v p) h)
+
+none_long : (ls : List LoopShape) → length (no_pairs ls) ≡ length ls
+none_long [] = refl
+none_long (l ∷ ls) = ap suc (none_long ls)
+
+shapes_long : (cs : List LoopClaim) (ls : List LoopShape) → AreShapesOf cs ls → length ls ≡ length cs
+shapes_long [] [] h = refl
+shapes_long [] (l ∷ ls) h = absurd h
+shapes_long (c ∷ cs) [] h = absurd h
+shapes_long (c ∷ cs) (l ∷ ls) h = ap suc (shapes_long cs ls h.2)
 
 module _ (s : System) (ls : List LoopShape) (ps : List Span) (q : Prices) (price : Move → ℤ) (most : ℤ) (starts n : ℕ) (b : IsBounded s ls ps q price most starts) (enough : IsEnough s q most starts (pos n)) (fits : n < 2 ^ 124) where
   negative : q.low ≤ℤ pos 0
@@ -221,6 +248,29 @@ module _ (s : System) (ls : List LoopShape) (ps : List Span) (q : Prices) (price
       twice (suc (suc zero)) h = omega arith
       twice (suc (suc (suc k))) h = absurd (omega (arith, h))
 
+  -- and beside the multipliers of loops alone
+  plain_small : (m : Move) → Contains s.moves m → row_size q.of (coefficient (potentials_of s.moves (final_level s ls ps q).worths s.moves)) (loop_limits s.claims.loops (both_of (final_pairs s ls ps q))) m ≤ 32 * n
+  plain_small m im =
+      let pr = price_small m im in
+      let at = potential_small m.at (has_of s.moves m im) in
+      let to = arrive_small m im in
+      let pa = pairs_size n s.claims.loops ls (final_pairs s ls ps q) m.at dealt_sized in
+      let tn = twice (touching s.claims.loops m.at) (touches m im) in omega (arith, pr, at, to, pa, tn)
+    where
+      twice : (k : ℕ) → k ≤ 2 → k * (n + n) ≤ 4 * n
+      twice zero h = omega arith
+      twice (suc zero) h = omega arith
+      twice (suc (suc zero)) h = omega arith
+      twice (suc (suc (suc k))) h = absurd (omega (arith, h))
+
+  pairs_small : (cs : List LoopClaim) (ks : List LoopShape) (us : List Pair) → length us ≡ length cs → AreDealt (IsSizedDeal n) cs ks us → All (λ p. (unsigned_abs p.least ≤ n) × (unsigned_abs p.most ≤ n)) us
+  pairs_small [] ks [] long h = All-nil (λ p. (unsigned_abs p.least ≤ n) × (unsigned_abs p.most ≤ n))
+  pairs_small [] ks (u ∷ us) long h = absurd (omega (arith, long))
+  pairs_small (c ∷ cs) ks [] long h = absurd (omega (arith, long))
+  pairs_small (c ∷ cs) [] (u ∷ us) long h = absurd h
+  pairs_small (c ∷ cs) (l ∷ ks) (u ∷ us) long h =
+      All-cons (λ p. (unsigned_abs p.least ≤ n) × (unsigned_abs p.most ≤ n)) u us (h.0.least, h.0.most) (pairs_small cs ks us (omega (arith, long)) h.1)
+
   potentials_small : (ms : List Move) → All (λ t. unsigned_abs t.1 ≤ n) (potentials_of s.moves (final_level s ls ps q).worths ms)
   potentials_small [] = All-nil (λ t. unsigned_abs t.1 ≤ n)
   potentials_small (m ∷ ms) = by_test (m.number == 0) (potentials_small ms)
@@ -244,12 +294,18 @@ module _ (s : System) (ls : List LoopShape) (ps : List Span) (q : Prices) (price
       by_test true = let s1 = size-add u.most (owe_of s q.of (values_of s ls ps q) c.header) in let o = owe_small c.header in let m = h.0.most in omega (arith, s1, o, m)
       by_test false = let s1 = size-add u.most (pos 0) in let m = h.0.most in omega (arith, s1, m)
 
+  long : length (final_pairs s ls ps q) ≡ length s.claims.loops
+  long = pairs_long s ls q (blank (length s.moves) q.low) ps (no_pairs ls) (none_long ls) ∙ shapes_long s.claims.loops ls b.whole.fits.shapes
+
   pub narrow : IsNarrowDual s q.of (values_of s ls ps q) n
   narrow = record {
     potentials = potentials_small s.moves;
     nevers = nevers_small s.claims.nevers;
     loops = loops_small s.claims.loops ls (final_pairs s ls ps q) dealt_sized;
     rows = all_of (λ m. row_size q.of (coefficient (potentials_of s.moves (final_level s ls ps q).worths s.moves)) (dual_of s q.of (values_of s ls ps q)).limits m ≤ 32 * n) s.moves row_small;
+    long = long;
+    pairs = pairs_small s.claims.loops ls (final_pairs s ls ps q) long dealt_sized;
+    plain = all_of (λ m. row_size q.of (coefficient (potentials_of s.moves (final_level s ls ps q).worths s.moves)) (loop_limits s.claims.loops (both_of (final_pairs s ls ps q))) m ≤ 32 * n) s.moves plain_small;
   }
 
 pub duals_narrow : (s : System) (ls : List LoopShape) (ps : List Span) → DualsAreNarrow s ls ps

@@ -1,13 +1,13 @@
 -- The ranges of the values of the walks as dual values: potentials, multipliers, and the rows that a checker adds up.
-use Rattle.std.specs.Prelude.{ℕ, ◌*◌, ◌^◌, ◌<◌, ◌≤◌, ℤ, pos, unsigned_abs, List, All}
+use Rattle.std.specs.Prelude.{◌≡◌, ℕ, ◌*◌, ◌^◌, ◌<◌, ◌≤◌, ℤ, pos, unsigned_abs, List, length, All}
 use Rattle.frac128.specs.Terms.{coefficient}
 use Rattle.flow_system.specs.declared.moves.Move.{Move}
 use Rattle.flow_system.specs.declared.shapes.LoopShape.{LoopShape}
 use Rattle.flow_system.specs.declared.shapes.Span.{Span}
 use Rattle.flow_system.specs.Systems.{System}
-use Rattle.flow_system.specs.Certificates.{row_size}
+use Rattle.flow_system.specs.Certificates.{row_size, loop_limits}
 use Rattle.path_rows.specs.Driver.{Prices}
-use Rattle.path_duals.specs.Duals.{Values, values_of, potentials_of, never_multipliers, loop_multipliers, dual_of}
+use Rattle.path_duals.specs.Duals.{Values, values_of, potentials_of, both_of, never_multipliers, loop_multipliers, dual_of}
 use Rattle.path_ranges.specs.Bounded.{IsBounded}
 use Rattle.path_sizes.specs.Sizes.{IsEnough}
 
@@ -17,6 +17,10 @@ pub record IsNarrowDual (s : System) (price : Move → ℤ) (x : Values) (size :
   pub nevers : All (λ w. unsigned_abs w ≤ 8 * size) (never_multipliers s price x)
   pub loops : All (λ w. (unsigned_abs w.0 ≤ size) × (unsigned_abs w.1 ≤ 9 * size)) (loop_multipliers s price x)
   pub rows : All (λ m. row_size price (coefficient (potentials_of s.moves x.worths s.moves)) (dual_of s price x).limits m ≤ 32 * size) s.moves
+  -- one pair for each loop; and a row beside the loops' multipliers alone
+  pub long : length x.pairs ≡ length s.claims.loops
+  pub pairs : All (λ p. (unsigned_abs p.least ≤ size) × (unsigned_abs p.most ≤ size)) x.pairs
+  pub plain : All (λ m. row_size price (coefficient (potentials_of s.moves x.worths s.moves)) (loop_limits s.claims.loops (both_of x.pairs)) m ≤ 32 * size) s.moves
 
 -- at any prices
 abbrev pub DualsAreNarrow : System → List LoopShape → List Span → Type 0
