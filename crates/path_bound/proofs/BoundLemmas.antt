@@ -1,5 +1,5 @@
 -- The ranges of the certificate of the walks, by the values of loose flows.
-use Rattle.std.proofs.Common.{◌≡◌, ℕ, zero, suc, ◌+◌, ◌*◌, ◌/◌, ◌^◌, ◌<◌, ◌≤◌, ℤ, pos, neg_ℤ, ◌+ℤ◌, ◌*ℤ◌, ◌≤ℤ◌, ◌<ℤ◌, arith, refl, sym, ap, ◌∙◌, subst, List, [], ◌∷◌, ◌++◌, length, Contains, All, Bool, true, false, cond}
+use Rattle.std.proofs.Common.{◌≡◌, ℕ, zero, suc, ◌+◌, ◌*◌, ◌/◌, ◌^◌, ◌<◌, ◌≤◌, ℤ, pos, neg_ℤ, ◌*ℤ◌, ◌≤ℤ◌, ◌<ℤ◌, arith, refl, sym, ap, ◌∙◌, subst, List, [], ◌∷◌, length, Contains, All, Bool, true, false, cond}
 use lib.IntN.{negsuc}
 use Rattle.std.specs.Prelude.{◌==◌, unsigned_abs}
 use Rattle.std.specs.Int.RustNames.{int_lt}
@@ -9,7 +9,6 @@ use Rattle.std.proofs.lemmas.List.Elements.{All-head, All-tail, All-contains, Al
 use Rattle.frac128.specs.Terms.{coefficient}
 use Rattle.rv_core.specs.Table.{Table}
 use Rattle.flow_system.specs.declared.claims.LoopClaim.{LoopClaim}
-use Rattle.flow_system.specs.declared.cert.Part.{Part}
 use Rattle.flow_system.specs.declared.cert.Cert.{Cert}
 use Rattle.flow_system.specs.declared.cert.Mark.{Mark}
 use Rattle.flow_system.specs.declared.cert.Mark.TheVariants.{Greatest, Empty}
@@ -23,24 +22,30 @@ use Rattle.flow_system.specs.MoveCosts.{move_cost}
 use Rattle.flow_system.specs.Counts.{Amounts, amount, count, inflow}
 use Rattle.flow_system.specs.Flows.{IsFlow, price, value}
 use Rattle.flow_system.specs.Loose.{IsLoose, GoesBack}
-use Rattle.flow_system.specs.Certificates.{Limit, limits, row_size, size_by, scaled_price, potential, whole_part, IsNarrow, IsSmall, listed, Accepts, IsInForm}
+use Rattle.flow_system.specs.Certificates.{limits, row_size, size_by, scaled_price, potential, whole_part, IsNarrow, IsSmall, listed, Accepts, IsInForm}
 use Rattle.flow_system.proofs.LooseLemmas.{flows_are_loose}
-use Rattle.loop_walks.specs.Walks.{worth_at}
-use Rattle.path_places.specs.Places.{place_of}
 use Rattle.path_places.specs.Laws.{IsReachedWhole}
-use Rattle.path_rows.specs.Driver.{blank, functions_level}
-use Rattle.path_duals.specs.Duals.{values_of, final_level, dual_of}
+use Rattle.path_duals.specs.Duals.{values_of, dual_of}
 use Rattle.path_duals.proofs.PotentialLemmas.{all_of}
 use Rattle.path_flows.specs.Flows.{amounts_of, parts_of}
 use Rattle.path_flows.proofs.SumLemmas.{sum_if, begins_at, AreAmounts}
 use Rattle.path_flows.proofs.ConservedLemmas.{listed_amounts}
-use Rattle.path_counts.specs.Laws.{IsOpenSystem}
+use Rattle.path_counts.specs.Laws.{HasBounds, IsOpenSystem}
 use Rattle.path_counts.proofs.KeepLemmas.{all_keep, goes, counted}
 use Rattle.path_slack.proofs.MoveLemmas.{all_reached}
 use Rattle.path_cert.specs.Certificates.{entry_worth, mark_of, certificate_with, costs_of, certificate_of}
 use Rattle.path_cert.specs.Laws.{HasRanges, HasFlowRanges, IsOpenFlow}
 use Rattle.path_cert.proofs.CertLemmas.{limits_same, price_same, entry_is, below_zero, below_all, all_accepted}
+use Rattle.path_limits.specs.Limits.{IsLoopWithin}
+use Rattle.path_limits.proofs.NarrowLemmas.{counts_below, narrow_limits}
+use Rattle.cost_ranges.specs.Ranges.{HasRanges as HasNumbers}
+use Rattle.cost_ranges.proofs.RangeLemmas.{all_map, costs_ranged}
 use Rattle.path_bound.specs.Laws.{IsBoundable, BoundsAreGreatest}
+
+-- no loose flow has a value, a count or an amount of 2^60 units or more
+abbrev LooseBelow : Table → System → Type 0
+LooseBelow t s = (unit : ℕ) (x : Amounts) → IsLoose s unit x →
+    (value t s x <ℤ (pos unit *ℤ pos (2 ^ 60))) × ((a : ℕ) → count x s.moves a <ℤ (pos unit *ℤ pos (2 ^ 60))) × ((m : Move) → Contains s.moves m → amount x m <ℤ (pos unit *ℤ pos (2 ^ 60)))
 
 -- ---- sizes
 
@@ -70,7 +75,19 @@ goes_back s (c ∷ cs) (l ∷ ks) are h = All-cons (GoesBack s.moves) c cs
     (subst (λ a. All (λ m. m.at ≡ c.back → destinations m ≡ a ∷ []) s.moves) are.0 (subst (λ b. All (λ m. m.at ≡ b → destinations m ≡ l.header ∷ []) s.moves) are.1 (All-head (IsLoop s) l ks h).goes_back))
     (goes_back s cs ks are.2 (All-tail (IsLoop s) l ks h))
 
-module _ (t : Table) (s : System) (ls : List LoopShape) (ps : List Span) (whole : IsReachedWhole s ls ps) (is : IsBoundable t s ls ps) where
+module _ (t : Table) (s : System) (ls : List LoopShape) (ps : List Span) (is : IsBoundable t s ls ps) where
+  whole : IsReachedWhole s ls ps
+  whole = is.limited.whole
+
+  numbers : HasNumbers t s ls ps
+  numbers = costs_ranged t s ls ps is.limited
+
+  kept_bounds : All HasBounds s.claims.loops
+  kept_bounds = all_map IsLoopWithin HasBounds s.claims.loops (λ c k. k.0) is.limited.loops
+
+  loose_below : LooseBelow t s
+  loose_below unit x l = let b = counts_below t s is.fetches whole.system is.limited.values unit x l in (is.limited.values unit x l, b.0, b.1)
+
   abbrev cert : Mark → Cert
   cert m = certificate_with m s (costs_of t s) (values_of s ls ps (costs_of t s)) (amounts_of s ls ps (costs_of t s))
 
@@ -83,9 +100,9 @@ module _ (t : Table) (s : System) (ls : List LoopShape) (ps : List Span) (whole 
   open_system : pos 0 ≤ℤ z → IsOpenSystem s ls ps (costs_of t s) (neg_ℤ (pos (2 ^ 60)))
   open_system h = record {
     negative = below_zero (2 ^ 62);
-    code = is.code;
+    code = numbers.opens;
     entry = (let b = below_zero (2 ^ 60) in later (neg_ℤ (pos (2 ^ 60))) z b h);
-    bounds = is.bounds;
+    bounds = kept_bounds;
     backs = is.backs;
     facts = is.facts;
   }
@@ -100,11 +117,11 @@ module _ (t : Table) (s : System) (ls : List LoopShape) (ps : List Span) (whole 
   reached h = all_reached s ls ps whole (costs_of t s) (neg_ℤ (pos (2 ^ 60))) (open_system h) (λ m im. below_all (2 ^ 62) (move_cost t s m))
 
   -- the entry's worth is that of a flow, or negative
-  worth_below : z <ℤ pos (2 ^ 60)
+  pub worth_below : z <ℤ pos (2 ^ 60)
   worth_below = by_sign (int_lt z (pos 0)) refl
     where
       small : pos 0 ≤ℤ z → z <ℤ pos (2 ^ 60)
-      small h = subst (λ (y : ℤ). y <ℤ pos (2 ^ 60)) (reached h) (one_unit (value t s x) (2 ^ 60) (is.loose 1 x (loose h)).0)
+      small h = subst (λ (y : ℤ). y <ℤ pos (2 ^ 60)) (reached h) (one_unit (value t s x) (2 ^ 60) (loose_below 1 x (loose h)).0)
 
       below : (y : ℤ) (k : ℕ) → int_lt y (pos 0) ≡ true → y <ℤ pos k
       below y k e = let n : y <ℤ pos 0 = grind (arith, ints, nat_tests) in omega (arith, ints)
@@ -124,11 +141,11 @@ module _ (t : Table) (s : System) (ls : List LoopShape) (ps : List Span) (whole 
   ranges : (m : Mark) → HasRanges t s (cert m)
   ranges m = record {
     cycles = whole_below z worth_below;
-    potentials = is.values.potentials;
-    nevers = is.values.nevers;
-    loops = is.values.loops;
+    potentials = numbers.values.potentials;
+    nevers = numbers.values.nevers;
+    loops = numbers.values.loops;
     rows = all_of (λ k. IsNarrow (row_size (scaled_price t s (cert m)) (potential (cert m)) (limits s.claims (cert m)) k)) s.moves
-        (λ k ik. subst IsNarrow (sym (row_same m k)) (All-contains (λ k. IsNarrow (row_size (price t s) (potential (cert m)) (dual_of s (price t s) (values_of s ls ps (costs_of t s))).limits k)) s.moves k is.values.rows ik));
+        (λ k ik. subst IsNarrow (sym (row_same m k)) (All-contains (λ k. IsNarrow (row_size (price t s) (potential (cert m)) (dual_of s (price t s) (values_of s ls ps (costs_of t s))).limits k)) s.moves k numbers.values.rows ik));
   }
 
   -- ---- the listed flow
@@ -148,12 +165,27 @@ module _ (t : Table) (s : System) (ls : List LoopShape) (ps : List Span) (whole 
       with_part rest true = rest
       with_part rest false = All-cons (λ p. IsSmall p.part) (record { at = m.at; number = m.number; part = pos u }) (parts_of ms us) small rest
 
+  amounts_below : (ms : List Move) (us : List ℕ) → length us ≡ length ms → AreAmounts x ms us → ((m : Move) → Contains ms m → amount x m <ℤ pos (2 ^ 60)) → All (λ u. u < 2 ^ 60) us
+  amounts_below [] [] long are h = All-nil (λ u. u < 2 ^ 60)
+  amounts_below [] (u ∷ us) long are h = absurd (omega (arith, long))
+  amounts_below (m ∷ ms) [] long are h = absurd (omega (arith, long))
+  amounts_below (m ∷ ms) (u ∷ us) long are h = All-cons (λ u. u < 2 ^ 60) u us (below (h m (zero, omega arith, refl)) are.0) (amounts_below ms us (omega (arith, long)) are.1 (λ k i. h k (suc i.0, omega (arith, i.1), i.2)))
+    where
+      below : pos (x m.at m.number) <ℤ pos (2 ^ 60) → x m.at m.number ≡ u → u < 2 ^ 60
+      below a b = let c : x m.at m.number < 2 ^ 60 = omega (arith, ints) in omega (arith, c, b)
+
+  -- where there is a flow, each of its amounts is a loose one
+  pub flow_small : pos 0 ≤ℤ z → All (λ u. u < 2 ^ 60) (amounts_of s ls ps (costs_of t s))
+  flow_small h =
+      let long = (goes s ls ps whole (costs_of t s) (neg_ℤ (pos (2 ^ 60))) (open_system h)).long_amounts in
+      amounts_below s.moves (amounts_of s ls ps (costs_of t s)) long (listed_amounts s.moves (amounts_of s ls ps (costs_of t s)) long whole.system.ascending) (λ m im. one_unit (amount x m) (2 ^ 60) ((loose_below 1 x (loose h)).2 m im))
+
   flow_ranges : pos 0 ≤ℤ z → HasFlowRanges t s (cert Greatest)
   flow_ranges h = record {
     parts = parts_small s.moves (amounts_of s ls ps (costs_of t s)) (listed_amounts s.moves (amounts_of s ls ps (costs_of t s)) (goes s ls ps whole (costs_of t s) (neg_ℤ (pos (2 ^ 60))) (open_system h)).long_amounts whole.system.ascending)
         (λ m im. one_unit (amount x m) (2 ^ 60) (below.2 m im));
     balances = λ a. within (narrow_pair (count x s.moves a) (coefficient (inflow s.entry 1 x s.moves) a) (2 ^ 60) (counts a).0 (counts a).1 (sym (flow.conserved a)));
-    claims = subst (λ js. All (λ l. IsNarrow (size_by (λ u. u.1 *ℤ count x s.moves u.0) l.terms)) js) (sym (limits_same t s ls ps whole is.facts Greatest)) (is.limits (count x s.moves) counts (cert Greatest).nevers (cert Greatest).loops);
+    claims = subst (λ js. All (λ l. IsNarrow (size_by (λ u. u.1 *ℤ count x s.moves u.0) l.terms)) js) (sym (limits_same t s ls ps whole is.facts Greatest)) (narrow_limits s.claims is.short (count x s.moves) counts (cert Greatest).nevers (cert Greatest).loops);
     value = within (narrow_pair (pos 1 *ℤ value t s x) (pos 1 *ℤ potential (cert Greatest) s.entry) (2 ^ 60) (at_least (value t s x) (subst (λ (y : ℤ). pos 0 ≤ℤ y) (sym (reached h)) h)) (one_below (value t s x) (2 ^ 60) below.0) (ap (λ (y : ℤ). pos 1 *ℤ y) (entry_is t s ls ps whole is.facts Greatest ∙ sym (reached h))));
   }
     where
@@ -161,7 +193,7 @@ module _ (t : Table) (s : System) (ls : List LoopShape) (ps : List Span) (whole 
       flow = all_keep s ls ps whole (costs_of t s) (neg_ℤ (pos (2 ^ 60))) (open_system h)
 
       below : (value t s x <ℤ (pos 1 *ℤ pos (2 ^ 60))) × ((a : ℕ) → count x s.moves a <ℤ (pos 1 *ℤ pos (2 ^ 60))) × ((m : Move) → Contains s.moves m → amount x m <ℤ (pos 1 *ℤ pos (2 ^ 60)))
-      below = is.loose 1 x (loose h)
+      below = loose_below 1 x (loose h)
 
       natural : (k : ℕ) → pos 0 ≤ℤ pos k
       natural k = omega (arith, ints)
@@ -203,5 +235,5 @@ module _ (t : Table) (s : System) (ls : List LoopShape) (ps : List Span) (whole 
   greatest_or_none : IsInForm s.claims (certificate_of t s ls ps) × Accepts t s (certificate_of t s ls ps)
   greatest_or_none = all_accepted t s ls ps whole is.facts (ranges (mark_of z)) open_flow
 
-pub all_greatest : (t : Table) (s : System) (ls : List LoopShape) (ps : List Span) → IsReachedWhole s ls ps → BoundsAreGreatest t s ls ps
-all_greatest t s ls ps whole is = greatest_or_none t s ls ps whole is
+pub all_greatest : (t : Table) (s : System) (ls : List LoopShape) (ps : List Span) → BoundsAreGreatest t s ls ps
+all_greatest t s ls ps is = greatest_or_none t s ls ps is

@@ -1,8 +1,8 @@
 //! The bound of a system without facts (Li and Malik 1995, implicit path enumeration).
 //!
-//! Proved, by a call with an empty body: where no loose flow has a value of 2^60 or more, and the numbers of the walks keep
-//! the ranges that follow, the certificate of the walks is in form and accepted (`bounds_are_greatest`). So its value is
-//! the greatest one of a flow, that of the flow that it lists, or there is no flow.
+//! Proved, by a call with an empty body: where no loose flow has a value of 2^60 or more, and bounds of loops can be kept,
+//! the certificate of the walks is in form and accepted (`bounds_are_greatest`). So its value is the greatest one of a
+//! flow, that of the flow that it lists, or there is no flow.
 //!
 //! The crate has this law alone.
 #![tactic(auto)]
