@@ -1,0 +1,8 @@
+pub mod LongLemmas
+pub mod EmissionLemmas
+pub mod WeightLemmas
+pub mod WorthLemmas
+pub mod CountLemmas
+pub mod ReachLemmas
+pub mod ValueLemmas
+pub mod ChosenLemmas
