@@ -1,0 +1,4 @@
+pub mod Starts
+pub mod Segments
+pub mod Views
+pub mod Laws
