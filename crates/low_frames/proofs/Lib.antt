@@ -1,0 +1,4 @@
+pub mod TableLemmas
+pub mod NeedsLemmas
+pub mod FrameLemmas
+pub mod SavingLemmas

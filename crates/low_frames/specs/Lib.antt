@@ -1,0 +1,5 @@
+pub mod Registers
+pub mod Needs
+pub mod Frames
+pub mod Memories
+pub mod Laws
