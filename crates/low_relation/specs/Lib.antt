@@ -1,0 +1,6 @@
+pub mod Plans
+pub mod Layouts
+pub mod Positions
+pub mod Views
+pub mod Waiting
+pub mod Following
