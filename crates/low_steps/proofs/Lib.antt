@@ -1,0 +1,10 @@
+pub mod Given
+pub mod Words
+pub mod Values
+pub mod Opened
+pub mod Stepping
+pub mod Moving
+pub mod Places
+pub mod Operands
+pub mod Plain
+pub mod Accesses
