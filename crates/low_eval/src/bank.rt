@@ -32,7 +32,8 @@ impl Model for Bank {
     ghost view = { λ b. b.values.items };
 }
 
-fn word_of(value: Option<Value>) -> Option<u32>
+/// The word that a value is.
+pub fn word_of(value: Option<Value>) -> Option<u32>
     ensures { result ≡ word_of value }
 {
     match value {
@@ -64,7 +65,7 @@ fn is_claimed(claims: &[Vec<u32>], claim: u32, object: u32) -> bool
 }
 
 /// Where a pointer points, where that is into an object of the claim.
-fn pointer_within(claims: &[Vec<u32>], claim: u32, value: Option<Value>) -> Option<Located>
+pub fn pointer_within(claims: &[Vec<u32>], claim: u32, value: Option<Value>) -> Option<Located>
     ensures { result ≡ pointer_within (slice_index_or (map claim_of claims.now) claim []) value }
 {
     match value {

@@ -1,7 +1,8 @@
 //! An evaluator of programs in the low form.
 //!
 //! Proved: [`evaluate`] answers how far the run of a program on an input is after so many steps. It is
-//! the definition's own program, for tests: it keeps each block that a run passes.
+//! the definition's own program, for tests: it keeps each block that a run passes. What doesn't depend on where values
+//! stand is there for the evaluator over places too.
 //!
 //! This crate knows no layout and no source language.
 #![tactic(auto)]
@@ -15,4 +16,7 @@ mod stack;
 mod tests;
 mod world;
 
+pub use bank::{Located, pointer_within, word_of};
 pub use evaluation::{Evaluated, Outcome, evaluate};
+pub use running::{Progress, chosen, next};
+pub use world::World;

@@ -47,7 +47,7 @@ impl<'a> Model for Running<'a> {
 }
 
 /// The block to which a branch goes.
-fn chosen(
+pub fn chosen(
     condition: Condition,
     taken: u32,
     other: u32,
@@ -75,7 +75,7 @@ fn chosen(
 
 /// The next instruction, and those behind it.
 #[tactic(auto, using(crate::proofs::Steps::first_and_rest))]
-fn next<'a>(code: &'a [Instr]) -> Option<(&'a Instr, &'a [Instr])>
+pub fn next<'a>(code: &'a [Instr]) -> Option<(&'a Instr, &'a [Instr])>
     ensures none { result ≡ None → code.now ≡ [] }
     ensures some { IfSome result (λ n. code.now ≡ n.0.now ∷ n.1.now) }
 {
