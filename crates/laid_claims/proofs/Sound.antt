@@ -1,6 +1,5 @@
 -- No claim is bad.
 use Rattle.std.proofs.Common.{◌≡◌, Bool, false, [], ◌++◌, None}
-use Rattle.std.specs.Prelude.{All}
 use Rattle.std.proofs.lemmas.List.Elements.{All-append, All-nil}
 use Rattle.flow_system.specs.Claims.{AreSound, exit_flaws, loop_flaws, region_flaws}
 use Rattle.placed_code.specs.Exits.{exits_of}
