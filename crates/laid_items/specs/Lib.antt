@@ -1,0 +1,2 @@
+pub mod Movables
+pub mod Laws

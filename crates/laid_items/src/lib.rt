@@ -1,0 +1,15 @@
+//! What may be moved into the scratchpad: the code of a function, or an array that isn't local.
+//!
+//! `specs/` has their numbers, sizes, regions, and the addresses at which they are fetched or accessed (`Movables`), and
+//! what is promised of them (`Laws`). A function's size is that of its items in their longest forms, where every array is
+//! far: it doesn't depend on what was moved, and is at least what the function takes.
+//!
+//! Proved: [`sizes_are_kept`], [`functions_are_movable`] and [`arrays_are_movable`], the contracts of functions without a
+//! body.
+//!
+//! This crate knows no gains and no choice.
+#![tactic(auto)]
+
+mod laws;
+
+pub use laws::{arrays_are_movable, functions_are_movable, sizes_are_kept};
