@@ -30,7 +30,7 @@ first : (x : Move) (xs : List Move) → Contains (x ∷ xs) x
 first x xs = (zero, omega arith, refl)
 
 module _ (f g : Move → ℤ) where
-  steps_same : (all : List Move) (ws : List ℤ) (walked : ℕ → Bool) (ms : List Move) → ((m : Move) → Contains ms m → f m ≡ g m) → steps_of f all ws walked ms ≡ steps_of g all ws walked ms
+  pub steps_same : (all : List Move) (ws : List ℤ) (walked : ℕ → Bool) (ms : List Move) → ((m : Move) → Contains ms m → f m ≡ g m) → steps_of f all ws walked ms ≡ steps_of g all ws walked ms
   steps_same all ws walked [] h = refl
   steps_same all ws walked (m ∷ ms) h =
       ap (λ (z : ℤ). cond (walked m.at) (step_of (λ k. z) all ws m ∷ steps_of f all ws walked ms) (steps_of f all ws walked ms)) (h m (first m ms))
@@ -73,12 +73,12 @@ module _ (s : System) (ls : List LoopShape) (f g : Move → ℤ) (low : ℤ) (h 
   abbrev by_g : Prices
   by_g = record { of = g; low = low }
 
-  loops_by : (ws : List ℤ) (p : Span) → function_loops s ls by_f ws p ≡ function_loops s ls by_g ws p
+  pub loops_by : (ws : List ℤ) (p : Span) → function_loops s ls by_f ws p ≡ function_loops s ls by_g ws p
   loops_by ws p =
       loops_same f g low s.moves h s.claims p (function_steps s ls f ws p) s.claims.loops ls
       ∙ ap (λ (ms : List Step). loops_of g low s.moves s.claims p ms s.claims.loops ls) (steps_same f g s.moves ws (is_walked s.claims ls p) s.moves h)
 
-  level_same : (v : Level) (p : Span) → function_level s ls by_f v p ≡ function_level s ls by_g v p
+  pub level_same : (v : Level) (p : Span) → function_level s ls by_f v p ≡ function_level s ls by_g v p
   level_same v p =
       ap (λ (ms : List Step). settled low ms v (function_loops s ls by_f v.worths p)) (steps_same f g s.moves v.worths (is_walked s.claims ls p) s.moves h)
       ∙ ap (λ (rs : List Loop). settled low (function_steps s ls g v.worths p) v rs) (loops_by v.worths p)

@@ -20,5 +20,6 @@ pub use candidate::plain;
 pub use laws::multipliers_are;
 pub use multipliers::{loop_multipliers, never_multipliers};
 pub use owed::most_owed;
+pub use price::prices;
 pub use terms::potentials;
 pub use walks::settle_costs;

@@ -9,7 +9,7 @@ use rv_core::Costs;
 use std::alloc::{AllocError, Global};
 
 /// The cycles of each move, in their order.
-pub(crate) fn prices(alloc: Global, system: &System, costs: &Costs) -> Result<Vec<i128>, AllocError>
+pub fn prices(alloc: Global, system: &System, costs: &Costs) -> Result<Vec<i128>, AllocError>
     ensures { IfOk result (λ v. v.items ≡ map (price (table_of costs.now) system.now) system.now.moves) }
 {
     let moves = system.moves();

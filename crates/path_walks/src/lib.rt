@@ -17,5 +17,9 @@ mod ring;
 mod step;
 mod walks;
 
+pub use open::is_open;
+pub use place::place_of;
 pub use priced::Priced;
+pub use ring::loops;
+pub use step::steps;
 pub use walks::{Settled, settle_all};

@@ -76,7 +76,7 @@ fn is_back(shapes: &[LoopShape], step: &Move) -> bool
 }
 
 /// Whether a walk goes through the address of a move.
-pub(crate) fn is_open(claims: &Claims, shapes: &[LoopShape], step: &Move) -> bool
+pub fn is_open(claims: &Claims, shapes: &[LoopShape], step: &Move) -> bool
     requires sound { AreSound claims.now }
     requires headers { AddressesRise (λ l. l.header) shapes.now }
     requires back { GoesBack shapes.now step.now }

@@ -9,7 +9,7 @@ use flow_system::{LoopShape, Move};
 use loop_walks::Step;
 
 /// How many moves begin before an address.
-pub(crate) fn place_of(moves: &[Move], at: u32) -> usize
+pub fn place_of(moves: &[Move], at: u32) -> usize
     requires { AreAscending moves.now }
     ensures value { result ≡ place_of moves.now at }
     ensures bound { result ≤ length moves.now }

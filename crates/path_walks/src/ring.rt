@@ -104,7 +104,7 @@ fn add_loop(
 }
 
 /// The loops of a function over its steps.
-pub(crate) fn loops(
+pub fn loops(
     alloc: Global,
     priced: Priced,
     span: Span,

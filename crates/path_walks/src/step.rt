@@ -82,7 +82,7 @@ fn add_step(
 }
 
 /// The steps of a function, at the worths of those before it.
-pub(crate) fn steps(
+pub fn steps(
     alloc: Global,
     priced: Priced,
     span: Span,
