@@ -23,7 +23,7 @@ kept_by : (b : Bool) (q : ℕ) (qs : List ℕ) → q < 24 → All Below qs → A
 kept_by true q qs h k = All-cons Below q qs h k
 kept_by false q qs h k = k
 
-kept_below : (ps : List Place) (note : List ℕ) → All IsRegister ps → All Below (kept_among ps note)
+pub kept_below : (ps : List Place) (note : List ℕ) → All IsRegister ps → All Below (kept_among ps note)
 kept_below [] note h = All-nil Below
 kept_below (InRegister q ∷ ps) note h = kept_by (is_member note q) q (kept_among ps note) (All-head IsRegister (InRegister q) ps h) (kept_below ps note (All-tail IsRegister (InRegister q) ps h))
 kept_below (Slot k ∷ ps) note h = kept_below ps note (All-tail IsRegister (Slot k) ps h)

@@ -45,14 +45,14 @@ position_less (x ∷ xs) zero d h = subst (λ b. (if b then 0 else suc (position
 position_less (x ∷ xs) (suc i) d h = position_by (x == get_or xs i d) (position xs (get_or xs i d)) (length xs) (position_less xs i d (omega arith))
 
 -- a register that the function saves
-record Saved (fr : Frame) (q : ℕ) : Type 0 where
+pub record Saved (fr : Frame) (q : ℕ) : Type 0 where
   pub below : q < 24
   pub place : position fr.saved q < length fr.saved
 
-all_saved : (fr : Frame) → IsSaving fr → All (Saved fr) fr.saved
+pub all_saved : (fr : Frame) → IsSaving fr → All (Saved fr) fr.saved
 all_saved fr h = λ i d less. record { below = h.0 i d less; place = position_less fr.saved i d less }
 
-nears : (fr : Frame) (n : ℕ) → n ≤ length fr.saved → is_frame_near fr ≡ true → is_near (fr.at + 4 * n) ≡ true
+pub nears : (fr : Frame) (n : ℕ) → n ≤ length fr.saved → is_frame_near fr ≡ true → is_near (fr.at + 4 * n) ≡ true
 nears fr n less h =
     let b = and_parts (is_near fr.at) (is_near (fr.at + 4 * length fr.saved)) h in
     let lo = and_parts (nat_le ram fr.at) (nat_lt fr.at (ram + 2 ^ 12)) b.0 in
@@ -127,7 +127,7 @@ saving_at (fr ∷ frames) (suc f) h = saving_at frames f (All-tail IsSaving fr f
 none_in : InFunction no_function
 none_in = (All-nil IsRegister, All-nil InBlock)
 
-function_at : (fns : List PlacedFunction) (f : ℕ) → All InFunction fns → InFunction (slice_index_or fns f no_function)
+pub function_at : (fns : List PlacedFunction) (f : ℕ) → All InFunction fns → InFunction (slice_index_or fns f no_function)
 function_at [] zero h = none_in
 function_at [] (suc f) h = none_in
 function_at (fn ∷ fns) zero h = All-head InFunction fn fns h

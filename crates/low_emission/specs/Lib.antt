@@ -1,0 +1,4 @@
+pub mod View
+pub mod Reaching
+pub mod Fitting
+pub mod Passing
