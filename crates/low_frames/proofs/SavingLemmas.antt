@@ -1,14 +1,14 @@
 -- Functions save machine registers, no more of them than there are.
-use Rattle.std.proofs.Common.{◌≡◌, ℕ, zero, suc, ◌<◌, ◌≤◌, Bool, true, false, List, [], ◌∷◌, length, arith, if◌then◌else◌}
-use Rattle.std.specs.Prelude.{All, slice_index_or, ◌&&◌}
+use Rattle.std.proofs.Common.{ℕ, zero, suc, ◌<◌, ◌≤◌, Bool, true, false, List, [], ◌∷◌, arith, if◌then◌else◌}
+use Rattle.std.specs.Prelude.{All, ◌&&◌}
 use Rattle.std.proofs.lemmas.List.Elements.{All-cons, All-from_get_or}
 use Rattle.low_ir.specs.Places.{Placed, machine_registers}
 use Rattle.low_items.specs.Numbers.{ram}
-use Rattle.low_items.specs.Frames.{Frame, frame_end}
+use Rattle.low_items.specs.Frames.{frame_end}
 use Rattle.low_items.specs.Functions.{PlacedFunction}
 use Rattle.low_sound.specs.Ranges.{IsSaving, AreSaving}
 use Rattle.low_frames.specs.Registers.{holds, chosen}
-use Rattle.low_frames.specs.Needs.{written, is_needed, saved_of}
+use Rattle.low_frames.specs.Needs.{written, is_needed}
 use Rattle.low_frames.specs.Frames.{frame_at, frames_from}
 use Rattle.low_frames.proofs.TableLemmas.{chosen_few}
 use Rattle.low_frames.specs.Memories.{Placement, memory_of}
