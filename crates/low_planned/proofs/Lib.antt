@@ -1,0 +1,4 @@
+pub mod SiteLemmas
+pub mod ObjectLemmas
+pub mod PlanLemmas
+pub mod PlacedLemmas
