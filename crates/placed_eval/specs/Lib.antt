@@ -1,0 +1,4 @@
+pub mod Laid
+pub mod Tables
+pub mod Stands
+pub mod Seen
