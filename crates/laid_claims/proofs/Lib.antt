@@ -10,3 +10,4 @@ pub mod Exits
 pub mod Sound
 pub mod Ranges
 pub mod Counts
+pub mod Listing

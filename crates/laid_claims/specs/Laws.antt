@@ -1,8 +1,9 @@
 -- What is promised of the claims on laid code.
-use Rattle.std.specs.Prelude.{◌≡◌, ℕ, ◌+◌, ◌*◌, ◌%◌, ◌<◌, ◌≤◌, List, [], ◌∷◌, length, None, Some, All, Contains, sum_by}
+use Rattle.std.specs.Prelude.{◌≡◌, ℕ, ◌+◌, ◌*◌, ◌%◌, ◌<◌, ◌≤◌, List, [], ◌∷◌, length, None, Some, All, Contains, slice_get, sum_by, take}
 use Rattle.flow_system.specs.declared.claims.LoopClaim.{LoopClaim}
 use Rattle.flow_system.specs.Claims.{AreSound}
-use Rattle.code_items.specs.Placings.{start_of}
+use Rattle.code_items.specs.Items.{total}
+use Rattle.code_items.specs.Placings.{block_of, blocks_of, start_of}
 use Rattle.code_forms.specs.Regions.{functions_size}
 use Rattle.placed_code.specs.Written.{RowsApart}
 use Rattle.low_ir.specs.Code.{Loop}
@@ -10,7 +11,9 @@ use Rattle.low_ir.specs.Formed.{mark_of}
 use Rattle.low_items.specs.Formed.{IsProgram}
 use Rattle.low_items.specs.Functions.{PlacedFunction, function_in, program_items}
 use Rattle.laid_accesses.specs.Laws.{AreLines, IsLocated, IsNamed}
-use Rattle.laid_claims.specs.Listed.{CodeRange, Laid, accesses_of, claims_of, code_range, code_ranges, functions_of, loop_claim, loops_of, places_of, placing, regions_of}
+use Rattle.laid_accesses.specs.Lines.{Access, access_at}
+use Rattle.laid_accesses.specs.Touches.{Touch}
+use Rattle.laid_claims.specs.Listed.{CodeRange, Laid, accesses_of, claims_of, code_range, code_ranges, functions_of, loop_claim, loops_of, places_of, placing, regions_of, touches_at}
 
 -- a program whose functions lie in two rows, and its arrays in regions
 pub record IsSettled (l : Laid) : Type 0 where
@@ -92,3 +95,9 @@ pub record AreFew (l : Laid) : Type 0 where
 
 abbrev pub ClaimsAreFew : Type 0
 ClaimsAreFew = (l : Laid) → IsSettled l → AreFew l
+
+-- whatever an item of a block may access is among the accesses, at the item's address
+abbrev pub AccessesAreListed : Type 0
+AccessesAreListed =
+    (l : Laid) → IsSettled l → (f b j : ℕ) (t : Touch) (x : Access) → f ≤ length l.program.functions → b < length (blocks_of (placing l) f) → j < length (block_of (placing l) f b) → slice_get (touches_at l f b) j ≡ Some t
+    → Contains (access_at l.memory (start_of (placing l) f b + total (take j (block_of (placing l) f b))) t) x → Contains (accesses_of l) x

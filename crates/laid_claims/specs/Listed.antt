@@ -17,7 +17,7 @@ use Rattle.low_items.specs.Frames.{Memory}
 use Rattle.low_items.specs.Functions.{PlacedBlock, function_in, program_items}
 use Rattle.laid_accesses.specs.Lines.{Access, blocks_accesses, lines}
 use Rattle.laid_claims.specs.Orders.{in_order}
-use Rattle.laid_accesses.specs.Touches.{program_touches}
+use Rattle.laid_accesses.specs.Touches.{Touch, program_touches}
 
 -- a program over places: where its data lie, and the rows in which its functions lie
 pub record Laid : Type 0 where
@@ -34,6 +34,10 @@ placing l = placing_of l.rows (functions_of l)
 
 abbrev pub by_address : Laid → List ℕ
 by_address l = in_order l.rows (length (functions_of l))
+
+-- what the items of a block touch
+abbrev pub touches_at : Laid → ℕ → ℕ → List Touch
+touches_at l f b = slice_index_or (slice_index_or (program_touches l.memory l.program) f []) b []
 
 -- loads and stores, and their lines
 abbrev pub accesses_in : Laid → ℕ → List Access

@@ -1,5 +1,6 @@
 // What is claimed of laid code.
 ghost use Rattle.laid_claims.specs.Laws.{
+  AccessesAreListed,
   AccessesHaveLines,
   ClaimsAreFew,
   ClaimsAreSound,
@@ -46,4 +47,9 @@ pub fn ranges_hold()
 /// loops.
 pub fn claims_are_few()
     ensures { ClaimsAreFew }
+{}
+
+/// Whatever an item of a block may access is among the accesses, at the item's address.
+pub fn accesses_are_listed()
+    ensures { AccessesAreListed }
 {}

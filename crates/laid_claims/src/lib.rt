@@ -5,8 +5,8 @@
 //! them (`Laws`).
 //!
 //! Proved of a program whose functions lie in two rows, and its arrays in regions: [`claims_are_sound`],
-//! [`claims_are_few`], [`accesses_have_lines`], [`loops_are_claimed`], [`marks_have_places`], [`places_are_apart`] and
-//! [`ranges_hold`], the contracts of functions without a body.
+//! [`claims_are_few`], [`accesses_are_listed`], [`accesses_have_lines`], [`loops_are_claimed`], [`marks_have_places`],
+//! [`places_are_apart`] and [`ranges_hold`], the contracts of functions without a body.
 //!
 //! This crate knows no runs, and not how an image is made.
 #![tactic(auto)]
@@ -14,6 +14,6 @@
 mod laws;
 
 pub use laws::{
-    accesses_have_lines, claims_are_few, claims_are_sound, loops_are_claimed, marks_have_places,
-    places_are_apart, ranges_hold,
+    accesses_are_listed, accesses_have_lines, claims_are_few, claims_are_sound, loops_are_claimed,
+    marks_have_places, places_are_apart, ranges_hold,
 };
