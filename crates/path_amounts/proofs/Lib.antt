@@ -1,0 +1,4 @@
+pub mod LevelLemmas
+pub mod SumLemmas
+pub mod FlowLemmas
+pub mod CostLemmas

@@ -1,0 +1,84 @@
+// What a function adds to the flow of a system.
+ghost use Rattle.std.specs.Prelude.{◌≡◌, ◌<◌, length, All, slice_index_or};
+ghost use Rattle.flow_system.specs.Systems.{AreAscending};
+ghost use Rattle.loop_amounts.specs.Wraps.{SameCounts};
+ghost use Rattle.path_flows.specs.Flows.{counted, call_starts, called};
+ghost use Rattle.path_places.specs.Places.{is_walked};
+ghost use Rattle.path_walks.specs.Opens.{AddressesRise, GoesBack, HasLoops};
+ghost use Rattle.path_amounts.specs.Sums.{backed, counts_next, HasCounted};
+
+use flow_system::{Move, Span};
+use loop_amounts::{Back, add};
+use path_walks::{Priced, is_open, place_of};
+
+/// A call that is made so often starts the called function as often.
+fn start_called(moves: &[Move], step: &Move, count: u128, starts: &mut [u128])
+    requires ascending { AreAscending moves.now }
+    requires long { length moves.now < length starts.now }
+    ensures { SameCounts starts.new (call_starts moves.now step.now.to step.now.behind count starts.old) }
+{
+    if let (Some(to), Some(_)) = (step.to, step.behind) {
+        add(starts, place_of(moves, to), count);
+    }
+}
+
+/// Adds the next count to a move's, if a walk goes through its address, and says how many counts are used then.
+fn add_move(
+    priced: Priced,
+    place: usize,
+    step: &Move,
+    counts: &[u128],
+    used: usize,
+    amounts: &mut [u128],
+    starts: &mut [u128],
+) -> usize
+    requires headers { AddressesRise (λ l. l.header) priced.shapes.now }
+    requires back { GoesBack priced.shapes.now step.now }
+    requires place { place < length amounts.now }
+    requires long { length priced.system.now.moves < length starts.now }
+    ensures { HasCounted priced.entry.system.now.moves (counts_next priced.entry.system.now.claims priced.entry.shapes.now step.now.at counts.now used) step.now place (slice_index_or counts.now used 0) used amounts.old starts.old result amounts.new starts.new }
+{
+    let moves = priced.system.moves();
+    if used >= counts.len() {
+        return used;
+    }
+    if !is_open(priced.system.claims(), priced.shapes, step) {
+        return used;
+    }
+    add(amounts, place, counts[used]);
+    start_called(moves, step, counts[used], starts);
+    used + 1
+}
+
+/// Adds the counts of a function's steps to those of its moves, and starts what it calls.
+pub(crate) fn add_counts(
+    priced: Priced,
+    span: Span,
+    counts: &[u128],
+    amounts: &mut [u128],
+    starts: &mut [u128],
+)
+    requires loops { HasLoops priced.system.now priced.shapes.now }
+    requires amounts { length amounts.now ≡ length priced.system.now.moves }
+    requires long { length priced.system.now.moves < length starts.now }
+    ensures amounts { SameCounts amounts.new (counted (is_walked priced.entry.system.now.claims priced.entry.shapes.now span) priced.entry.system.now.moves amounts.old counts.now) }
+    ensures starts { SameCounts starts.new (called priced.entry.system.now.moves (is_walked priced.entry.system.now.claims priced.entry.shapes.now span) priced.entry.system.now.moves counts.now starts.old) }
+{
+    let moves = priced.system.moves();
+    let first = place_of(moves, span.first);
+    let end = place_of(moves, span.end);
+    let mut used = 0;
+    for i in first..end {
+        used = add_move(priced, i, &moves[i], counts, used, amounts, starts);
+    }
+}
+
+/// Adds how often jumps back are made.
+pub(crate) fn add_backs(amounts: &mut [u128], backs: &[Back])
+    requires { All (λ b. b.place < length amounts.now) backs.now }
+    ensures { amounts.new ≡ backed backs.now amounts.old }
+{
+    for k in 0..backs.len() {
+        add(amounts, backs[k].place, backs[k].count);
+    }
+}
