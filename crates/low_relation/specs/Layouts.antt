@@ -20,7 +20,7 @@ use Rattle.low_ir.specs.Effects.{can_store}
 use Rattle.low_ir.specs.Places.{Placed}
 use Rattle.low_items.specs.Frames.{Memory, frame_of, object_at}
 use Rattle.low_items.specs.Formed.{IsProgram}
-use Rattle.low_items.specs.Functions.{function_in, block_count, items_at}
+use Rattle.low_items.specs.Functions.{PlacedBlock, function_in, block_count, items_at}
 use Rattle.low_relation.specs.Plans.{Needs, IsPlan, object_size, frame_size}
 
 -- a program, where its data lie, where its blocks begin and end, its code, and which blocks begin at an address
@@ -70,12 +70,12 @@ pub record IsMemoryOf (l : Layout) (image : Image) : Type 0 where
   pub objects : (o : ℕ) (x : Object) → slice_get l.program.objects o ≡ Some x → can_store x.storage ≡ true → IsOpen image (object_at l.memory o) (object_size x)
 
 -- which blocks begin where: blocks of the program alone, at their starts
+abbrev pub started_in : ℕ → ℕ → Option PlacedBlock → List Began
+started_in f b None = []
+started_in f b (Some block) = record { function = f; block = b } ∷ []
+
 abbrev pub started : Placed → ℕ → ℕ → List Began
-started p f b = by (slice_get (function_in p f).blocks b)
-  where
-    by : {A : Type 0} → Option A → List Began
-    by None = []
-    by (Some x) = record { function = f; block = b } ∷ []
+started p f b = started_in f b (slice_get (function_in p f).blocks b)
 
 -- the items of each block of a program stand in the code of an image
 pub record IsLaid (l : Layout) (image : Image) : Type 0 where
