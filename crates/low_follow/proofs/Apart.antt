@@ -74,7 +74,7 @@ module _ (l : Layout) where
       }
 
   pub returns_kept : (f : ℕ) (now : ℕ → ℕ) (v w : View) (after : ℕ → ℕ) → SameHead l f v w → Returns l f now v after → Returns l f now w after
-  returns_kept f now v w after same r = record { saved = λ q e. saved_kept f v w same q e ∙ r.saved q e; other = r.other }
+  returns_kept f now v w after same r = record { saved = λ q e small. saved_kept f v w same q e ∙ r.saved q e small; other = r.other }
 
   -- those that wait have what they had, where the words of their frames are as before
   pub waits_kept : (xs : List PlacedWaiting) (g : ℕ) (v w : View) (after : ℕ → ℕ) (ats : List ℕ) → ((h : ℕ) → g < h → h < length l.program.functions → SameWords l h v w) → AreWaiting l xs g v after ats → AreWaiting l xs g w after ats

@@ -59,8 +59,8 @@ module _ (g : Given) where
         after = h.after;
         keeps =
             record {
-              saved = λ q saved. saved_kept g.layout f v v2 head q saved ∙ h.keeps.saved q saved;
-              other = λ q need unsaved. registers (machine_register q) (steady_is q) ∙ h.keeps.other q need unsaved;
+              saved = λ q saved word. saved_kept g.layout f v v2 head q saved ∙ h.keeps.saved q saved word;
+              other = λ q need unsaved word. registers (machine_register q) (steady_is q) ∙ h.keeps.other q need unsaved word;
             };
         waits = waits_kept g.layout r.below f v v2 h.after returns (λ x more below. words x below) h.waits;
       }

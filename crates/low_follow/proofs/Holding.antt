@@ -234,8 +234,8 @@ module _ (g : Given) where
         after = h.after;
         keeps =
             record {
-              saved = λ q saved. saved_kept g.layout f v v2 (same_head n m f d k) q saved ∙ h.keeps.saved q saved;
-              other = λ q need unsaved. not_written n m f d there inside k written q need unsaved ∙ h.keeps.other q need unsaved;
+              saved = λ q saved word. saved_kept g.layout f v v2 (same_head n m f d k) q saved ∙ h.keeps.saved q saved word;
+              other = λ q need unsaved word. not_written n m f d there inside k written q need unsaved ∙ h.keeps.other q need unsaved word;
             };
         waits = waits_kept g.layout r.below f v v2 h.after returns (same_words n m f d there inside k) h.waits;
       }

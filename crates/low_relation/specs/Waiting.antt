@@ -1,5 +1,5 @@
 -- The activations that wait: what a call leaves for its caller, and where it returns.
-use Rattle.std.specs.Prelude.{◌≡◌, ℕ, ◌<◌, ◌++◌, pos, Bool, true, false, List, [], ◌∷◌, length, Some, slice_get, slice_index}
+use Rattle.std.specs.Prelude.{◌≡◌, ℕ, ◌^◌, ◌<◌, ◌++◌, pos, Bool, true, false, List, [], ◌∷◌, length, Some, slice_get, slice_index}
 use Rattle.rv_core.specs.Instructions.{addi}
 use Rattle.code_items.specs.declared.item.Item.TheVariants as items
 use Rattle.low_ir.specs.declared.places.Place.{Place}
@@ -27,10 +27,11 @@ pub record IsIn (p : Placed) (f b : ℕ) (left : List (Instr Place (List ℕ))) 
   pub code : before ++ left ≡ block.code
   pub ends : block.end ≡ end
 
--- what the registers that others need will hold once an activation of function f has returned: the saved word, or what they hold now
+-- what the registers that others need will hold, as far as they hold words, once an activation of function f has returned: the saved
+-- word, or what they hold now
 pub record Returns (l : Layout) (f : ℕ) (now : ℕ → ℕ) (v : View) (after : ℕ → ℕ) : Type 0 where
-  pub saved : (q : ℕ) → is_member (frame_of l.memory f).saved q ≡ true → HasWord v (saved_at (frame_of l.memory f) q) (after q)
-  pub other : (q : ℕ) → is_member (l.needs f) q ≡ true → is_member (frame_of l.memory f).saved q ≡ false → now q ≡ after q
+  pub saved : (q : ℕ) → is_member (frame_of l.memory f).saved q ≡ true → after q < 2 ^ 32 → HasWord v (saved_at (frame_of l.memory f) q) (after q)
+  pub other : (q : ℕ) → is_member (l.needs f) q ≡ true → is_member (frame_of l.memory f).saved q ≡ false → after q < 2 ^ 32 → now q ≡ after q
 
 abbrev pub PlacedWaiting : Type 0
 PlacedWaiting = Waiting Place (List ℕ) File

@@ -114,7 +114,7 @@ module _ (g : Given) where
     pub same : read g m w a ≡ Some (v % 2 ^ (8 * byte_count w))
     pub beside : (r : Width) (b : ℕ) → (b + byte_count r ≤ a) ⊎ (a + byte_count w ≤ b) → read g m r b ≡ read g n r b
 
-  frames_are : (n : ℕ) → frames_of (memory g n) ≡ frames_of (loaded g.image.segments)
+  pub frames_are : (n : ℕ) → frames_of (memory g n) ≡ frames_of (loaded g.image.segments)
   frames_are n = mrun-frames (run_of g) n
 
   pub store_any : (k : Course) (P : ℕ → Type 0) (n t : ℕ) (xs : List Item) (op : Op) (w : Width) (rs rv : ℕ) (imm : ℤ) (a v : ℕ) → (row_of op).effect ≡ Write w
