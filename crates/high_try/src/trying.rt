@@ -1,4 +1,4 @@
-// What the two commands do.
+// What the commands do.
 ghost use Rattle.std.specs.Prelude.{IfOk};
 ghost use Rattle.c_facts.specs.FlowFacts.{AreFacts};
 ghost use Rattle.c_front.specs.Fronts.{IsSource};
@@ -6,22 +6,32 @@ ghost use Rattle.c_typed.specs.View.{program_of};
 
 use super::comparing::{Verdict, compare};
 use super::loops::{Bounds, bounds_of_loops};
+use super::low_runs::{over_places, over_registers};
 use super::operations::operations;
 use c_front::{Refusal, Source, read_source};
 use c_meaning::eval;
 use c_semantics::SourceRun;
 use high_eval::evaluate;
-use high_ir::{Carried, High, LoopCopies, LoopCopy, size};
+use high_ir::{Carried, High, LoopCopies, LoopCopy, MarkCopies, size};
 use high_make::make;
+use low_ir::{Low, all_slots};
+use low_make::lower;
 use std::alloc::Global;
 use std::{fs, io};
 use thiserror::Error;
 use wcc_base::Memory;
 
+/// The form of the program that is run.
+#[derive(Clone, Copy)]
+pub enum Form {
+    High,
+    Low,
+}
+
 /// Why there is nothing to say of a source.
 #[derive(Debug, Drop, Error)]
 pub enum Fault {
-    #[error("usage: high_try run SOURCE INPUT [MEANT], or high_try make SOURCE TIMES")]
+    #[error("usage: high_try run|low SOURCE INPUT [MEANT], or high_try make|lower SOURCE TIMES")]
     Usage,
     #[error("a file can't be read, or a line can't be printed")]
     Files,
@@ -100,6 +110,12 @@ fn print_verdict(rt: &HostRuntime, verdict: Verdict) -> io::Result<()> {
     }
 }
 
+/// The verdict on a run in the low form over registers of a kind.
+fn print_run(rt: &HostRuntime, over: &str, verdict: Verdict) -> io::Result<()> {
+    print!(rt; "{over} ")?;
+    print_verdict(rt, verdict)
+}
+
 fn print_sizes(rt: &HostRuntime, program: &High) -> io::Result<()> {
     let size = size(program);
     let operations = operations(program);
@@ -131,7 +147,7 @@ fn print_loops(rt: &HostRuntime, made: &Carried) -> Result<(), Fault> {
     Ok(())
 }
 
-/// Runs a program on an input, and prints what came of it.
+/// Runs a program in the high form on an input, and prints what came of it.
 fn print_tried(
     rt: &HostRuntime,
     input: &[u8],
@@ -144,31 +160,90 @@ fn print_tried(
     print_loops(rt, made)
 }
 
+/// How many steps a run in the low form may take: memory ends before, since each block is noted that begins.
+fn most_steps() -> u64 {
+    1 << 40
+}
+
+/// Runs a program in the low form with each register in a slot of its own, and prints what came of it.
+fn print_slots(
+    rt: &HostRuntime,
+    input: &[u8],
+    meant: &SourceRun,
+    marks: &[MarkCopies],
+    low: Low,
+) -> Result<(), Fault> {
+    let code = all_slots(rt.alloc(), low)?;
+    let run = over_places(rt.alloc(), &code, input, most_steps())?;
+    drop(code);
+    print_run(rt, "slots", compare(&run, marks, meant))?;
+    Ok(())
+}
+
+/// Runs the program in the low form over virtual registers and over slots, and prints what came of it.
+fn print_low(
+    rt: &HostRuntime,
+    input: &[u8],
+    meant: &SourceRun,
+    made: &Carried,
+) -> Result<(), Fault> {
+    let low = lower(rt.alloc(), &made.program)?;
+    let run = over_registers(rt.alloc(), &low, input, most_steps())?;
+    print_run(rt, "registers", compare(&run, &made.copies.marks, meant))?;
+    print_slots(rt, input, meant, &made.copies.marks, low)
+}
+
+fn print_form(
+    rt: &HostRuntime,
+    form: Form,
+    input: &[u8],
+    meant: &SourceRun,
+    made: &Carried,
+) -> Result<(), Fault> {
+    match form {
+        Form::High => print_tried(rt, input, meant, made),
+        Form::Low => print_low(rt, input, meant, made),
+    }
+}
+
 fn try_meaning(
     rt: &HostRuntime,
+    form: Form,
     text: &[u8],
     input: &[u8],
     meaning: &SourceRun,
 ) -> Result<(), Fault> {
     let made = made_of(rt.alloc(), text)?;
-    let printed = print_tried(rt, input, meaning, &made);
+    let printed = print_form(rt, form, input, meaning, &made);
     drop(made);
     printed
 }
 
-fn try_texts(rt: &HostRuntime, text: &[u8], input: &[u8], meant: &[u8]) -> Result<(), Fault> {
+fn try_texts(
+    rt: &HostRuntime,
+    form: Form,
+    text: &[u8],
+    input: &[u8],
+    meant: &[u8],
+) -> Result<(), Fault> {
     let meaning = meaning_of(rt.alloc(), meant, input)?;
-    let printed = try_meaning(rt, text, input, &meaning);
+    let printed = try_meaning(rt, form, text, input, &meaning);
     drop(meaning);
     printed
 }
 
 /// Makes the program of a source, runs it on an input, and prints how that compares with what a source means there.
-pub fn try_source(rt: &HostRuntime, source: &str, input: &str, meant: &str) -> Result<(), Fault> {
+pub fn try_source(
+    rt: &HostRuntime,
+    form: Form,
+    source: &str,
+    input: &str,
+    meant: &str,
+) -> Result<(), Fault> {
     let text = fs::read(rt, source)?;
     let input = fs::read(rt, input)?;
     let meant = fs::read(rt, meant)?;
-    try_texts(rt, &text, &input, &meant)
+    try_texts(rt, form, &text, &input, &meant)
 }
 
 /// Makes the program of a source so many times.
@@ -203,4 +278,30 @@ pub fn make_times(rt: &HostRuntime, source: &str, times: &str) -> Result<(), Fau
     source.let_go();
     made?;
     print_made(rt, &text)
+}
+
+/// Makes the program in the low form so many times.
+fn lower_again(alloc: Global, program: &High, times: u32) -> Result<(), Memory> {
+    for _ in 0..times {
+        match lower(alloc, program) {
+            Ok(low) => drop(low),
+            Err(fault) => return Err(fault),
+        }
+    }
+    Ok(())
+}
+
+/// Makes the program of a source, and that in the low form so many times, and prints the sizes.
+pub fn lower_times(rt: &HostRuntime, source: &str, times: &str) -> Result<(), Fault> {
+    let Ok(times) = times.parse::<u32>() else {
+        return Err(Fault::Usage);
+    };
+    let text = fs::read(rt, source)?;
+    let made = made_of(rt.alloc(), &text)?;
+    let lowered = lower_again(rt.alloc(), &made.program, times);
+    let printed = print_sizes(rt, &made.program);
+    drop(made);
+    lowered?;
+    printed?;
+    Ok(())
 }
