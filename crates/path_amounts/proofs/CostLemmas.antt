@@ -1,5 +1,5 @@
 -- The flow goes by the prices of a system's own moves alone.
-use Rattle.std.proofs.Common.{◌≡◌, ℕ, ℤ, refl, ap, ◌∙◌, List, [], ◌∷◌, length, Contains}
+use Rattle.std.proofs.Common.{◌≡◌, ℤ, refl, ap, ◌∙◌, List, [], ◌∷◌, length, Contains}
 use Rattle.flow_system.specs.declared.moves.Move.{Move}
 use Rattle.flow_system.specs.declared.shapes.LoopShape.{LoopShape}
 use Rattle.flow_system.specs.declared.shapes.Span.{Span}

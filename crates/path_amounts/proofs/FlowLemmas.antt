@@ -1,5 +1,5 @@
 -- The flow of a system from its last function to its first.
-use Rattle.std.proofs.Common.{◌≡◌, ℕ, zero, suc, ◌+◌, ◌-◌, ◌≤◌, ◌<◌, ◌^◌, ℤ, pos, arith, refl, sym, ap, ◌∙◌, subst, List, [], ◌∷◌, ◌++◌, length, take, drop, get_or, All, Option, Some, None, Bool, true, false, cond, append_assoc, append-nil}
+use Rattle.std.proofs.Common.{◌≡◌, ℕ, suc, ◌+◌, ◌≤◌, ◌<◌, ◌^◌, ℤ, pos, arith, refl, sym, ap, ◌∙◌, subst, List, [], ◌∷◌, ◌++◌, length, drop, get_or, All, Option, Some, None, Bool, true, false, cond, append_assoc, append-nil}
 use Rattle.std.specs.Prelude.{◌==◌}
 use Rattle.std.proofs.Math.Seq.{drop-cons}
 use Rattle.std.proofs.Math.Nat.{mod-eq_of_lt}
@@ -14,10 +14,10 @@ use Rattle.loop_walks.specs.declared.step.Step.{Step}
 use Rattle.loop_walks.specs.declared.step.Loop.{Loop}
 use Rattle.loop_walks.specs.Turns.{way_at, turn_ways}
 use Rattle.loop_walks.specs.Levels.{Level, level_of, weighed}
-use Rattle.loop_walks.specs.Rows.{IsStep, Each, IsBack, AreSteps, AreLoops}
+use Rattle.loop_walks.specs.Rows.{IsStep, Each, IsBack, AreLoops}
 use Rattle.loop_walks.proofs.EachLemmas.{each_both, steps_are}
 use Rattle.loop_flows.specs.Passes.{amount_at, spread}
-use Rattle.loop_flows.specs.Flows.{Turning, counts_of, backs_of}
+use Rattle.loop_flows.specs.Flows.{Turning}
 use Rattle.loop_passes.specs.Turns.{is_tight, turning_of, with_way, with_back, turnings}
 use Rattle.loop_amounts.specs.declared.back.Back.{Back}
 use Rattle.loop_amounts.specs.Wraps.{wrapped, all_wrapped, SameCounts, AgreeIn}
@@ -27,9 +27,9 @@ use Rattle.loop_amounts.proofs.SpreadLemmas.{BeginsIn, spread_agrees, spread_sam
 use Rattle.loop_amounts.proofs.TurnLemmas.{turned_from}
 use Rattle.path_places.specs.Places.{place_of, is_walked}
 use Rattle.path_places.specs.Laws.{function_steps, IsReachedWhole}
-use Rattle.path_rows.specs.Driver.{Prices, blank, function_loops, function_level, functions_level}
+use Rattle.path_rows.specs.Driver.{Prices, blank, function_loops, function_level}
 use Rattle.path_duals.specs.Duals.{final_level}
-use Rattle.path_flows.specs.Flows.{Flowing, counted, turned_back, called, function_ground, function_turnings, first_counts, function_counts, function_backs, function_flow, flow_from, first_flow, amounts_of, parts_of}
+use Rattle.path_flows.specs.Flows.{Flowing, counted, called, function_ground, function_turnings, first_counts, function_counts, function_backs, function_flow, flow_from, first_flow, amounts_of, parts_of}
 use Rattle.path_walks.specs.Functions.{IsFunction}
 use Rattle.path_walks.specs.Sizes.{AllStaySmall}
 use Rattle.path_amounts.specs.Puts.{IsPut}

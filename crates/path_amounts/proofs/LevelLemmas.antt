@@ -1,14 +1,12 @@
 -- The levels of a system, one function after the other, and how each comes back from the one behind it.
-use Rattle.std.proofs.Common.{◌≡◌, ◌≢◌, ℕ, zero, suc, ◌+◌, ◌-◌, ◌≤◌, ◌<◌, ℤ, pos, arith, refl, sym, ap, ◌∙◌, subst, List, [], ◌∷◌, ◌++◌, length, drop, get_or, Contains, All, inl, inr, ◌⊎◌, Bool, true, false, cond, Option, Some, None, length-append, get_or-set_other}
-use Rattle.std.specs.Prelude.{◌==◌, ◌&&◌, ◌||◌, not, min, nat_le, nat_lt, slice_set}
+use Rattle.std.proofs.Common.{◌≡◌, ◌≢◌, ℕ, zero, suc, ◌+◌, ◌≤◌, ◌<◌, ℤ, pos, arith, refl, sym, ap, ◌∙◌, subst, List, [], ◌∷◌, ◌++◌, length, drop, get_or, Contains, inl, inr, ◌⊎◌, Bool, true, false, cond, Some, length-append, get_or-set_other}
+use Rattle.std.specs.Prelude.{◌&&◌, ◌||◌, not, min, nat_le, nat_lt, slice_set}
 use Rattle.std.proofs.lemmas.Bool.Decides.{eqb_tells, nat_tests}
 use Rattle.std.proofs.lemmas.Grind.{get_or-set_at}
-use Rattle.std.proofs.Math.Seq.{drop-cons}
 use Rattle.std.proofs.Math.ListN.{replicate}
-use Rattle.std.proofs.lemmas.List.{drop_all, get_or_default, length-replicate}
-use Rattle.std.proofs.lemmas.List.Elements.{All-head, All-contains}
+use Rattle.std.proofs.lemmas.List.{length-replicate}
+use Rattle.std.proofs.lemmas.List.Elements.{All-contains}
 use Rattle.flow_system.specs.declared.claims.LoopClaim.{LoopClaim}
-use Rattle.flow_system.specs.declared.moves.Move.{Move}
 use Rattle.flow_system.specs.declared.shapes.LoopShape.{LoopShape}
 use Rattle.flow_system.specs.declared.shapes.Span.{Span}
 use Rattle.flow_system.specs.Systems.{System, has_moves}
@@ -16,15 +14,14 @@ use Rattle.flow_system.specs.Shapes.{IsInSpan, AreApart, AreAllApart, is_back}
 use Rattle.loop_walks.specs.declared.step.Step.{Step}
 use Rattle.loop_walks.specs.declared.step.Loop.{Loop}
 use Rattle.loop_walks.specs.Walks.{worth_at}
-use Rattle.loop_walks.specs.Levels.{Level, level_of, ground, weighed}
-use Rattle.loop_walks.specs.Rows.{Each, IsBack, AreSteps, AreLoops}
+use Rattle.loop_walks.specs.Levels.{Level, level_of, ground}
+use Rattle.loop_walks.specs.Rows.{Each, IsBack, AreLoops}
 use Rattle.loop_walks.proofs.EachLemmas.{each_map}
 use Rattle.loop_walks.proofs.WalkLemmas.{relaxed-long, relaxed_other}
 use Rattle.loop_walks.proofs.LevelLemmas.{Held, weighed-long}
 use Rattle.loop_walks.proofs.UntouchedLemmas.{Avoids, settled_untouched}
-use Rattle.loop_worths.specs.Sizes.{StaysSmall}
 use Rattle.path_places.specs.Reached.{in_span}
-use Rattle.path_places.specs.Places.{place_of, is_stop, is_walked, end_place, loop_of, loops_of}
+use Rattle.path_places.specs.Places.{place_of, is_stop, is_walked, loop_of, loops_of}
 use Rattle.path_places.specs.Laws.{function_steps, IsReachedWhole}
 use Rattle.path_places.proofs.PlaceLemmas.{place_up, place_above, place_within}
 use Rattle.path_places.proofs.RankLemmas.{span_of}
@@ -32,7 +29,6 @@ use Rattle.path_places.proofs.LoopLemmas.{steps_each, has_of}
 use Rattle.path_places.proofs.FunctionLemmas.{walked_in}
 use Rattle.path_rows.specs.Driver.{Prices, blank, function_loops, function_level, function_pairs, functions_level}
 use Rattle.path_rows.proofs.DriverLemmas.{fits_function, none_yet, function_holds, zero_at}
-use Rattle.path_duals.specs.Duals.{final_level}
 use Rattle.path_flows.specs.Flows.{function_ground}
 use Rattle.path_walks.specs.Functions.{IsFunction}
 use Rattle.path_walks.specs.Sizes.{AllStaySmall}

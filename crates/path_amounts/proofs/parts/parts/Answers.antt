@@ -1,4 +1,4 @@
-use Rattle.std.proofs.Common.{rules, arith, ◌≡◌, ◌<◌, ◌^◌, ◌++◌, ◌∙◌, ap, length}
+use Rattle.std.proofs.Common.{rules, arith, ◌<◌, ◌^◌, ◌++◌, ◌∙◌, ap}
 use Rattle.loop_flows.specs.Passes.{amount_at}
 use Rattle.loop_amounts.specs.Wraps.{all_wrapped}
 use Rattle.loop_amounts.proofs.WrapLemmas.{wrapped-long}

@@ -1,4 +1,4 @@
-use Rattle.std.proofs.Common.{◌≡◌, ◌+◌, ◌∙◌, ap, Option, Some}
+use Rattle.std.proofs.Common.{◌≡◌, ◌+◌, ◌∙◌, ap, Some}
 use Rattle.std.specs.Prelude.{slice_set}
 use Rattle.loop_flows.specs.Passes.{amount_at}
 use Rattle.loop_amounts.specs.Wraps.{wrapped}

@@ -1,4 +1,4 @@
-use Rattle.std.proofs.Common.{arith, ◌≡◌, ◌+◌, ◌-◌, ◌<◌, ◌∙◌, refl, sym, ap, subst, ℕ, length}
+use Rattle.std.proofs.Common.{arith, ◌≡◌, ◌+◌, ◌-◌, ◌<◌, ◌∙◌, ap, subst, ℕ, length}
 use Rattle.flow_system.specs.declared.shapes.Span.{Span}
 use Rattle.std.proofs.lemmas.List.{length-replicate}
 use Rattle.loop_walks.specs.Levels.{level_of}
