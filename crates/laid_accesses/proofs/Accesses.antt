@@ -1,10 +1,9 @@
 -- Accesses stand in the order of their addresses, and each may touch some region.
-use Rattle.std.proofs.Common.{◌≡◌, ℕ, zero, suc, ◌+◌, ◌%◌, ◌<◌, ◌≤◌, Bool, true, false, List, [], ◌∷◌, ◌++◌, length, map, Some, refl, sym, ap, ◌∙◌, arith}
+use Rattle.std.proofs.Common.{◌≡◌, ℕ, zero, suc, ◌+◌, ◌%◌, ◌<◌, ◌≤◌, Bool, true, false, List, [], ◌∷◌, ◌++◌, length, map, refl, sym, ap, ◌∙◌, arith}
 use Rattle.std.specs.Prelude.{◌||◌, All, slice_index_or}
 use Rattle.std.proofs.lemmas.List.Elements.{All-head, All-nil, All-tail}
 use Rattle.rv_core.specs.declared.regions.Region.{Region}
 use Rattle.rv_core.specs.declared.regions.Region.TheVariants.{Flash, Spm, Ram}
-use Rattle.rv_core.specs.Regions.{region_of}
 use Rattle.rv_core.specs.Rows.{row_of}
 use Rattle.rv_core.specs.Table.{accesses}
 use Rattle.code_items.specs.declared.item.Item.{Item}
@@ -17,11 +16,11 @@ use Rattle.low_ir.specs.Code.{Address, Base, Fixed, Through, Set, Operate, Point
 use Rattle.low_ir.specs.Formed.{BlockNamesThere, IsClaim, IsThere, NamesThere, base_claims, base_objects}
 use Rattle.low_ir.specs.Places.{Placed}
 use Rattle.low_items.specs.Numbers.{first_free, second_free}
-use Rattle.low_items.specs.Frames.{Memory, object_at}
+use Rattle.low_items.specs.Frames.{Memory}
 use Rattle.low_items.specs.Operands.{address_code, operand_code, result_code}
 use Rattle.low_items.specs.Functions.{PlacedBlock, PlacedFunction, at_once, end_items, instr_items, leave_items, no_function, opening_items, own_frame, own_function, singles, start_items}
-use Rattle.laid_accesses.specs.Laws.{Ascend, IsLocated, IsNamed}
-use Rattle.laid_accesses.specs.Lines.{Access, Letters, access_at, blocks_accesses, is_region, items_accesses, letters_of, same_region, touches_region}
+use Rattle.laid_accesses.specs.Laws.{Ascend, IsNamed}
+use Rattle.laid_accesses.specs.Lines.{Access, Letters, access_at, blocks_accesses, items_accesses, letters_of, same_region, touches_region}
 use Rattle.laid_accesses.proofs.Spaces.{items_fours}
 use Rattle.laid_accesses.proofs.Spaces.{Between, append, wider}
 use Rattle.laid_accesses.specs.Touches.{Touch, Nothing, OfFrame, OfArrays, block_touches, blocks_touches, body_touches, filled_touches, frame_touch, function_touches, functions_touches, instr_touches, item_touch, leaving_touches, named, program_touches, touches}
@@ -43,12 +42,12 @@ pub ascends : (a : ℕ) (xs : List Access) (end : ℕ) → AccessesBetween a xs 
 ascends a [] end h = tt
 ascends a (x ∷ xs) end h = (h.0, (h.1.0.0, (h.1.0.1, ascends (x.at + 4) xs end h.1.1)))
 
-module _ (m : Memory) where
+module _ (regions : ℕ → Region) where
   -- what is touched lies in some region
   abbrev pub Lies : Touch → Type 0
   Lies Nothing = Unit {0}
   Lies OfFrame = Unit {0}
-  Lies (OfArrays os) = some (letters_of m os) ≡ true
+  Lies (OfArrays os) = some (letters_of regions os) ≡ true
 
   abbrev pub AllLie : List Touch → Type 0
   AllLie [] = Unit {0}
@@ -62,28 +61,28 @@ module _ (m : Memory) where
   FunctionsLie [] = Unit {0}
   FunctionsLie (f ∷ fs) = BlocksLie f × FunctionsLie fs
 
-  access_between : (a n : ℕ) (t : Touch) → a % 4 ≡ 0 → 4 ≤ n → Lies t → AccessesBetween a (access_at m a t) (a + n)
+  access_between : (a n : ℕ) (t : Touch) → a % 4 ≡ 0 → 4 ≤ n → Lies t → AccessesBetween a (access_at regions a t) (a + n)
   access_between a n Nothing e room h = omega arith
   access_between a n OfFrame e room h = (omega arith, ((e, refl), omega (arith, room)))
   access_between a n (OfArrays os) e room h = (omega arith, ((e, h), omega (arith, room)))
 
-  items_between : (a : ℕ) (ts : List Touch) (xs : List Item) → a % 4 ≡ 0 → AllLie ts → AccessesBetween a (items_accesses m a ts xs) (a + total xs)
+  items_between : (a : ℕ) (ts : List Touch) (xs : List Item) → a % 4 ≡ 0 → AllLie ts → AccessesBetween a (items_accesses regions a ts xs) (a + total xs)
   items_between a [] xs e h = omega arith
   items_between a (t ∷ ts) [] e h = omega arith
   items_between a (t ∷ ts) (x ∷ xs) e h =
       let fours = size_aligned x in
       let rest = items_between (a + size x) ts xs (omega (arith, e, fours)) h.1 in
-      append Access at_of IsGood a (access_at m a t) (items_accesses m (a + size x) ts xs) (a + size x) (a + total (x ∷ xs)) (access_between a (size x) t e (size_some x) h.0)
-      (wider Access at_of IsGood (a + size x) (a + size x) (items_accesses m (a + size x) ts xs) (a + size x + total xs) (a + total (x ∷ xs)) (omega arith) (omega arith) rest)
+      append Access at_of IsGood a (access_at regions a t) (items_accesses regions (a + size x) ts xs) (a + size x) (a + total (x ∷ xs)) (access_between a (size x) t e (size_some x) h.0)
+      (wider Access at_of IsGood (a + size x) (a + size x) (items_accesses regions (a + size x) ts xs) (a + size x + total xs) (a + total (x ∷ xs)) (omega arith) (omega arith) rest)
 
-  pub blocks_between : (a : ℕ) (tss : List (List Touch)) (bs : Blocks) → a % 4 ≡ 0 → BlocksLie tss → AccessesBetween a (blocks_accesses m a tss bs) (a + blocks_size bs)
+  pub blocks_between : (a : ℕ) (tss : List (List Touch)) (bs : Blocks) → a % 4 ≡ 0 → BlocksLie tss → AccessesBetween a (blocks_accesses regions a tss bs) (a + blocks_size bs)
   blocks_between a [] bs e h = omega arith
   blocks_between a (ts ∷ tss) [] e h = omega arith
   blocks_between a (ts ∷ tss) (xs ∷ bs) e h =
       let fours = items_fours xs in
       let rest = blocks_between (a + total xs) tss bs (omega (arith, e, fours)) h.1 in
-      append Access at_of IsGood a (items_accesses m a ts xs) (blocks_accesses m (a + total xs) tss bs) (a + total xs) (a + blocks_size (xs ∷ bs)) (items_between a ts xs e h.0)
-      (wider Access at_of IsGood (a + total xs) (a + total xs) (blocks_accesses m (a + total xs) tss bs) (a + total xs + blocks_size bs) (a + blocks_size (xs ∷ bs)) (omega arith) (omega arith) rest)
+      append Access at_of IsGood a (items_accesses regions a ts xs) (blocks_accesses regions (a + total xs) tss bs) (a + total xs) (a + blocks_size (xs ∷ bs)) (items_between a ts xs e h.0)
+      (wider Access at_of IsGood (a + total xs) (a + total xs) (blocks_accesses regions (a + total xs) tss bs) (a + total xs + blocks_size bs) (a + blocks_size (xs ∷ bs)) (omega arith) (omega arith) rest)
 
   pub function_lies : (fs : List (List (List Touch))) (f : ℕ) → FunctionsLie fs → BlocksLie (slice_index_or fs f [])
   function_lies [] f h = tt
@@ -129,8 +128,8 @@ module _ (m : Memory) where
   region_same Spm = refl
   region_same Ram = refl
 
-  first_touches : (r : Region) (o : ℕ) (os : List ℕ) → region_of (object_at m o) ≡ Some r → touches_region m r (o ∷ os) ≡ true
-  first_touches r o os e = ap (λ b. b || touches_region m r os) (ap (is_region r) e ∙ region_same r)
+  first_touches : (r : Region) (o : ℕ) (os : List ℕ) → regions o ≡ r → touches_region regions r (o ∷ os) ≡ true
+  first_touches r o os e = ap (λ b. b || touches_region regions r os) (ap (same_region r) e ∙ region_same r)
 
   any_some : (r : Region) (a b c : Bool) → ((r ≡ Flash) → a ≡ true) → ((r ≡ Spm) → b ≡ true) → ((r ≡ Ram) → c ≡ true) → (a || (b || c)) ≡ true
   any_some Flash a b c f g h = ap (λ x. x || (b || c)) (f refl)
@@ -146,29 +145,29 @@ module _ (m : Memory) where
       both false true = refl
       both false false = refl
 
-  lies_somewhere : (r : Region) (o : ℕ) (os : List ℕ) → region_of (object_at m o) ≡ Some r → some (letters_of m (o ∷ os)) ≡ true
+  lies_somewhere : (r : Region) (o : ℕ) (os : List ℕ) → regions o ≡ r → some (letters_of regions (o ∷ os)) ≡ true
   lies_somewhere r o os e =
-      any_some r (touches_region m Flash (o ∷ os)) (touches_region m Spm (o ∷ os)) (touches_region m Ram (o ∷ os))
-      (λ is. ap (λ s. touches_region m s (o ∷ os)) (sym is) ∙ first_touches r o os e)
-      (λ is. ap (λ s. touches_region m s (o ∷ os)) (sym is) ∙ first_touches r o os e)
-      (λ is. ap (λ s. touches_region m s (o ∷ os)) (sym is) ∙ first_touches r o os e)
+      any_some r (touches_region regions Flash (o ∷ os)) (touches_region regions Spm (o ∷ os)) (touches_region regions Ram (o ∷ os))
+      (λ is. ap (λ s. touches_region regions s (o ∷ os)) (sym is) ∙ first_touches r o os e)
+      (λ is. ap (λ s. touches_region regions s (o ∷ os)) (sym is) ∙ first_touches r o os e)
+      (λ is. ap (λ s. touches_region regions s (o ∷ os)) (sym is) ∙ first_touches r o os e)
 
-  module _ (p : Placed) (located : IsLocated m p) (is_named : IsNamed p) where
+  module _ (m : Memory) (p : Placed) (is_named : IsNamed p) where
     -- arrays that are there, at least one
-    arrays_lie : (os : List ℕ) → 0 < length os → All (λ o. o < length p.objects) os → some (letters_of m os) ≡ true
+    arrays_lie : (os : List ℕ) → 0 < length os → All (λ o. o < length p.objects) os → some (letters_of regions os) ≡ true
     arrays_lie [] h all = absurd (omega (arith, h))
-    arrays_lie (o ∷ os) h all = let l = located o (All-head (λ o. o < length p.objects) o os all) in lies_somewhere l.0 o os l.1
+    arrays_lie (o ∷ os) h all = lies_somewhere (regions o) o os refl
 
-    claim_lies : (cs : List (List ℕ)) (c : ℕ) → c < length cs → All (IsClaim p) cs → some (letters_of m (slice_index_or cs c [])) ≡ true
+    claim_lies : (cs : List (List ℕ)) (c : ℕ) → c < length cs → All (IsClaim p) cs → some (letters_of regions (slice_index_or cs c [])) ≡ true
     claim_lies [] c h all = absurd (omega (arith, h))
     claim_lies (x ∷ cs) zero h all = let k = All-head (IsClaim p) x cs all in arrays_lie x k.0 k.1
     claim_lies (x ∷ cs) (suc c) h all = claim_lies cs c (omega (arith, h)) (All-tail (IsClaim p) x cs all)
 
-    base_lies : (b : Base Place) → All (λ o. o < length p.objects) (base_objects b) → All (λ c. c < length p.claims) (base_claims b) → some (letters_of m (named p b)) ≡ true
-    base_lies (Fixed o) h k = let l = located o (All-head (λ x. x < length p.objects) o [] h) in lies_somewhere l.0 o [] l.1
+    base_lies : (b : Base Place) → All (λ o. o < length p.objects) (base_objects b) → All (λ c. c < length p.claims) (base_claims b) → some (letters_of regions (named p b)) ≡ true
+    base_lies (Fixed o) h k = lies_somewhere (regions o) o [] refl
     base_lies (Through r claim) h k = claim_lies p.claims claim (All-head (λ c. c < length p.claims) claim [] k) is_named.claims
 
-    address_lies : (a : Address Place) → All (IsThere p) (a ∷ []) → some (letters_of m (named p a.base)) ≡ true
+    address_lies : (a : Address Place) → All (IsThere p) (a ∷ []) → some (letters_of regions (named p a.base)) ≡ true
     address_lies a h = let k = All-head (IsThere p) a [] h in base_lies a.base k.0 k.1
 
     instr_lies : (f : ℕ) (i : Instr Place (List ℕ)) → NamesThere p i → AllLie (instr_touches m p f i)

@@ -1,7 +1,5 @@
 -- What is promised of accesses and of the lines of regions.
 use Rattle.std.specs.Prelude.{◌≡◌, ℕ, ◌+◌, ◌%◌, ◌<◌, ◌≤◌, ◌||◌, true, false, List, [], ◌∷◌, length, None, Some, All, slice_get}
-use Rattle.rv_core.specs.declared.regions.Region.{Region}
-use Rattle.rv_core.specs.Regions.{region_of}
 use Rattle.flow_system.specs.declared.claims.Within.{Within}
 use Rattle.flow_system.specs.Claims.{region_flaws}
 use Rattle.code_items.specs.declared.item.Item.{Item}
@@ -9,7 +7,7 @@ use Rattle.code_items.specs.Placings.{Blocks}
 use Rattle.low_ir.specs.Code.{Low}
 use Rattle.low_ir.specs.Formed.{BlockNamesThere, IsClaim, IsLow}
 use Rattle.low_ir.specs.Places.{Assignment, Placed, placed}
-use Rattle.low_items.specs.Frames.{Memory, object_at}
+use Rattle.low_items.specs.Frames.{Memory}
 use Rattle.low_items.specs.Functions.{PlacedFunction, program_items}
 use Rattle.laid_accesses.specs.Lines.{Access, lines}
 use Rattle.laid_accesses.specs.Touches.{Touch, item_touch, program_touches, touches_memory}
@@ -62,11 +60,7 @@ pub record AreLines (xs : List Access) (ws : List Within) : Type 0 where
 abbrev pub LinesHold : Type 0
 LinesHold = (a : ℕ) (xs : List Access) → Ascend a xs → AreLines xs (lines xs)
 
--- each array of a program lies in a region
-abbrev pub IsLocated : Memory → Placed → Type 0
-IsLocated m p = (o : ℕ) → o < length p.objects → (r : Region) × (region_of (object_at m o) ≡ Some r)
-
--- its accesses and its claims name arrays that are there
+-- the accesses and the claims of a program name arrays that are there
 pub record IsNamed (p : Placed) : Type 0 where
   pub functions : All (λ (fn : PlacedFunction). All (BlockNamesThere p) fn.blocks) p.functions
   pub claims : All (IsClaim p) p.claims

@@ -1,14 +1,12 @@
 -- The lines of regions: accesses in the order of their addresses, each with the regions that it may touch.
-use Rattle.std.specs.Prelude.{ℕ, ◌+◌, Bool, true, false, ◌&&◌, List, [], ◌∷◌, ◌++◌, Option, Some, None, if◌then◌else◌}
+use Rattle.std.specs.Prelude.{ℕ, ◌+◌, Bool, true, false, ◌&&◌, List, [], ◌∷◌, ◌++◌, if◌then◌else◌}
 use Rattle.std.specs.List.{list_any}
 use Rattle.rv_core.specs.declared.regions.Region.{Region}
 use Rattle.rv_core.specs.declared.regions.Region.TheVariants.{Flash, Spm, Ram}
-use Rattle.rv_core.specs.Regions.{region_of}
 use Rattle.flow_system.specs.declared.claims.Within.{Within}
 use Rattle.code_items.specs.declared.item.Item.{Item}
 use Rattle.code_items.specs.Items.{size, total}
 use Rattle.code_items.specs.Placings.{Blocks}
-use Rattle.low_items.specs.Frames.{Memory, object_at}
 use Rattle.laid_accesses.specs.Touches.{Touch, Nothing, OfFrame, OfArrays}
 
 -- the regions that an access may touch
@@ -23,16 +21,12 @@ same_region Spm Spm = true
 same_region Ram Ram = true
 same_region r s = false
 
-abbrev pub is_region : Region → Option Region → Bool
-is_region r None = false
-is_region r (Some s) = same_region r s
-
 -- some array of these lies in the region
-abbrev pub touches_region : Memory → Region → List ℕ → Bool
-touches_region m r os = list_any (λ o. is_region r (region_of (object_at m o))) os
+abbrev pub touches_region : (ℕ → Region) → Region → List ℕ → Bool
+touches_region regions r os = list_any (λ o. same_region r (regions o)) os
 
-abbrev pub letters_of : Memory → List ℕ → Letters
-letters_of m os = record { flash = touches_region m Flash os; spm = touches_region m Spm os; ram = touches_region m Ram os }
+abbrev pub letters_of : (ℕ → Region) → List ℕ → Letters
+letters_of regions os = record { flash = touches_region regions Flash os; spm = touches_region regions Spm os; ram = touches_region regions Ram os }
 
 -- frames lie in RAM
 abbrev pub frame_letters : Letters
@@ -43,21 +37,21 @@ pub record Access : Type 0 where
   pub at : ℕ
   pub letters : Letters
 
-abbrev pub access_at : Memory → ℕ → Touch → List Access
-access_at m a Nothing = []
-access_at m a OfFrame = record { at = a; letters = frame_letters } ∷ []
-access_at m a (OfArrays os) = record { at = a; letters = letters_of m os } ∷ []
+abbrev pub access_at : (ℕ → Region) → ℕ → Touch → List Access
+access_at regions a Nothing = []
+access_at regions a OfFrame = record { at = a; letters = frame_letters } ∷ []
+access_at regions a (OfArrays os) = record { at = a; letters = letters_of regions os } ∷ []
 
 -- of items from an address on, and what they touch
-abbrev pub items_accesses : Memory → ℕ → List Touch → List Item → List Access
-items_accesses m a [] xs = []
-items_accesses m a (t ∷ ts) [] = []
-items_accesses m a (t ∷ ts) (x ∷ xs) = access_at m a t ++ items_accesses m (a + size x) ts xs
+abbrev pub items_accesses : (ℕ → Region) → ℕ → List Touch → List Item → List Access
+items_accesses regions a [] xs = []
+items_accesses regions a (t ∷ ts) [] = []
+items_accesses regions a (t ∷ ts) (x ∷ xs) = access_at regions a t ++ items_accesses regions (a + size x) ts xs
 
-abbrev pub blocks_accesses : Memory → ℕ → List (List Touch) → Blocks → List Access
-blocks_accesses m a [] bs = []
-blocks_accesses m a (ts ∷ tss) [] = []
-blocks_accesses m a (ts ∷ tss) (xs ∷ bs) = items_accesses m a ts xs ++ blocks_accesses m (a + total xs) tss bs
+abbrev pub blocks_accesses : (ℕ → Region) → ℕ → List (List Touch) → Blocks → List Access
+blocks_accesses regions a [] bs = []
+blocks_accesses regions a (ts ∷ tss) [] = []
+blocks_accesses regions a (ts ∷ tss) (xs ∷ bs) = items_accesses regions a ts xs ++ blocks_accesses regions (a + total xs) tss bs
 
 abbrev pub same : Bool → Bool → Bool
 same true b = b

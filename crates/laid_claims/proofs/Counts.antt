@@ -7,6 +7,7 @@ use Rattle.std.proofs.lemmas.Bool.Decides.{nat_tests}
 use Rattle.std.proofs.lemmas.List.{length-map}
 use Rattle.std.proofs.lemmas.List.Concat.{flat_map-cons}
 use Rattle.std.proofs.lemmas.List.Sums.{sum_by-cons}
+use Rattle.rv_core.specs.declared.regions.Region.{Region}
 use Rattle.code_items.specs.declared.item.Item.{Item}
 use Rattle.code_items.specs.Items.{size, total}
 use Rattle.code_items.specs.Placings.{Blocks, blocks_size}
@@ -17,7 +18,6 @@ use Rattle.placed_code.specs.Exits.{blocks_exits, functions_exits, items_exits}
 use Rattle.placed_code.specs.Written.{in_scratchpad}
 use Rattle.low_ir.specs.Code.{Loop}
 use Rattle.low_items.specs.Functions.{PlacedBlock, PlacedFunction, function_in, no_function}
-use Rattle.low_items.specs.Frames.{Memory}
 use Rattle.laid_claims.specs.Laws.{AreFew, IsSettled}
 use Rattle.laid_accesses.specs.Lines.{access_at, blocks_accesses, items_accesses}
 use Rattle.laid_claims.specs.Listed.{Laid, accesses_in, accesses_of, by_address, functions_of, loop_claim, loops_at, loops_from, loops_in, loops_of}
@@ -86,28 +86,28 @@ loops_sum all k (fn ∷ fs) at =
     omega (arith, first, rest, e)
 
 -- accesses of items
-module _ (m : Memory) where
-  one_few : (a n : ℕ) (t : Touch) → 4 ≤ n → 4 * length (access_at m a t) ≤ n
+module _ (regions : ℕ → Region) where
+  one_few : (a n : ℕ) (t : Touch) → 4 ≤ n → 4 * length (access_at regions a t) ≤ n
   one_few a n Nothing h = omega arith
   one_few a n OfFrame h = omega (arith, h)
   one_few a n (OfArrays os) h = omega (arith, h)
 
-  items_few : (a : ℕ) (ts : List Touch) (xs : List Item) → 4 * length (items_accesses m a ts xs) ≤ total xs
+  items_few : (a : ℕ) (ts : List Touch) (xs : List Item) → 4 * length (items_accesses regions a ts xs) ≤ total xs
   items_few a [] xs = omega arith
   items_few a (t ∷ ts) [] = omega arith
   items_few a (t ∷ ts) (x ∷ xs) =
       let h = one_few a (size x) t (size_some x) in
       let k = items_few (a + size x) ts xs in
-      let l = length-append (access_at m a t) (items_accesses m (a + size x) ts xs) in
+      let l = length-append (access_at regions a t) (items_accesses regions (a + size x) ts xs) in
       omega (arith, h, k, l)
 
-  blocks_few : (a : ℕ) (tss : List (List Touch)) (bs : Blocks) → 4 * length (blocks_accesses m a tss bs) ≤ blocks_size bs
+  blocks_few : (a : ℕ) (tss : List (List Touch)) (bs : Blocks) → 4 * length (blocks_accesses regions a tss bs) ≤ blocks_size bs
   blocks_few a [] bs = omega arith
   blocks_few a (ts ∷ tss) [] = omega arith
   blocks_few a (ts ∷ tss) (xs ∷ bs) =
       let h = items_few a ts xs in
       let k = blocks_few (a + total xs) tss bs in
-      let l = length-append (items_accesses m a ts xs) (blocks_accesses m (a + total xs) tss bs) in
+      let l = length-append (items_accesses regions a ts xs) (blocks_accesses regions (a + total xs) tss bs) in
       omega (arith, h, k, l)
 
 -- exits of items
@@ -190,7 +190,7 @@ module _ (l : Laid) (is : IsSettled l) where
   regions_few =
       let gs = functions_of l in
       let a = length_flat (accesses_in l) (by_address l) in
-      let d = fours_less (λ f. length (accesses_in l f)) room (λ f. blocks_few l.memory (slice_index (bases_of l.rows gs) f) (slice_index_or (program_touches l.memory l.program) f []) (slice_index_or gs f [])) (by_address l) in
+      let d = fours_less (λ f. length (accesses_in l f)) room (λ f. blocks_few l.regions (slice_index (bases_of l.rows gs) f) (slice_index_or (program_touches l.memory l.program) f []) (slice_index_or gs f [])) (by_address l) in
       let b = all_summed room in
       let c = sizes_sum gs 0 gs (λ j. let z : 0 + j ≡ j = omega arith in ap (λ i. slice_index_or gs i []) z) in
       omega (arith, a, b, c, d)

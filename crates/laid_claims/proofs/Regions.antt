@@ -15,7 +15,7 @@ module _ (l : Laid) (is : IsSettled l) where
   one_between : (f : ℕ) → f < suc (length l.program.functions) → base_of (placing l) f % 4 ≡ 0 → AccessesBetween (base_of (placing l) f) (accesses_in l f) (end_of (placing l) f)
   one_between f there e =
       let touched = program_touches l.memory l.program in
-      blocks_between l.memory (base_of (placing l) f) (slice_index_or touched f []) (blocks_of (placing l) f) e (function_lies l.memory touched f (program_lies l.memory l.program is.located is.named))
+      blocks_between l.regions (base_of (placing l) f) (slice_index_or touched f []) (blocks_of (placing l) f) e (function_lies l.regions touched f (program_lies l.regions l.memory l.program is.named))
 
   pub regions_hold : AreLines (accesses_of l) (regions_of l)
   regions_hold = lines_hold l.rows.flash (accesses_of l) (ascends l.rows.flash (accesses_of l) (last_end l) (along l is Access at_of IsGood (accesses_in l) one_between))

@@ -10,17 +10,16 @@ use Rattle.low_ir.specs.Code.{Loop}
 use Rattle.low_ir.specs.Formed.{mark_of}
 use Rattle.low_items.specs.Formed.{IsProgram}
 use Rattle.low_items.specs.Functions.{PlacedFunction, function_in, program_items}
-use Rattle.laid_accesses.specs.Laws.{AreLines, IsLocated, IsNamed}
+use Rattle.laid_accesses.specs.Laws.{AreLines, IsNamed}
 use Rattle.laid_accesses.specs.Lines.{Access, access_at}
 use Rattle.laid_accesses.specs.Touches.{Touch}
 use Rattle.laid_claims.specs.Listed.{CodeRange, Laid, accesses_of, claims_of, code_range, code_ranges, functions_of, loop_claim, loops_of, places_of, placing, regions_of, touches_at}
 
--- a program whose functions lie in two rows, and its arrays in regions
+-- a program whose functions lie in two rows
 pub record IsSettled (l : Laid) : Type 0 where
   pub program : IsProgram l.program
   pub named : IsNamed l.program
   pub frames : length l.memory.frames ≤ length l.program.functions
-  pub located : IsLocated l.memory l.program
   pub rows : RowsApart l.rows (program_items l.memory l.program)
 
 -- no claim is bad
@@ -100,4 +99,4 @@ ClaimsAreFew = (l : Laid) → IsSettled l → AreFew l
 abbrev pub AccessesAreListed : Type 0
 AccessesAreListed =
     (l : Laid) → IsSettled l → (f b j : ℕ) (t : Touch) (x : Access) → f ≤ length l.program.functions → b < length (blocks_of (placing l) f) → j < length (block_of (placing l) f b) → slice_get (touches_at l f b) j ≡ Some t
-    → Contains (access_at l.memory (start_of (placing l) f b + total (take j (block_of (placing l) f b))) t) x → Contains (accesses_of l) x
+    → Contains (access_at l.regions (start_of (placing l) f b + total (take j (block_of (placing l) f b))) t) x → Contains (accesses_of l) x

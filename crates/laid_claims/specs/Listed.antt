@@ -1,6 +1,7 @@
 -- What is claimed of laid code, in the order of addresses: exits, regions and loops; where marks stand, and the ranges of functions.
 use Rattle.std.specs.Prelude.{ℕ, suc, ◌==◌, List, [], ◌∷◌, ◌++◌, length, map, Option, Some, None, if◌then◌else◌, slice_index_or}
 use Rattle.std.specs.List.{flat_map}
+use Rattle.rv_core.specs.declared.regions.Region.{Region}
 use Rattle.flow_system.specs.declared.claims.LoopClaim.{LoopClaim}
 use Rattle.flow_system.specs.declared.claims.Within.{Within}
 use Rattle.flow_system.specs.Claims.{Claims}
@@ -23,6 +24,8 @@ use Rattle.laid_accesses.specs.Touches.{Touch, program_touches}
 pub record Laid : Type 0 where
   pub program : Placed
   pub memory : Memory
+  -- by array, the region in which it lies
+  pub regions : ℕ → Region
   pub rows : Rows
 
 -- the items of its functions in the chosen forms, those of the start code last
@@ -41,7 +44,7 @@ touches_at l f b = slice_index_or (slice_index_or (program_touches l.memory l.pr
 
 -- loads and stores, and their lines
 abbrev pub accesses_in : Laid → ℕ → List Access
-accesses_in l f = blocks_accesses l.memory (base_of (placing l) f) (slice_index_or (program_touches l.memory l.program) f []) (blocks_of (placing l) f)
+accesses_in l f = blocks_accesses l.regions (base_of (placing l) f) (slice_index_or (program_touches l.memory l.program) f []) (blocks_of (placing l) f)
 
 abbrev pub accesses_of : Laid → List Access
 accesses_of l = flat_map (accesses_in l) (by_address l)

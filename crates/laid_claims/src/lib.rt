@@ -4,7 +4,7 @@
 //! `specs/` has the functions in the order of their addresses (`Orders`), the claims (`Listed`) and what is promised of
 //! them (`Laws`).
 //!
-//! Proved of a program whose functions lie in two rows, and its arrays in regions: [`claims_are_sound`],
+//! Proved of a program whose functions lie in two rows: [`claims_are_sound`],
 //! [`claims_are_few`], [`accesses_are_listed`], [`accesses_have_lines`], [`loops_are_claimed`], [`marks_have_places`],
 //! [`places_are_apart`] and [`ranges_hold`], the contracts of functions without a body.
 //!

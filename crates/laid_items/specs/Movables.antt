@@ -1,9 +1,8 @@
 -- What may be moved into the scratchpad: the code of a function, or an array that isn't local.
-use Rattle.std.specs.Prelude.{ℕ, zero, suc, ◌+◌, ◌*◌, ◌/◌, ◌%◌, ◌^◌, ◌==◌, ◌&&◌, Bool, true, false, List, [], ◌∷◌, ◌++◌, length, Option, Some, None, slice_index_or, if◌then◌else◌}
+use Rattle.std.specs.Prelude.{ℕ, zero, suc, ◌+◌, ◌*◌, ◌/◌, ◌%◌, ◌^◌, ◌==◌, ◌&&◌, Bool, true, false, List, [], ◌∷◌, ◌++◌, length, slice_index_or, if◌then◌else◌}
 use Rattle.std.specs.List.{flat_map}
 use Rattle.rv_core.specs.declared.regions.Region.{Region}
-use Rattle.rv_core.specs.declared.regions.Region.TheVariants.{Flash, Spm, Ram}
-use Rattle.rv_core.specs.Regions.{region_of}
+use Rattle.rv_core.specs.declared.regions.Region.TheVariants.{Flash, Spm}
 use Rattle.code_items.specs.declared.item.Item.{Item}
 use Rattle.code_items.specs.Items.{size, total}
 use Rattle.code_items.specs.Placings.{Blocks, base_of, blocks_of, blocks_size}
@@ -95,16 +94,12 @@ only_in l o f = blocks_only o (base_of (placing l) f) (slice_index_or (program_t
 abbrev pub array_size : Object → ℕ
 array_size x = (x.size * kind_bytes x.kind + 3) / 4 * 4
 
-abbrev pub region_at : Option Region → Region
-region_at None = Ram
-region_at (Some r) = r
-
 -- arrays have the numbers behind those of functions
 abbrev pub array_item : Laid → ℕ → Object → Movable
 array_item l o x = record {
   id = length l.program.functions + o;
   size = array_size x;
   code = false;
-  region = region_at (region_of (object_at l.memory o));
+  region = l.regions o;
   at = flat_map (only_in l o) (by_address l);
 }
