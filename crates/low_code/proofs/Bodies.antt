@@ -1,7 +1,6 @@
 -- Items one after another.
-use Rattle.std.proofs.Common.{◌≡◌, ◌≢◌, ℕ, pos, zero, suc, ◌+◌, ◌==◌, ◌&&◌, Bool, true, false, List, [], ◌∷◌, ◌++◌, length, refl, sym, ap, ◌∙◌, arith, append_assoc, append-nil, length-append}
+use Rattle.std.proofs.Common.{◌≡◌, ℕ, zero, suc, ◌+◌, ◌==◌, ◌&&◌, true, false, List, [], ◌∷◌, ◌++◌, length, refl, sym, ap, ◌∙◌, arith, append_assoc, append-nil, length-append}
 use Rattle.std.proofs.lemmas.Bool.Decides.{nat_tests}
-use Rattle.rv_core.specs.Instructions.{addi}
 use Rattle.code_items.specs.declared.item.Item.{Item}
 use Rattle.code_items.specs.declared.item.Item.TheVariants as items
 use Rattle.low_ir.specs.declared.places.Place.{Place}
@@ -9,9 +8,8 @@ use Rattle.low_ir.specs.Code.{Instr, Do, Call, End, Block, Note}
 use Rattle.low_ir.specs.Places.{Placed, place_code, place_blocks}
 use Rattle.low_items.specs.Frames.{Memory, frame_of}
 use Rattle.low_items.specs.Emission.{plain_code, before_call, behind_call}
-use Rattle.low_items.specs.Functions.{singles, callees_in, all_callees, own_frame, passed_in, instr_items, end_items, body_items, jump_items, opening_items, filled}
+use Rattle.low_items.specs.Functions.{singles, callees_in, all_callees, own_frame, passed_in, instr_items, end_items, body_items, filled}
 use Rattle.low_code.specs.Leaves.{calls_none, all_call_none}
-use Rattle.low_code.specs.Ends.{jump_to}
 use Rattle.low_code.specs.Bodies.{instrs_items, filled_items}
 
 module _ (m : Memory) (p : Placed) (f : ℕ) where
@@ -34,22 +32,6 @@ module _ (m : Memory) (p : Placed) (f : ℕ) where
   pub filled-items : (xs : List Item) → filled_items xs ≡ filled m p f xs
   filled-items [] = refl
   filled-items (x ∷ xs) = refl
-
-  pub jump-is : (next : Bool) (n : ℕ) → jump_to next n ≡ jump_items m p f next n
-  jump-is true n = refl
-  jump-is false n = refl
-
-  pub opening-later : (b : ℕ) → b ≢ 0 → opening_items m p f b ≡ []
-  opening-later zero h = absurd (h refl)
-  opening-later (suc b) h = refl
-
-pub filled-some : (xs : List Item) → length xs ≢ 0 → filled_items xs ≡ xs
-filled-some [] h = absurd (h refl)
-filled-some (x ∷ xs) h = refl
-
-pub filled-none : (xs : List Item) → length xs ≡ 0 → filled_items xs ≡ items.Single (addi 0 0 (pos 0)) ∷ []
-filled-none [] h = refl
-filled-none (x ∷ xs) h = absurd (omega arith)
 
 -- a sum is 0 where both parts are
 zero-sum : (a b : ℕ) → (a + b == 0) ≡ ((a == 0) && (b == 0))

@@ -1,6 +1,5 @@
 pub mod Registers
 pub mod Bodies
 pub mod Placed
-pub mod Made
 pub mod Parameters
 pub mod Steps

@@ -1,5 +1,5 @@
 -- The places in which a call passes its arguments.
-use Rattle.std.proofs.Common.{◌≡◌, ℕ, zero, suc, ◌≤◌, List, [], ◌∷◌, length, map, take, Some, None, All, refl, sym, ap, ◌∙◌, subst, arith}
+use Rattle.std.proofs.Common.{◌≡◌, ℕ, zero, suc, ◌≤◌, List, [], length, map, take, Some, None, All, refl, sym, ap, ◌∙◌, subst, arith}
 use Rattle.std.specs.Prelude.{slice_get, slice_index_or}
 use Rattle.std.proofs.lemmas.List.{length-map, length-take, take-map}
 use Rattle.std.proofs.lemmas.List.Elements.{All-take}
@@ -9,25 +9,15 @@ use Rattle.low_ir.specs.declared.places.Placing as placings
 use Rattle.low_ir.specs.declared.places.LowReg.{LowReg}
 use Rattle.low_ir.specs.Code.{Operand}
 use Rattle.low_ir.specs.View.{function_of}
-use Rattle.low_ir.specs.Places.{Placed, no_placing, placing_of}
+use Rattle.low_ir.specs.Places.{Placed, no_placing}
 use Rattle.low_ir.specs.Placings.{placings_of, assignment_of, placed_of}
 use Rattle.low_ir.specs.Programs.{low_of}
 use Rattle.low_items.specs.Functions.{PlacedFunction, no_function, function_in}
-use Rattle.low_sound.specs.Ranges.{IsRegister, InOperand, InProgram}
+use Rattle.low_sound.specs.Ranges.{IsRegister, InProgram}
 use Rattle.low_sound.proofs.Programs as sound
 use Rattle.low_emission.specs.declared.placed.PlacedOperand.{PlacedOperand}
 use Rattle.low_emission.specs.View.{operand_of, place_at}
 use Rattle.low_code.proofs.Placed.{function_at, none_at, map-get, map-none}
-
-pub map-index : {A B : Type 0} (g : A → B) (xs : List A) (i : ℕ) (x : A) (d : B) → slice_get xs i ≡ Some x → slice_index_or (map g xs) i d ≡ g x
-map-index g [] i x d e = cc
-map-index g (y ∷ xs) zero x d e = let same : y ≡ x = cc in ap g same
-map-index g (y ∷ xs) (suc i) x d e = map-index g xs i x d e
-
-pub map-beyond : {A B : Type 0} (g : A → B) (xs : List A) (i : ℕ) (d : B) → slice_get xs i ≡ None → slice_index_or (map g xs) i d ≡ d
-map-beyond g [] i d e = refl
-map-beyond g (y ∷ xs) zero d e = cc
-map-beyond g (y ∷ xs) (suc i) d e = map-beyond g xs i d e
 
 take-none : {A : Type 0} (n : ℕ) → take {A = A} n [] ≡ []
 take-none zero = refl

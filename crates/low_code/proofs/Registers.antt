@@ -1,18 +1,17 @@
 -- The places of a program's registers are among those of the machine.
-use Rattle.std.proofs.Common.{◌≡◌, ℕ, zero, suc, ◌+◌, ◌<◌, true, List, [], ◌∷◌, ◌++◌, length, map, All, Option, Some, None, option_map, refl, sym, ap, ◌∙◌, subst, arith}
+use Rattle.std.proofs.Common.{◌≡◌, ℕ, suc, ◌+◌, ◌<◌, true, List, [], ◌∷◌, ◌++◌, length, map, All, Option, Some, None, option_map, refl, sym, subst, arith}
 use Rattle.std.specs.Prelude.{slice_get}
 use Rattle.std.specs.Option.{option_to_list}
 use Rattle.std.proofs.lemmas.Bool.Decides.{nat_tests}
 use Rattle.std.proofs.lemmas.List.Elements.{All-cons, All-head, All-nil, All-tail}
 use Rattle.low_ir.specs.declared.places.Place.{Place}
 use Rattle.low_ir.specs.declared.places.Place.TheVariants.{Register as InRegister, Slot}
-use Rattle.low_ir.specs.Code.{Operand, Register, Constant, Base, Fixed, Through, Address, Plain, Set, Operate, Point, Load, Store, Put, Get, Instr, Do, Call, End, Jump, Branch, Return, Block, Function, Note, Low}
+use Rattle.low_ir.specs.Code.{Operand, Register, Constant, Base, Fixed, Through, Plain, Set, Operate, Point, Load, Store, Put, Get, Instr, Do, Call, End, Jump, Branch, Return, Block, Function, Note, Low}
 use Rattle.low_ir.specs.Effects.{base_reads, offset_reads, address_reads, reads, dest}
-use Rattle.low_ir.specs.Formed.{registers_in, read_by, written_by, end_reads, RegistersWithin, UsesRegisters, IsLow}
-use Rattle.low_ir.specs.Places.{Assignment, place_operand, place_base, place_address, place_plain, place_end, place_instr, place_code, place_block, place_blocks, place_function, place_functions, placed}
-use Rattle.low_ir.specs.Spacing.{is_inside, Fits, IsAssignment}
-use Rattle.low_sound.specs.Ranges.{IsRegister, InOperand, InBase, InAddress, InPlain, InInstr, InEnd, InBlock, InFunction, InProgram}
-use Rattle.low_items.specs.Functions.{PlacedFunction}
+use Rattle.low_ir.specs.Formed.{registers_in, end_reads, RegistersWithin, UsesRegisters, IsLow}
+use Rattle.low_ir.specs.Places.{Assignment, place_operand, place_base, place_plain, place_end, place_instr, place_code, place_block, place_blocks, place_function, place_functions, placed}
+use Rattle.low_ir.specs.Spacing.{is_inside, IsAssignment}
+use Rattle.low_sound.specs.Ranges.{IsRegister, InOperand, InBase, InPlain, InInstr, InEnd, InBlock, InFunction, InProgram}
 
 inside_is : (slots : ℕ) (p : Place) → is_inside slots p ≡ true → IsRegister p
 inside_is slots (InRegister q) h = grind (arith, nat_tests)

@@ -1,5 +1,5 @@
 -- Items one after another.
-use Rattle.std.specs.Prelude.{ℕ, suc, pos, List, [], ◌∷◌, ◌++◌}
+use Rattle.std.specs.Prelude.{ℕ, suc, pos, List, [], ◌∷◌}
 use Rattle.rv_core.specs.Instructions.{addi}
 use Rattle.code_items.specs.declared.item.Item.{Item}
 use Rattle.code_items.specs.declared.item.Item.TheVariants as items

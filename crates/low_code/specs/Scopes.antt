@@ -1,9 +1,8 @@
 -- A function of a program, and what its code takes from elsewhere.
-use Rattle.std.specs.Prelude.{◌≡◌, ℕ, List, [], length, slice_index_or}
-use Rattle.code_items.specs.declared.item.Item.{Item}
+use Rattle.std.specs.Prelude.{◌≡◌, ℕ, List, length, slice_index_or}
 use Rattle.low_ir.specs.declared.places.Place.{Place}
 use Rattle.low_ir.specs.Code.{Instr, End, Block, Note}
-use Rattle.low_ir.specs.Places.{Placed, Placing, no_placing, machine_registers, registers_of, place_instr, place_code, place_end, place_block, place_blocks}
+use Rattle.low_ir.specs.Places.{Placed, no_placing, machine_registers, registers_of, place_instr, place_code, place_end, place_block, place_blocks}
 use Rattle.low_ir.specs.Placings.{placings_of, placed_of}
 use Rattle.low_items.specs.Frames.{Memory, frame_of}
 use Rattle.low_items.specs.Functions.{PlacedBlock, function_in, is_leaf, at_once}

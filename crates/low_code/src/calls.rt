@@ -1,7 +1,6 @@
 // The code of calls.
-ghost use Rattle.std.specs.Prelude.{◌≡◌, ◌<◌, ◌++◌, ◌∷◌, [], All, map, option_map, true, OnOk};
+ghost use Rattle.std.specs.Prelude.{◌≡◌, ◌<◌, ◌++◌, [], All, map, option_map, OnOk};
 ghost use Rattle.std.specs.Option.{option_to_list};
-ghost use Rattle.code_items.specs.declared.item.Item.TheVariants.{Call};
 ghost use Rattle.low_items.specs.Frames.{frame_of};
 ghost use Rattle.low_items.specs.Emission.{home_code, return_code, pass_code, late_code, value_code};
 ghost use Rattle.low_items.specs.Functions.{singles};

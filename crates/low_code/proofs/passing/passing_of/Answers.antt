@@ -1,4 +1,4 @@
-use Rattle.std.proofs.Common.{◌≡◌, length, map, take, All, sym, ap, ◌∙◌, subst}
+use Rattle.std.proofs.Common.{length, map, take, All, sym, ap, ◌∙◌, subst}
 use Rattle.std.proofs.lemmas.List.{length-map}
 use Rattle.low_ir.specs.View as view
 use Rattle.low_ir.specs.Places.{machine_registers, registers_of, place_operand}
