@@ -64,12 +64,15 @@ module _ (l : Layout) where
             let few = r.room.slots in
             slot_kept f k v w same (omega arith) ∙ r.slots k y e;
         registers = r.registers;
+        parameters = r.parameters;
+        args = r.args;
         note = r.note;
         homes = λ q y e parameter.
             let h = r.homes q y e parameter in
             (h.0, h.1, home_kept f v w (head_of_words l f v w same) q h.1 ∙ h.2);
         block = r.block;
         inside = r.inside;
+        call = r.call;
         rest = r.rest;
       }
 

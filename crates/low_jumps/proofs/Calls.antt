@@ -112,13 +112,19 @@ module _ (g : Given) where
       let ends : back ≡ a + jump_size form = stands.ends ∙ ap (λ x. a + size x) like in
       let rest = code_from l k.function k.stop back xs h.code.2 in
       let some = jump_some form in
+      let even = stands.address.aligned in
+      let fours = jump_fours form in
       call_runs P n a (l.starts f 0) back (seen l (mrun (run_of g) n).visits) k.returns form (stands_there g k n (items.Call far f) xs h) stands.address (g.laid.places f 0) ends stands.room words_are (stands.exit ∙ ap is_exit like)
       (λ is_far. h.quiet (a + 4) (omega arith) (let eight : jump_size form ≡ 8 = ap jump_size is_far in omega arith))
-      (λ m c. go back m (record { code = h.code.2; quiet = λ b past less. h.quiet b (omega arith) less }) (subst (λ x. Called n m (l.starts f 0) back x k.returns) h.events c))
+      (λ m c. go back m (record { aligned = omega arith; room = stands.room; code = h.code.2; quiet = λ b past less. h.quiet b (omega arith) less }) (subst (λ x. Called n m (l.starts f 0) back x k.returns) h.events c))
     where
       jump_some : (far : Bool) → 4 ≤ jump_size far
       jump_some false = omega arith
       jump_some true = omega arith
+
+      jump_fours : (far : Bool) → jump_size far % 4 ≡ 0
+      jump_fours false = refl
+      jump_fours true = refl
 
   -- no return is resolved by what stands before it
   before_none : (n : ℕ) → sets_upper (instruction_before (state g n).world.memory (state g n).pc) 1 ≡ false

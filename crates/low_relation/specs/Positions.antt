@@ -1,5 +1,5 @@
 -- A run of the machine at a place of laid code.
-use Rattle.std.specs.Prelude.{◌≡◌, ℕ, ◌<◌, ◌≤◌, false, List, [], ◌∷◌, ◌++◌, length, All}
+use Rattle.std.specs.Prelude.{◌≡◌, ℕ, ◌%◌, ◌^◌, ◌<◌, ◌≤◌, false, List, [], ◌∷◌, ◌++◌, length, All}
 use Rattle.rv_core.specs.Machine.{State, Running}
 use Rattle.rv_core.specs.Runs.{Visit, Setup, mrun}
 use Rattle.code_items.specs.declared.item.Item.{Item}
@@ -23,8 +23,10 @@ pub record Course : Type 0 where
   pub trace : List Began
   pub returns : List ℕ
 
--- from an address on, items stand up to the end of the block, and no block begins
+-- from an address of code on, items stand up to the end of the block, and no block begins
 pub record Rest (l : Layout) (f stop a : ℕ) (xs : List Item) : Type 0 where
+  pub aligned : a % 4 ≡ 0
+  pub room : a ≤ 2 ^ 30
   pub code : HasCode l f stop a xs
   pub quiet : (b : ℕ) → a ≤ b → b < stop → l.begins b ≡ []
 

@@ -26,7 +26,7 @@ pub record IsValue (r : ℕ) : Type 0 where
   pub base_not : r ≢ 3
   pub steady : IsSteady r
 
-lt_or : (a b : ℕ) → (a < b) ⊎ (b ≤ a)
+pub lt_or : (a b : ℕ) → (a < b) ⊎ (b ≤ a)
 lt_or a b = ⊎_elim (λ h. inr h.1) (λ h. let k = h.1 in inl (omega arith)) (leb_tells b a)
 
 abbrev Cases : ℕ → ℕ → Type 0
