@@ -105,7 +105,7 @@ module _ (g : Given) where
       operands_there : (file : File) → write_place r.top.store d x ≡ Some file → IsThere g r.top.func d
       operands_there file e = written_there g r.top.func r.top.store file d x h.holds.room e
 
-  operand-small : (f : ℕ) (file : File) (x : Operand Place) (v : Value) → HasRoom g.layout.memory (frame g f) file → operand_value places file x ≡ Some v → code g v < 2 ^ 32
+  pub operand-small : (f : ℕ) (file : File) (x : Operand Place) (v : Value) → HasRoom g.layout.memory (frame g f) file → operand_value places file x ≡ Some v → code g v < 2 ^ 32
   operand-small f file (Register p) v room e = room.words p v e
   operand-small f file (Constant c) v room e = subst (λ z. code g z < 2 ^ 32) (operands.some_word (c % 2 ^ 32) v e) (omega arith)
 
