@@ -1,5 +1,5 @@
 -- One argument of a call.
-use Rattle.std.proofs.Common.{◌≡◌, ◌≢◌, ◌⊎◌, ⊎_elim, ℕ, ◌+◌, ◌%◌, ◌^◌, ◌<◌, ◌≤◌, Bool, true, false, List, [], ◌∷◌, ◌++◌, length, Option, Some, None, refl, sym, ap, ◌∙◌, subst, arith, get_or-set_same, get_or-set_other, length-set}
+use Rattle.std.proofs.Common.{◌≡◌, ◌≢◌, ◌⊎◌, ⊎_elim, ℕ, ◌+◌, ◌%◌, ◌^◌, ◌<◌, ◌≤◌, Bool, true, false, List, ◌∷◌, ◌++◌, length, Some, None, refl, sym, ap, ◌∙◌, arith, get_or-set_same, get_or-set_other, length-set}
 use Rattle.std.specs.Prelude.{◌==◌, if◌then◌else◌, slice_index_or, slice_set}
 use Rattle.std.proofs.lemmas.Bool.{cases_eq}
 use Rattle.std.proofs.lemmas.Bool.Decides.{nat_tests}
@@ -22,13 +22,13 @@ use Rattle.low_items.specs.Operands.{operand_register, operand_code, store_code}
 use Rattle.low_items.specs.Emission.{reads_register, store_argument}
 use Rattle.low_items.specs.Functions.{singles}
 use Rattle.low_relation.specs.Positions.{Course}
-use Rattle.low_relation.specs.Views.{view_of, HasRoom, Shows}
+use Rattle.low_relation.specs.Views.{view_of, Shows}
 use Rattle.low_relation.specs.Layouts.{IsOpen}
 use Rattle.low_steps.proofs.Given.{Given, state, reg, read, At}
 use Rattle.low_steps.proofs.Places.{value_is, machine_register-same}
 use Rattle.low_steps.proofs.Stepping.{Wrote}
-use Rattle.low_steps.proofs.Moving.{Stored, store}
-use Rattle.low_steps.proofs.Operands.{frame, code, first_is_free, second_is_free, in_parts, Ready, ready_kept, register_inside, operand, operand_apart}
+use Rattle.low_steps.proofs.Moving.{store}
+use Rattle.low_steps.proofs.Operands.{frame, code, first_is_free, in_parts, Ready, ready_kept, operand, operand_apart}
 
 -- a store in which a register has no value
 abbrev pub unset : File → ℕ → File

@@ -1,30 +1,27 @@
 -- Registers go to their homes in a frame, and come back.
-use Rattle.std.proofs.Common.{◌≡◌, ◌≢◌, ◌⊎◌, ⊎_elim, inl, inr, ℕ, zero, suc, ◌+◌, ◌*◌, ◌%◌, ◌^◌, ◌<◌, ◌≤◌, Bool, true, false, List, [], ◌∷◌, ◌++◌, length, Option, Some, None, refl, sym, ap, ◌∙◌, subst, arith}
+use Rattle.std.proofs.Common.{◌≡◌, ◌≢◌, ◌⊎◌, ⊎_elim, inl, inr, ℕ, suc, ◌+◌, ◌*◌, ◌%◌, ◌^◌, ◌<◌, ◌≤◌, Bool, true, false, List, [], ◌∷◌, ◌++◌, length, Some, refl, sym, ap, ◌∙◌, subst, arith}
 use Rattle.std.specs.Prelude.{◌==◌, if◌then◌else◌}
 use Rattle.std.proofs.lemmas.Bool.{cases_eq}
 use Rattle.std.proofs.lemmas.Bool.Decides.{nat_tests}
 use Rattle.rv_core.specs.declared.row.Width.{Width}
 use Rattle.rv_core.specs.declared.row.Width.TheVariants.{Word as Whole}
 use Rattle.rv_core.specs.Arithmetic.{byte_count}
-use Rattle.rv_core.specs.Memory.{read_from, loaded}
+use Rattle.rv_core.specs.Memory.{read_from}
 use Rattle.rv_core.specs.Machine.{World}
-use Rattle.rv_core.specs.Stores.{frames_of}
 use Rattle.code_items.specs.declared.item.Item.{Item}
 use Rattle.code_steps.specs.Steps.{Later}
 use Rattle.low_ir.specs.Effects.{is_member}
 use Rattle.low_items.specs.Numbers.{base, base_address, first_free, machine_register}
-use Rattle.low_items.specs.Frames.{Frame, position, home_at, slot_at}
+use Rattle.low_items.specs.Frames.{position, home_at, slot_at}
 use Rattle.low_items.specs.Operands.{load_code, store_code}
 use Rattle.low_items.specs.Emission.{home_code, return_code}
 use Rattle.low_items.specs.Functions.{singles}
-use Rattle.low_relation.specs.Plans.{frame_size}
 use Rattle.low_relation.specs.Layouts.{AreOpen}
 use Rattle.low_relation.specs.Positions.{Course}
-use Rattle.low_steps.proofs.Given.{Given, run_of, state, reg, read, memory, At}
+use Rattle.low_steps.proofs.Given.{Given, state, reg, read, memory, At}
 use Rattle.low_steps.proofs.Opened.{can_read}
-use Rattle.low_steps.proofs.Places.{IsSteady, IsValue, value_is, steady_is, machine_register-same, IsFrameWord, frame_word}
-use Rattle.low_steps.proofs.Stepping.{Wrote}
-use Rattle.low_steps.proofs.Moving.{Stored, frames_are, load, store}
+use Rattle.low_steps.proofs.Places.{value_is, steady_is, machine_register-same, IsFrameWord, frame_word}
+use Rattle.low_steps.proofs.Moving.{frames_are, load, store}
 use Rattle.low_steps.proofs.Operands.{frame, in_parts}
 use Rattle.low_follow.proofs.Apart.{position-below}
 use Rattle.low_follow.proofs.Holding.{strict}

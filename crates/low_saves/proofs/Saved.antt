@@ -1,31 +1,28 @@
 -- A function saves registers at its entry, and loads them before it returns.
-use Rattle.std.proofs.Common.{◌≡◌, ◌≢◌, ◌⊎◌, ⊎_elim, inl, inr, ℕ, zero, suc, ◌+◌, ◌-◌, ◌*◌, ◌%◌, ◌^◌, ◌<◌, ◌≤◌, Bool, true, false, List, [], ◌∷◌, ◌++◌, length, Option, Some, None, pos, ◌-ℤ◌, refl, sym, ap, ◌∙◌, subst, arith}
-use Rattle.std.specs.Prelude.{◌==◌, if◌then◌else◌}
+use Rattle.std.proofs.Common.{◌≡◌, ◌≢◌, ◌⊎◌, ⊎_elim, inl, inr, ℕ, zero, suc, ◌+◌, ◌-◌, ◌*◌, ◌%◌, ◌^◌, ◌<◌, ◌≤◌, Bool, true, false, List, [], ◌∷◌, ◌++◌, length, Some, pos, ◌-ℤ◌, refl, sym, ap, ◌∙◌, subst, arith}
 use Rattle.std.proofs.lemmas.Bool.{cases_eq}
-use Rattle.rv_core.specs.declared.op.Op.TheVariants.{Lw, Sw}
+use Rattle.rv_core.specs.declared.op.Op.TheVariants.{Sw}
 use Rattle.rv_core.specs.declared.row.Width.{Width}
 use Rattle.rv_core.specs.declared.row.Width.TheVariants.{Word as Whole}
 use Rattle.rv_core.specs.Arithmetic.{word, displaced, byte_count}
-use Rattle.rv_core.specs.Instructions.{Instruction, addi}
+use Rattle.rv_core.specs.Instructions.{addi}
 use Rattle.rv_core.specs.Memory.{read_from}
 use Rattle.rv_core.specs.Machine.{World}
 use Rattle.code_items.specs.declared.item.Item.{Item}
 use Rattle.code_items.specs.declared.item.Item.TheVariants.{Single}
 use Rattle.code_steps.specs.Steps.{Later}
 use Rattle.low_ir.specs.Effects.{is_member}
-use Rattle.low_items.specs.Numbers.{base, base_address, link, first_free, machine_register, upper_of, lower_of, load_upper, load_word, store_word}
-use Rattle.low_items.specs.Frames.{Frame, position, return_at, saved_at, slot_at}
-use Rattle.low_items.specs.Functions.{singles, frame_code, frame_register, frame_offset, link_store, link_load, saves, loads}
-use Rattle.low_relation.specs.Plans.{frame_size}
+use Rattle.low_items.specs.Numbers.{base, base_address, first_free, machine_register, lower_of}
+use Rattle.low_items.specs.Frames.{position, saved_at}
+use Rattle.low_items.specs.Functions.{singles, frame_code, frame_register, frame_offset, saves, loads}
 use Rattle.low_relation.specs.Layouts.{AreOpen}
 use Rattle.low_relation.specs.Positions.{Course}
 use Rattle.low_steps.proofs.Given.{Given, state, reg, read, memory, At}
 use Rattle.low_steps.proofs.Words.{parts-joined, near-joined}
 use Rattle.low_steps.proofs.Opened.{can_read}
 use Rattle.low_steps.proofs.Places.{value_is, steady_is, machine_register-same, IsFrameWord, frame_word}
-use Rattle.low_steps.proofs.Stepping.{Wrote}
 use Rattle.low_steps.proofs.Moving.{Stored, frames_are, add_immediate, upper, load_one, store_any}
-use Rattle.low_steps.proofs.Operands.{frame, in_parts}
+use Rattle.low_steps.proofs.Operands.{frame}
 use Rattle.low_follow.proofs.Apart.{position-below}
 use Rattle.low_follow.proofs.Holding.{strict}
 use Rattle.low_saves.proofs.Homes.{member_head, member_tail, member_cases, position-same}
