@@ -1,5 +1,5 @@
 -- Jumps and branches at the ends of blocks.
-use Rattle.std.proofs.Common.{◌≡◌, ◌≢◌, ◌⊎◌, ⊎_elim, inl, inr, ℕ, zero, suc, ◌+◌, ◌<◌, ◌≤◌, Bool, true, false, List, [], ◌∷◌, ◌++◌, length, Contains, Option, Some, None, refl, sym, ap, ◌∙◌, subst, arith}
+use Rattle.std.proofs.Common.{◌≡◌, ◌≢◌, ⊎_elim, ℕ, zero, suc, ◌<◌, Bool, true, false, [], ◌∷◌, ◌++◌, length, Contains, Option, Some, None, refl, sym, ap, ◌∙◌, subst, arith}
 use Rattle.std.specs.Prelude.{◌==◌, if◌then◌else◌, slice_get}
 use Rattle.std.proofs.lemmas.Bool.Decides.{nat_tests}
 use Rattle.std.proofs.lemmas.List.{append-nil}
@@ -11,7 +11,6 @@ use Rattle.rv_core.specs.Arithmetic.{holds}
 use Rattle.rv_core.specs.Machine as machine
 use Rattle.rv_core.specs.Memory.{read_from}
 use Rattle.code_items.specs.declared.item.Form.TheVariants.{Far}
-use Rattle.code_items.specs.declared.item.Item.{Item}
 use Rattle.code_items.specs.declared.item.Item.TheVariants as items
 use Rattle.code_steps.specs.Steps.{Later}
 use Rattle.code_steps.proofs.LaterLemmas.{now}
@@ -19,27 +18,26 @@ use Rattle.laid_code.specs.Graphs as graphs
 use Rattle.low_ir.specs.declared.places.Place.{Place}
 use Rattle.low_ir.specs.declared.run.Value.{Value}
 use Rattle.low_ir.specs.declared.run.Value.TheVariants.{Word, Pointer}
-use Rattle.low_ir.specs.Code.{Operand, Instr, End, Jump, Branch, Function}
-use Rattle.low_ir.specs.Effects.{World, began}
-use Rattle.low_ir.specs.Runs.{Run, operand_value, block_in, enter, went_to, branches, chosen}
-use Rattle.low_ir.specs.Places.{File, places}
+use Rattle.low_ir.specs.Code.{Operand, End, Jump, Branch}
+use Rattle.low_ir.specs.Effects.{began}
+use Rattle.low_ir.specs.Runs.{operand_value, block_in, enter, went_to, branches, chosen}
+use Rattle.low_ir.specs.Places.{places}
 use Rattle.low_items.specs.Numbers.{first_free, second_free}
 use Rattle.low_items.specs.Operands.{operand_register, operand_code}
-use Rattle.low_items.specs.Functions.{PlacedBlock, PlacedFunction, no_function, function_in, at_once, block_count, ends_at, ends_by, graph_of, singles, jump_items, end_items, body_items}
+use Rattle.low_items.specs.Functions.{PlacedBlock, PlacedFunction, no_function, function_in, at_once, block_count, ends_at, ends_by, graph_of, singles, jump_items, body_items}
 use Rattle.low_items.proofs.GraphLemmas.{shaped}
 use Rattle.low_relation.specs.Positions.{Course}
 use Rattle.low_relation.specs.Views.{view_of}
-use Rattle.low_relation.specs.Waiting.{IsIn}
-use Rattle.low_relation.specs.Following.{PlacedRunning, PlacedRun, Holds, Exchanges, Goes}
-use Rattle.low_steps.proofs.Given.{Given, run_of, state, reg, read, At}
-use Rattle.low_steps.proofs.Places.{IsSteady, value_is}
-use Rattle.low_steps.proofs.Operands.{frame, code, first_is_free, second_is_free, in_parts, Ready, ready_kept, operand, operand_apart}
+use Rattle.low_relation.specs.Following.{PlacedRunning}
+use Rattle.low_steps.proofs.Given.{Given, state, reg, read, At}
+use Rattle.low_steps.proofs.Places.{IsSteady}
+use Rattle.low_steps.proofs.Operands.{frame, first_is_free, second_is_free, in_parts, ready_kept, operand, operand_apart}
 use Rattle.low_follow.proofs.Apart.{arrays_kept}
 use Rattle.low_follow.proofs.Plains.{Runs, Going_at, ready_of, body, course_in}
 use Rattle.low_follow.proofs.Arrays.{holds_led}
 use Rattle.low_jumps.proofs.Standing.{Stood}
-use Rattle.low_jumps.proofs.Jumps.{Came, jump_lays}
-use Rattle.low_jumps.proofs.Branches.{Passed, branch_lays}
+use Rattle.low_jumps.proofs.Jumps.{jump_lays}
+use Rattle.low_jumps.proofs.Branches.{branch_lays}
 use Rattle.low_jumps.proofs.Arrivals.{block_below, arrive}
 
 module _ (g : Given) where

@@ -1,5 +1,5 @@
 -- The machine follows each instruction but calls.
-use Rattle.std.proofs.Common.{◌≡◌, ℕ, List, [], ◌∷◌, Option, Some, None, refl, ap}
+use Rattle.std.proofs.Common.{◌≡◌, ℕ, List, ◌∷◌, Option, Some, None, refl, ap}
 use Rattle.code_steps.specs.Steps.{Later}
 use Rattle.code_steps.proofs.LaterLemmas.{now}
 use Rattle.low_ir.specs.declared.object.Kind.{Kind}
@@ -7,7 +7,7 @@ use Rattle.low_ir.specs.declared.places.Place.{Place}
 use Rattle.low_ir.specs.declared.run.Value.{Value}
 use Rattle.low_ir.specs.declared.run.Value.TheVariants.{Word, Pointer}
 use Rattle.low_ir.specs.Code.{Operand, Address, Plain, Set, Operate, Point, Load, Store, Put, Get, Instr, Do}
-use Rattle.low_ir.specs.Effects.{World, Did, address_reads, there, with_next, word, changes, with_objects, resolved, stored}
+use Rattle.low_ir.specs.Effects.{Did, address_reads, there, with_next, word, changes, with_objects, resolved, stored}
 use Rattle.low_ir.specs.Runs.{operand_value, values_cons, values, finish, at_instr}
 use Rattle.low_ir.specs.Places.{places}
 use Rattle.low_relation.specs.Following.{PlacedRunning}

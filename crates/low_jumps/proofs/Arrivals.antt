@@ -1,17 +1,16 @@
 -- The beginning of a block.
-use Rattle.std.proofs.Common.{◌≡◌, ℕ, zero, suc, ◌+◌, ◌<◌, ◌≤◌, Bool, true, false, List, [], ◌∷◌, ◌++◌, length, Some, pos, refl, sym, ap, ◌∙◌, subst, arith}
+use Rattle.std.proofs.Common.{◌≡◌, ℕ, suc, ◌+◌, ◌<◌, Bool, true, false, List, [], ◌∷◌, ◌++◌, length, Some, pos, refl, sym, ap, ◌∙◌, subst, arith}
 use Rattle.std.specs.Prelude.{◌==◌, if◌then◌else◌, slice_get}
 use Rattle.std.proofs.lemmas.Bool.Decides.{nat_tests}
 use Rattle.std.proofs.lemmas.Option.{slice_get_within}
 use Rattle.rv_core.specs.Instructions.{addi}
 use Rattle.rv_core.specs.Machine.{register_of}
 use Rattle.code_items.specs.declared.item.Item.{Item}
-use Rattle.code_items.specs.declared.item.Item.TheVariants.{Single}
 use Rattle.code_steps.specs.Steps.{Later}
 use Rattle.low_ir.specs.declared.run.Began.{Began}
 use Rattle.low_ir.specs.Places.{Placed}
 use Rattle.low_items.specs.Frames.{Memory}
-use Rattle.low_items.specs.Functions.{PlacedBlock, function_in, block_count, items_at, block_items, body_items, opening_items, filled, at_once}
+use Rattle.low_items.specs.Functions.{PlacedBlock, function_in, block_count, block_items, body_items, opening_items, filled, at_once}
 use Rattle.low_items.proofs.ItemLemmas.{of_block}
 use Rattle.low_relation.specs.Layouts.{HasCode, started_in}
 use Rattle.low_relation.specs.Positions.{owed, Course}

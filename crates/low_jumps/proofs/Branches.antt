@@ -1,5 +1,5 @@
 -- Branches, by themselves or with the opposite condition over a jump.
-use Rattle.std.proofs.Common.{◌≡◌, ◌≢◌, ℕ, suc, ◌+◌, ◌%◌, ◌^◌, ◌<◌, ◌≤◌, Bool, true, false, List, [], ◌∷◌, ◌++◌, length, Some, ℤ, pos, refl, sym, ap, ◌∙◌, subst, arith}
+use Rattle.std.proofs.Common.{◌≡◌, ◌≢◌, ℕ, ◌+◌, ◌^◌, ◌<◌, ◌≤◌, Bool, true, false, List, [], ◌∷◌, ◌++◌, Some, ℤ, pos, refl, sym, ap, ◌∙◌, subst, arith}
 use Rattle.std.specs.Prelude.{not, nat_lt, int_lt, ◌==◌, if◌then◌else◌}
 use Rattle.rv_core.specs.declared.op.Op.TheVariants.{Auipc, Jal, Ecall}
 use Rattle.rv_core.specs.declared.row.Condition.{Condition}
@@ -15,7 +15,7 @@ use Rattle.code_items.specs.declared.item.Form.{Form}
 use Rattle.code_items.specs.declared.item.Form.TheVariants.{Short, Inverted, Far}
 use Rattle.code_items.specs.declared.item.Item.{Item}
 use Rattle.code_items.specs.declared.item.Item.TheVariants as items
-use Rattle.code_items.specs.Offsets.{IsCodeAddress, offset, upper_part}
+use Rattle.code_items.specs.Offsets.{IsCodeAddress, offset}
 use Rattle.code_items.specs.Items.{branch_op, opposite, jump_words, branch_words, words, size, jump_size, form_size}
 use Rattle.code_items.specs.Standing.{HasWords, is_exit}
 use Rattle.code_items.proofs.OffsetLemmas.{displaced-offset}

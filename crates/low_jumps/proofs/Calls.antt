@@ -1,12 +1,12 @@
 -- Calls and returns.
-use Rattle.std.proofs.Common.{◌≡◌, ◌≢◌, ℕ, suc, ◌+◌, ◌-◌, ◌*◌, ◌/◌, ◌%◌, ◌^◌, ◌<◌, ◌≤◌, Bool, true, false, List, [], ◌∷◌, ◌++◌, length, Some, None, ℤ, pos, refl, sym, ap, ◌∙◌, subst, arith}
+use Rattle.std.proofs.Common.{◌≡◌, ◌≢◌, ℕ, ◌+◌, ◌-◌, ◌*◌, ◌/◌, ◌%◌, ◌^◌, ◌≤◌, Bool, true, false, List, [], ◌∷◌, ◌++◌, Some, None, ℤ, pos, refl, sym, ap, ◌∙◌, subst, arith}
 use Rattle.std.specs.Prelude.{◌==◌, not, nat_le, if◌then◌else◌}
 use Rattle.std.proofs.lemmas.Bool.Decides.{nat_tests}
 use Rattle.rv_core.specs.declared.op.Op.TheVariants.{Auipc, Jal, Jalr, Ecall}
 use Rattle.rv_core.specs.Arithmetic.{displaced}
-use Rattle.rv_core.specs.Instructions.{instruction, ecall}
+use Rattle.rv_core.specs.Instructions.{instruction}
 use Rattle.rv_core.specs.Machine.{GoesTo, behind, register_of, with_register}
-use Rattle.rv_core.specs.Code.{decoded, instruction_before, instruction_at, instruction_in}
+use Rattle.rv_core.specs.Code.{decoded, instruction_before, instruction_at}
 use Rattle.rv_core.specs.Runs.{Calls, Returns, mrun, sets_upper, linkage_of_register, places_after, astray_after}
 use Rattle.rv_core.proofs.Constancy.{mrun-fetched}
 use Rattle.code_items.specs.declared.item.Item.{Item}
@@ -18,11 +18,10 @@ use Rattle.code_items.proofs.OffsetLemmas.{displaced-offset, displaced-parts}
 use Rattle.code_steps.specs.Steps.{Later}
 use Rattle.code_steps.proofs.StepLemmas.{register-written, register-other, length-written}
 use Rattle.low_ir.specs.declared.run.Began.{Began}
-use Rattle.low_relation.specs.Layouts.{HasCode}
 use Rattle.low_relation.specs.Positions.{seen, Course, Rest}
 use Rattle.low_steps.proofs.Given.{Given, run_of, state, reg, At}
 use Rattle.low_steps.proofs.Stepping.{code_from}
-use Rattle.low_jumps.proofs.Standing.{op_of, Stood, Moved, step_to, step_linked, stands_there}
+use Rattle.low_jumps.proofs.Standing.{op_of, Stood, step_to, step_linked, stands_there}
 use Rattle.low_jumps.proofs.Jumps.{behind_is, no_more}
 
 -- a far call links to x1

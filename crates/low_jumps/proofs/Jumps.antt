@@ -1,10 +1,10 @@
 -- Jumps, by one instruction or by two.
-use Rattle.std.proofs.Common.{◌≡◌, ◌≢◌, ℕ, suc, ◌+◌, ◌*◌, ◌/◌, ◌%◌, ◌^◌, ◌<◌, ◌≤◌, Bool, true, false, List, [], ◌∷◌, ◌++◌, length, Some, ℤ, refl, sym, ap, ◌∙◌, subst, arith}
+use Rattle.std.proofs.Common.{◌≡◌, ◌≢◌, ℕ, ◌+◌, ◌*◌, ◌/◌, ◌^◌, ◌<◌, ◌≤◌, Bool, true, false, List, [], ◌∷◌, ◌++◌, Some, ℤ, refl, sym, ap, ◌∙◌, subst, arith}
 use Rattle.std.proofs.lemmas.List.{append-nil}
 use Rattle.rv_core.specs.declared.op.Op.TheVariants.{Auipc, Jal, Jalr, Ecall}
 use Rattle.rv_core.specs.Arithmetic.{displaced}
-use Rattle.rv_core.specs.Instructions.{Instruction, instruction, ecall}
-use Rattle.rv_core.specs.Machine.{GoesTo, behind, jumps, sets, register_of, with_register}
+use Rattle.rv_core.specs.Instructions.{instruction}
+use Rattle.rv_core.specs.Machine.{GoesTo, behind, register_of, with_register}
 use Rattle.rv_core.specs.Code.{instruction_before}
 use Rattle.rv_core.specs.Runs.{Stays, mrun, sets_upper, linkage_of_register}
 use Rattle.code_items.specs.declared.item.Item.{Item}
@@ -16,11 +16,10 @@ use Rattle.code_items.proofs.OffsetLemmas.{displaced-offset, displaced-parts}
 use Rattle.code_steps.specs.Steps.{Later}
 use Rattle.code_steps.proofs.StepLemmas.{register-written, register-other, length-written}
 use Rattle.low_ir.specs.declared.run.Began.{Began}
-use Rattle.low_relation.specs.Layouts.{Stands, HasCode}
 use Rattle.low_relation.specs.Positions.{seen, Course}
 use Rattle.low_steps.proofs.Given.{Given, run_of, state, reg, At}
 use Rattle.low_steps.proofs.Stepping.{code_from}
-use Rattle.low_jumps.proofs.Standing.{op_of, Stood, Moved, step_to, stands_there}
+use Rattle.low_jumps.proofs.Standing.{op_of, Stood, step_to, stands_there}
 
 -- a jump through x7 to which nothing links
 far_stays : (resolved : Bool) (imm : ℤ) → linkage_of_register resolved (instruction Jalr 0 7 0 imm) ≡ Stays

@@ -1,12 +1,12 @@
 -- One step of a machine that stands at an address of laid code.
-use Rattle.std.proofs.Common.{◌≡◌, ◌≢◌, ℕ, suc, ◌+◌, ◌%◌, ◌^◌, ◌<◌, ◌≤◌, Bool, true, false, List, [], ◌∷◌, ◌++◌, length, Option, Some, None, refl, sym, ap, ◌∙◌, subst, arith}
+use Rattle.std.proofs.Common.{◌≡◌, ℕ, suc, ◌<◌, ◌≤◌, Bool, true, false, List, [], ◌∷◌, ◌++◌, length, Option, Some, None, refl, sym, ap, ◌∙◌, subst, arith}
 use Rattle.std.specs.Prelude.{All, ◌||◌}
 use Rattle.std.proofs.lemmas.List.{append-nil}
 use Rattle.std.proofs.lemmas.List.Elements.{All-cons}
 use Rattle.rv_core.specs.declared.op.Op.{Op}
 use Rattle.rv_core.specs.declared.op.Op.TheVariants.{Ecall}
 use Rattle.rv_core.specs.Instructions.{Instruction}
-use Rattle.rv_core.specs.Machine.{State, World, Running, GoesTo, performed}
+use Rattle.rv_core.specs.Machine.{Running, GoesTo, performed}
 use Rattle.rv_core.specs.Code.{instruction_in}
 use Rattle.rv_core.specs.Runs.{Visit, Linkage, Stays, mrun, linkage, visit_of, places_after, astray_after}
 use Rattle.code_items.specs.declared.item.Item.{Item}
