@@ -1,13 +1,12 @@
 -- A function is entered and left.
-use Rattle.std.proofs.Common.{◌≡◌, ◌≢◌, ◌⊎◌, ⊎_elim, inl, inr, ℕ, zero, suc, ◌+◌, ◌*◌, ◌%◌, ◌^◌, ◌<◌, ◌≤◌, Bool, true, false, List, [], ◌∷◌, ◌++◌, length, Option, Some, None, refl, sym, ap, ◌∙◌, subst, arith}
-use Rattle.std.specs.Prelude.{◌==◌, ◌&&◌, if◌then◌else◌}
+use Rattle.std.proofs.Common.{◌≡◌, ◌≢◌, ◌⊎◌, ⊎_elim, inl, inr, ℕ, zero, suc, ◌+◌, ◌*◌, ◌%◌, ◌^◌, ◌<◌, ◌≤◌, Bool, true, false, List, [], ◌∷◌, ◌++◌, length, Some, refl, sym, ap, ◌∙◌, subst, arith}
+use Rattle.std.specs.Prelude.{◌==◌, if◌then◌else◌}
 use Rattle.std.proofs.lemmas.Bool.{and_parts}
 use Rattle.std.proofs.lemmas.Bool.Decides.{nat_tests}
 use Rattle.rv_core.specs.declared.op.Op.TheVariants.{Sw}
 use Rattle.rv_core.specs.declared.row.Width.{Width}
 use Rattle.rv_core.specs.declared.row.Width.TheVariants.{Word as Whole}
 use Rattle.rv_core.specs.Arithmetic.{displaced, byte_count}
-use Rattle.rv_core.specs.Instructions.{Instruction}
 use Rattle.rv_core.specs.Memory.{read_from}
 use Rattle.rv_core.specs.Machine.{World}
 use Rattle.code_items.specs.declared.item.Item.{Item}
@@ -16,7 +15,7 @@ use Rattle.code_steps.specs.Steps.{Later}
 use Rattle.low_ir.specs.declared.run.Began.{Began}
 use Rattle.low_ir.specs.Effects.{is_member}
 use Rattle.low_items.specs.Numbers.{base, base_address, link, first_free, machine_register}
-use Rattle.low_items.specs.Frames.{Frame, return_at, saved_at}
+use Rattle.low_items.specs.Frames.{return_at, saved_at}
 use Rattle.low_items.specs.Functions.{singles, is_frame_near, frame_code, frame_register, frame_offset, link_store, link_load, saves, loads, saves_nothing, entry_code, exit_code}
 use Rattle.low_relation.specs.Plans.{frame_size}
 use Rattle.low_relation.specs.Positions.{Course}
@@ -26,9 +25,9 @@ use Rattle.low_steps.proofs.Given.{Given, state, reg, read, At}
 use Rattle.low_steps.proofs.Places.{value_is, steady_is, IsFrameWord, frame_word}
 use Rattle.low_steps.proofs.Moving.{load_one, store_any}
 use Rattle.low_steps.proofs.Operands.{frame, in_parts}
-use Rattle.low_saves.proofs.Saved.{Reached, Framed, frame_runs, NotSaved, Saved, saves_run, Loaded, loads_run}
+use Rattle.low_saves.proofs.Saved.{Reached, frame_runs, Saved, saves_run, loads_run}
 use Rattle.low_jumps.proofs.Standing.{Stood}
-use Rattle.low_jumps.proofs.Calls.{Returned, return_lays}
+use Rattle.low_jumps.proofs.Calls.{return_lays}
 
 is_zero : (n : ℕ) → (n == 0) ≡ true → n ≡ 0
 is_zero n e = grind (arith, nat_tests)
