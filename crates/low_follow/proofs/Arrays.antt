@@ -302,8 +302,9 @@ module _ (g : Given) where
           let size = found.2.size in
           let l = lies q k c.kind found.0 found.1 found.2.kind even (omega arith) in
           let inside_it = l.inside in
+          let some = width-some (width_of c.kind) in
           let may_store : can_store found.0.storage ≡ true = ap can_store (sym found.2.storage) ∙ may in
-          let opens : IsOpen g.image (object_at mem q + k) (byte_count (width_of c.kind)) = open-part (stores.frames_of (loaded_blocks g.image.segments)) (object_at mem q) (object_size found.0) (object_at mem q + k) (byte_count (width_of c.kind)) (omega arith) (omega arith) (g.laid.opens.objects q found.0 found.1 may_store) in
+          let opens : IsOpen g.image (object_at mem q + k) (byte_count (width_of c.kind)) = open-part (stores.frames_of (loaded_blocks g.image.segments)) (object_at mem q) (object_size found.0) (object_at mem q + k) (byte_count (width_of c.kind)) (omega arith) (omega arith) (g.laid.opens.objects q found.0 found.1 may_store (omega (arith, some, inside_it))) in
           let inside = subst (λ s. IsIn g.layout.program r.top.func h.block s r.top.end) code_is h.inside in
           let goal = Runs g (goes_on r is u (Some r.top.store)) in
           let place = course_in g r r.world h.block h.returns in

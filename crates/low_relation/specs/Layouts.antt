@@ -64,10 +64,10 @@ AreOpen (f ∷ fs) a n = Opens f a n ⊎ AreOpen fs a n
 abbrev pub IsOpen : Image → ℕ → ℕ → Type 0
 IsOpen image a n = AreOpen (frames_of (loaded image.segments)) a n
 
--- each function's frame, and each array that isn't constant
+-- each function's frame, and each array that isn't constant; one without elements may have no segment
 pub record IsMemoryOf (l : Layout) (image : Image) : Type 0 where
   pub frames : (f : ℕ) → f < length l.program.functions → IsOpen image (frame_of l.memory f).at (frame_size (frame_of l.memory f))
-  pub objects : (o : ℕ) (x : Object) → slice_get l.program.objects o ≡ Some x → can_store x.storage ≡ true → IsOpen image (object_at l.memory o) (object_size x)
+  pub objects : (o : ℕ) (x : Object) → slice_get l.program.objects o ≡ Some x → can_store x.storage ≡ true → 0 < object_size x → IsOpen image (object_at l.memory o) (object_size x)
 
 -- which blocks begin where: blocks of the program alone, at their starts
 abbrev pub started_in : ℕ → ℕ → Option PlacedBlock → List Began
