@@ -19,7 +19,7 @@ use Rattle.low_frames.specs.Frames.{frames_end}
 use Rattle.data_segments.specs.Starts.{region_of}
 use Rattle.low_frames.specs.Memories.{Placement, region_by, spots_of, starts_of, regions_of, FitsMemory}
 
-size_fits : (x : Object) → object_size x ≤ room_of x
+pub size_fits : (x : Object) → object_size x ≤ room_of x
 size_fits x = up (object_size x)
   where
     up : (n : ℕ) → n ≤ 4 * ((n + 3) / 4)

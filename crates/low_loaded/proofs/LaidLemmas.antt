@@ -1,0 +1,78 @@
+-- The image of a program is laid as its layout says.
+use Rattle.std.proofs.Common.{◌≡◌, ℕ, ◌+◌, ◌<◌, ◌≤◌, Bool, true, false, [], length, refl, sym, arith, if◌then◌else◌}
+use Rattle.std.specs.Prelude.{◌==◌}
+use Rattle.std.proofs.lemmas.Bool.{false≢true}
+use Rattle.std.proofs.lemmas.Bool.Decides.{nat_tests}
+use Rattle.flow_system.specs.Claims.{Claims}
+use Rattle.flow_system.specs.Moves.{Code, code_of}
+use Rattle.code_items.specs.Placings.{Placing, block_of}
+use Rattle.code_forms.proofs.LikeLemmas.{formed_like}
+use Rattle.placed_code.proofs.Alike.{block_alike}
+use Rattle.laid_code.specs.Graphs.{Graph}
+use Rattle.laid_code.specs.Laid.{IsImageOf}
+use Rattle.laid_code.proofs.ReachedLemmas.{starts_next, ends_within}
+use Rattle.low_ir.specs.Places.{Placed}
+use Rattle.low_items.specs.Formed.{IsProgram}
+use Rattle.low_items.specs.Functions.{function_in, at_once, graph_of, items_at}
+use Rattle.low_sound.specs.Ranges.{InProgram}
+use Rattle.low_relation.specs.Layouts.{Layout, HasCode, IsLaid}
+use Rattle.low_planned.specs.Laws.{KeepsRegisters}
+use Rattle.low_planned.proofs.PlanLemmas.{is_plan}
+use Rattle.low_frames.specs.Memories.{Placement, memory_of}
+use Rattle.low_image.specs.Images.{rows_in, items_in, formed_in, placing_in, image_in, exits_in, FitsImage}
+use Rattle.low_image.proofs.LaidLemmas.{image_is, placed_even}
+use Rattle.low_loaded.specs.Layouts.{layout_of}
+use Rattle.low_loaded.proofs.BegunLemmas.{begins_alone, begins_none}
+use Rattle.low_loaded.proofs.ExitLemmas.{exits_call}
+use Rattle.low_loaded.proofs.CodeLemmas.{has_code}
+use Rattle.low_loaded.proofs.OpenLemmas.{memory_open}
+
+count_by : (t : Bool) (n k : ℕ) → t ≡ false → n ≤ (if t then 1 else n + k)
+count_by true n k e = absurd (false≢true (sym e))
+count_by false n k e = omega arith
+
+module _ (pl : Placement) (p : Placed) (formed : IsProgram p) (sound : InProgram p) (keeps : KeepsRegisters p) (fits : FitsImage pl p) where
+  abbrev l : Layout
+  l = layout_of pl p
+
+  abbrev g : Graph
+  g = graph_of (memory_of pl p) p
+
+  -- claims of the exits alone
+  abbrev claims : Claims
+  claims = record { exits = exits_in pl p; nevers = []; regions = []; loops = []; facts = [] }
+
+  abbrev place : Placing
+  place = placing_in pl p
+
+  abbrev c : Code
+  c = code_of (image_in pl p) claims
+
+  here : IsImageOf g place (length p.functions) (image_in pl p) claims
+  here = image_is pl p fits formed sound (image_in pl p) claims refl refl (placed_even pl p)
+
+  few : (f : ℕ) → f < length p.functions → length (function_in p f).blocks ≤ g.blocks f
+  few f less = count_by (f == length p.functions) (length (function_in p f).blocks) (if at_once (memory_of pl p) p f then 0 else 1) (grind (arith, nat_tests, less))
+
+  code : (f b : ℕ) → f < g.functions → b < g.blocks f → HasCode l f (l.stops f b) (l.starts f b) (items_at (memory_of pl p) p f b)
+  code f b i j =
+      let end = ends_within g place c here.shaped here.laid f b j in
+      let room = here.laid.room f i in
+      has_code l f (l.stops f b) (l.starts f b) (items_at (memory_of pl p) p f b) (block_of place f b)
+      (block_alike (items_in pl p) (formed_in pl p) f b (formed_like (rows_in pl p) (items_in pl p))) (here.laid.stands f b i j) (here.laid.places f b).aligned refl (omega (arith, end, room))
+
+  pub is_laid : IsLaid l (image_in pl p)
+  is_laid = record {
+    formed = formed;
+    plan = is_plan pl p formed sound keeps fits.memory;
+    opens = memory_open pl p fits;
+    fetches = λ a. refl;
+    blocks = code;
+    places = here.laid.places;
+    next = λ f b i j. starts_next g place c here.shaped here.laid f b j;
+    entry = here.entry;
+    begins = begins_alone p g place c here.shaped here.laid refl few;
+    quiet = begins_none p g place c here.shaped here.laid refl few;
+    no_link = here.laid.no_link;
+    exits = exits_call g place c here.laid;
+  }

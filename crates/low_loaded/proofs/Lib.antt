@@ -1,0 +1,5 @@
+pub mod BegunLemmas
+pub mod ExitLemmas
+pub mod CodeLemmas
+pub mod OpenLemmas
+pub mod LaidLemmas
