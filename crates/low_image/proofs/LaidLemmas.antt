@@ -67,7 +67,7 @@ module _ (pl : Placement) (p : Placed) (fits : FitsImage pl p) where
       let all = subst (λ l. placed_end (spots_in (data_in pl p)) + row_size (in_scratchpad (rows_in pl p)) 0 l ≤ region_start Spm + region_size Spm) (sym longest_is) fits.scratchpad in
       omega (arith, count, most, all)
 
-  fit_segments : FitSegments (data_in pl p) (flash_bytes pl p) (scratchpad_bytes pl p)
+  pub fit_segments : FitSegments (data_in pl p) (flash_bytes pl p) (scratchpad_bytes pl p)
   fit_segments = record { rows = fits.memory; frames = ends p ram 0 p.functions; flash_code = flash_few; scratchpad_code = scratchpad_few }
 
   pub image_loadable : AreLoadable (image_in pl p).segments

@@ -1,0 +1,3 @@
+pub mod FirstArrays
+pub mod Starting
+pub mod Imaged
