@@ -1,0 +1,4 @@
+pub mod Merged
+pub mod Walked
+pub mod Along
+pub mod Based
