@@ -1,0 +1,6 @@
+pub mod Members
+pub mod Late
+pub mod Passing
+pub mod Stores
+pub mod Calls
+pub mod Follows
