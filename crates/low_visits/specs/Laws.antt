@@ -1,0 +1,20 @@
+-- What the visits of a run tell of the run over places that it follows.
+use Rattle.std.specs.Prelude.{◌≡◌, ℕ, ◌<◌, pos, length}
+use Rattle.rv_core.specs.Runs.{Setup, mrun}
+use Rattle.flow_system.specs.KeptRuns.{visit_count, EndsAtExit}
+use Rattle.low_ir.specs.Effects.{World}
+use Rattle.low_ir.specs.Places.{Placed}
+use Rattle.low_counts.specs.Totals.{began_count}
+use Rattle.low_items.specs.Functions.{function_in}
+use Rattle.low_relation.specs.Following.{Ends}
+use Rattle.low_frames.specs.Memories.{Placement}
+use Rattle.low_image.specs.Images.{exits_in}
+use Rattle.low_loaded.specs.Layouts.{layout_of}
+
+-- a block's start is visited as often as the block begins
+abbrev pub StartsAreCounted : Type 0
+StartsAreCounted = (pl : Placement) (p : Placed) (s : Setup) (v : ℕ) (u : World) (n : ℕ) → Ends (layout_of pl p) s v u n → (f b : ℕ) → f < length p.functions → b < length (function_in p f).blocks
+    → visit_count (mrun s n).visits ((layout_of pl p).starts f b) ≡ pos (began_count f b u.trace)
+
+abbrev pub EndsAreExits : Type 0
+EndsAreExits = (pl : Placement) (p : Placed) (s : Setup) (v : ℕ) (u : World) (n : ℕ) → Ends (layout_of pl p) s v u n → EndsAtExit (exits_in pl p) (mrun s n).visits
