@@ -1,6 +1,8 @@
 -- The machine makes a call.
 use Rattle.std.proofs.Common.{◌≡◌, ◌≢◌, ◌⊎◌, ⊎_elim, inl, inr, ℕ, zero, ◌+◌, ◌*◌, ◌%◌, ◌^◌, ◌<◌, ◌≤◌, Bool, true, false, List, [], ◌∷◌, ◌++◌, length, Option, Some, refl, sym, ap, ◌∙◌, subst, arith}
 use Rattle.std.specs.Prelude.{take, slice_get}
+use Rattle.std.proofs.Common.{◌≡◌, ◌≢◌, ⊎_elim, inl, inr, ℕ, ◌+◌, ◌%◌, ◌^◌, ◌<◌, ◌≤◌, Bool, true, false, List, [], ◌∷◌, ◌++◌, length, Option, Some, refl, sym, ap, ◌∙◌, subst, arith}
+use Rattle.std.specs.Prelude.{slice_get}
 use Rattle.rv_core.specs.declared.row.Width.{Width}
 use Rattle.rv_core.specs.declared.row.Width.TheVariants.{Word as Whole}
 use Rattle.rv_core.specs.Arithmetic.{byte_count}
@@ -29,12 +31,19 @@ use Rattle.low_relation.specs.Following.{PlacedRunning}
 use Rattle.low_steps.proofs.Given.{Given, state, reg, read, At}
 use Rattle.low_steps.proofs.Places.{value_is, steady_is, machine_register-same, slot_word, within}
 use Rattle.low_steps.proofs.Operands.{frame, code, in_parts, Ready, register_inside, slot_inside}
+use Rattle.low_ir.specs.Places.{File, places}
+use Rattle.low_items.specs.Numbers.{base, base_address, link, machine_register}
+use Rattle.low_items.specs.Emission.{registers_among, kept_among, home_code, pass_code, late_code, before_call, behind_call}
+use Rattle.low_items.specs.Functions.{PlacedBlock, function_in, singles, body_items, opening_items}
+use Rattle.low_steps.proofs.Places.{value_is, steady_is, machine_register-same}
+use Rattle.low_steps.proofs.Operands.{frame, code, in_parts, Ready}
 use Rattle.low_follow.proofs.Plains.{Going_at, ready_of, course_in, code_at, body}
 use Rattle.low_saves.proofs.Homes.{home_word, NoHome, Homed, homes_run, Unhomed, unhomes_run}
 use Rattle.low_jumps.proofs.Calls.{Called, call_lays}
 use Rattle.low_jumps.proofs.Arrivals.{Entered, block_course, at_block, enter_filled}
 use Rattle.low_calls.proofs.Members.{link_apart}
 use Rattle.low_calls.proofs.Late.{late_registers, late_is, late_among, late_parameter, told}
+use Rattle.low_calls.proofs.Late.{late_registers, late_is, late_parameter, told}
 use Rattle.low_calls.proofs.Passing.{IsPassed, Awaits, IsOutside, Between, Passed, pass_runs}
 use Rattle.low_calls.proofs.Stores.{empty_file, empty_reads, empty_room, all_taken}
 
