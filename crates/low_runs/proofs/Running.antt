@@ -13,14 +13,9 @@ use Rattle.low_follow.proofs.Plains.{Runs, Going_at}
 use Rattle.low_follow.proofs.Steps.{do_follows}
 use Rattle.low_ends.proofs.Ends.{jump_follows, branch_follows}
 use Rattle.low_returns.proofs.Leaving.{return_follows}
+use Rattle.low_calls.proofs.Follows.{call_follows}
 
--- the machine follows each call
-abbrev pub CallsFollow : Given → Type 0
-CallsFollow g =
-    (r : PlacedRunning) (n : ℕ) (d : Option Place) (f : ℕ) (args : List (Operand Place)) (note : List ℕ) (is : List (Instr Place (List ℕ))) (h : Going_at g r n) → r.top.code ≡ Call d f args note ∷ is
-    → Later (Runs g (at_instr places g.layout.program r (Call d f args note) is)) n
-
-module _ (g : Given) (calls : CallsFollow g) where
+module _ (g : Given) where
   end_follows : (r : PlacedRunning) (n : ℕ) (h : Going_at g r n) (end : End Place) → r.top.end ≡ end → r.top.code ≡ [] → Later (Runs g (at_end places g.layout.program r end)) n
   end_follows r n h (Jump t) is none = jump_follows g r n t h none is
   end_follows r n h (Branch c x y taken other) is none = branch_follows g r n c x y taken other h none is (operand_value places r.top.store x) (operand_value places r.top.store y) refl refl
@@ -29,7 +24,7 @@ module _ (g : Given) (calls : CallsFollow g) where
   code_follows : (r : PlacedRunning) (n : ℕ) (h : Going_at g r n) (code : List (Instr Place (List ℕ))) → r.top.code ≡ code → Later (Runs g (at_code places g.layout.program r code)) n
   code_follows r n h [] is = end_follows r n h r.top.end refl is
   code_follows r n h (Do i ∷ is) e = do_follows g r n i is h e
-  code_follows r n h (Call d f args note ∷ is) e = calls r n d f args note is h e
+  code_follows r n h (Call d f args note ∷ is) e = call_follows g r n d f args note is h e
 
   -- one step of the run
   pub step_follows : (x : PlacedRun) (n : ℕ) → Runs g x n → Later (Runs g (step places g.layout.program x)) n

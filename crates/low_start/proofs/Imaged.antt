@@ -17,7 +17,6 @@ use Rattle.low_loaded.specs.Layouts.{layout_of}
 use Rattle.low_loaded.proofs.LaidLemmas.{is_laid}
 use Rattle.low_steps.proofs.Given.{Given, state}
 use Rattle.low_follow.proofs.Plains.{Runs}
-use Rattle.low_runs.proofs.Running.{CallsFollow}
 use Rattle.low_start.proofs.FirstArrays.{first_arrays}
 use Rattle.low_start.proofs.Starting.{ends_alike}
 
@@ -25,6 +24,5 @@ module _ (pl : Placement) (p : Placed) (formed : IsProgram p) (sound : InProgram
   abbrev pub given : Given
   given = record { layout = layout_of pl p; image = image_in pl p; table = table; input = input; loadable = image_loadable pl p fits; laid = is_laid pl p formed sound keeps fits }
 
-  -- if it follows calls
-  pub image_ends : All (λ b. b < 256) input → CallsFollow given → (i v : ℕ) (u : World) → run places p i (first places p input) ≡ Done v u → Later (Runs given (Done v u)) 0
-  image_ends bytes calls i v u e = ends_alike given (first_arrays pl p fits (view_of (state given 0)) (λ w a. refl)) bytes calls i v u e
+  pub image_ends : All (λ b. b < 256) input → (i v : ℕ) (u : World) → run places p i (first places p input) ≡ Done v u → Later (Runs given (Done v u)) 0
+  image_ends bytes i v u e = ends_alike given (first_arrays pl p fits (view_of (state given 0)) (λ w a. refl)) bytes i v u e

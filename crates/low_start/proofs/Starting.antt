@@ -42,7 +42,7 @@ use Rattle.low_jumps.proofs.Standing.{Stood}
 use Rattle.low_jumps.proofs.Calls.{call_lays}
 use Rattle.low_jumps.proofs.Arrivals.{at_block, enter_filled, block_course}
 use Rattle.low_entries.proofs.Entries.{opens}
-use Rattle.low_runs.proofs.Running.{CallsFollow, run_ends}
+use Rattle.low_runs.proofs.Running.{run_ends}
 
 behind_all : (fns : List PlacedFunction) → slice_index_or fns (length fns) no_function ≡ no_function
 behind_all [] = refl
@@ -199,6 +199,6 @@ module _ (g : Given) where
     pub first_follows : Later (Runs g (first places p g.input)) 0
     first_follows = by_function (slice_get p.functions p.main) refl
 
-    -- and where it follows calls, it ends as the run does
-    pub ends_alike : CallsFollow g → (i v : ℕ) (u : World) → run places p i (first places p g.input) ≡ Done v u → Later (Runs g (Done v u)) 0
-    ends_alike calls i v u e = and_then (Runs g (first places p g.input)) (Runs g (Done v u)) 0 first_follows (λ m h. run_ends g calls i (first places p g.input) m v u h e)
+    -- and it ends as the run does
+    pub ends_alike : (i v : ℕ) (u : World) → run places p i (first places p g.input) ≡ Done v u → Later (Runs g (Done v u)) 0
+    ends_alike i v u e = and_then (Runs g (first places p g.input)) (Runs g (Done v u)) 0 first_follows (λ m h. run_ends g i (first places p g.input) m v u h e)
