@@ -1,6 +1,4 @@
 -- The machine makes a call.
-use Rattle.std.proofs.Common.{◌≡◌, ◌≢◌, ◌⊎◌, ⊎_elim, inl, inr, ℕ, zero, ◌+◌, ◌*◌, ◌%◌, ◌^◌, ◌<◌, ◌≤◌, Bool, true, false, List, [], ◌∷◌, ◌++◌, length, Option, Some, refl, sym, ap, ◌∙◌, subst, arith}
-use Rattle.std.specs.Prelude.{take, slice_get}
 use Rattle.std.proofs.Common.{◌≡◌, ◌≢◌, ⊎_elim, inl, inr, ℕ, ◌+◌, ◌%◌, ◌^◌, ◌<◌, ◌≤◌, Bool, true, false, List, [], ◌∷◌, ◌++◌, length, Option, Some, refl, sym, ap, ◌∙◌, subst, arith}
 use Rattle.std.specs.Prelude.{slice_get}
 use Rattle.rv_core.specs.declared.row.Width.{Width}
@@ -18,23 +16,16 @@ use Rattle.low_ir.specs.declared.run.Began.{Began}
 use Rattle.low_ir.specs.Code.{Operand, Instr, Call}
 use Rattle.low_ir.specs.Effects.{is_member}
 use Rattle.low_ir.specs.Runs.{values, write_all}
-use Rattle.low_ir.specs.Places.{File, read_place, places}
-use Rattle.low_items.specs.Numbers.{base, base_address, link, first_free, second_free, machine_register}
+use Rattle.low_ir.specs.Places.{File, places}
+use Rattle.low_items.specs.Numbers.{base, base_address, link, machine_register}
 use Rattle.low_items.specs.Frames.{home_at, slot_at}
-use Rattle.low_items.specs.Emission.{registers_among, kept_among, home_code, return_code, pass_code, late_code, before_call, behind_call}
-use Rattle.low_items.specs.Functions.{PlacedBlock, function_in, passed_in, singles, body_items, opening_items}
+use Rattle.low_items.specs.Emission.{registers_among, kept_among, home_code, pass_code, late_code, before_call, behind_call}
+use Rattle.low_items.specs.Functions.{PlacedBlock, function_in, singles, body_items, opening_items}
 use Rattle.low_relation.specs.Plans.{parameters_of, frame_size, SavesAt}
 use Rattle.low_relation.specs.Positions.{Course, Rest}
 use Rattle.low_relation.specs.Views.{view_of, HasRoom, Shows}
-use Rattle.low_relation.specs.Waiting.{IsIn}
 use Rattle.low_relation.specs.Following.{PlacedRunning}
 use Rattle.low_steps.proofs.Given.{Given, state, reg, read, At}
-use Rattle.low_steps.proofs.Places.{value_is, steady_is, machine_register-same, slot_word, within}
-use Rattle.low_steps.proofs.Operands.{frame, code, in_parts, Ready, register_inside, slot_inside}
-use Rattle.low_ir.specs.Places.{File, places}
-use Rattle.low_items.specs.Numbers.{base, base_address, link, machine_register}
-use Rattle.low_items.specs.Emission.{registers_among, kept_among, home_code, pass_code, late_code, before_call, behind_call}
-use Rattle.low_items.specs.Functions.{PlacedBlock, function_in, singles, body_items, opening_items}
 use Rattle.low_steps.proofs.Places.{value_is, steady_is, machine_register-same}
 use Rattle.low_steps.proofs.Operands.{frame, code, in_parts, Ready}
 use Rattle.low_follow.proofs.Plains.{Going_at, ready_of, course_in, code_at, body}
@@ -42,7 +33,6 @@ use Rattle.low_saves.proofs.Homes.{home_word, NoHome, Homed, homes_run, Unhomed,
 use Rattle.low_jumps.proofs.Calls.{Called, call_lays}
 use Rattle.low_jumps.proofs.Arrivals.{Entered, block_course, at_block, enter_filled}
 use Rattle.low_calls.proofs.Members.{link_apart}
-use Rattle.low_calls.proofs.Late.{late_registers, late_is, late_among, late_parameter, told}
 use Rattle.low_calls.proofs.Late.{late_registers, late_is, late_parameter, told}
 use Rattle.low_calls.proofs.Passing.{IsPassed, Awaits, IsOutside, Between, Passed, pass_runs}
 use Rattle.low_calls.proofs.Stores.{empty_file, empty_reads, empty_room, all_taken}

@@ -1,5 +1,4 @@
 -- The machine follows a run over places through a call.
-use Rattle.std.proofs.Common.{◌≡◌, ◌≢◌, ◌⊎◌, ⊎_elim, inl, inr, ℕ, zero, ◌+◌, ◌*◌, ◌%◌, ◌^◌, ◌<◌, ◌≤◌, Bool, true, false, List, [], ◌∷◌, ◌++◌, length, Option, Some, None, refl, sym, ap, ◌∙◌, subst, arith}
 use Rattle.std.proofs.Common.{◌≡◌, ⊎_elim, inl, inr, ℕ, ◌+◌, ◌%◌, ◌^◌, ◌<◌, ◌≤◌, Bool, true, false, List, [], ◌∷◌, ◌++◌, length, Option, Some, None, refl, sym, ap, ◌∙◌, subst, arith}
 use Rattle.std.specs.Prelude.{nat_lt, slice_get, slice_index}
 use Rattle.std.specs.Option.{option_to_list}
@@ -18,21 +17,16 @@ use Rattle.low_ir.specs.declared.run.Value.{Value}
 use Rattle.low_ir.specs.Code.{Operand, Instr, Call, Jump, Object}
 use Rattle.low_ir.specs.Effects.{is_member, began}
 use Rattle.low_ir.specs.Runs.{values, write_all, enter, begin, only_where, waiting, call, at_instr}
-use Rattle.low_ir.specs.Places.{File, read_place, places}
-use Rattle.low_items.specs.Numbers.{base, machine_register}
-use Rattle.low_items.specs.Frames.{frame_of, saved_at, home_at, slot_at, return_at, object_at}
-use Rattle.low_items.specs.Emission.{registers_among, kept_among}
 use Rattle.low_ir.specs.Places.{File, places}
+use Rattle.low_items.specs.Numbers.{base, machine_register}
 use Rattle.low_items.specs.Frames.{saved_at, home_at, slot_at, return_at, object_at}
 use Rattle.low_items.specs.Emission.{registers_among}
 use Rattle.low_items.specs.Functions.{PlacedBlock, PlacedFunction, no_function, function_in, is_leaf, body_items}
 use Rattle.low_relation.specs.Plans.{parameters_of, frame_size, object_size, SavesAt}
 use Rattle.low_relation.specs.Positions.{Course, Rest}
 use Rattle.low_relation.specs.Views.{view_of, Shows}
-use Rattle.low_relation.specs.Waiting.{IsIn, Returns, PlacedWaiting, Rests, AreWaiting, IsLinked, register_in}
-use Rattle.low_relation.specs.Following.{PlacedRunning, Holds, Goes}
-use Rattle.low_steps.proofs.Given.{Given, run_of, state, reg, read, At}
 use Rattle.low_relation.specs.Waiting.{IsIn, Returns, Rests, IsLinked}
+use Rattle.low_relation.specs.Following.{PlacedRunning, Holds, Goes}
 use Rattle.low_steps.proofs.Given.{Given, run_of, state, reg, read}
 use Rattle.low_steps.proofs.Places.{steady_is, slot_word, within}
 use Rattle.low_steps.proofs.Operands.{frame, code}

@@ -25,7 +25,6 @@ use Rattle.low_relation.specs.Plans.{frame_size, AreApart}
 use Rattle.low_relation.specs.Positions.{Course}
 use Rattle.low_relation.specs.Views.{view_of, HasRoom, Shows}
 use Rattle.low_steps.proofs.Given.{Given, state, reg, read, At}
-use Rattle.low_steps.proofs.Places.{value_is, steady_is, machine_register-same, IsFrameWord, slot_word, within}
 use Rattle.low_steps.proofs.Places.{value_is, steady_is, machine_register-same, IsFrameWord, slot_word}
 use Rattle.low_steps.proofs.Operands.{frame, code, in_parts, into, Ready, IsOther, slot_inside}
 use Rattle.low_follow.proofs.Apart.{position-below}
