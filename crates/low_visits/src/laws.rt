@@ -1,5 +1,5 @@
 // The laws of visits.
-ghost use Rattle.low_visits.specs.Laws.{StartsAreCounted, EndsAreExits};
+ghost use Rattle.low_visits.specs.Laws.{StartsAreCounted, EndsAreExits, LoopsAreKept};
 
 /// The start of a block is visited as often as the block begins.
 pub fn starts_are_counted()
@@ -9,4 +9,9 @@ pub fn starts_are_counted()
 /// The last visit alone is at a listed exit.
 pub fn ends_are_exits()
     ensures { EndsAreExits }
+{}
+
+/// A claim on a loop is kept where the loop keeps its bounds in all its entries together.
+pub fn loops_are_kept()
+    ensures { LoopsAreKept }
 {}
