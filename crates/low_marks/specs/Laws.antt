@@ -1,0 +1,38 @@
+-- How often marks are passed, and how many addresses they have.
+use Rattle.std.specs.Prelude.{◌≡◌, ℕ, ◌+◌, pos, List, [], ◌∷◌, length}
+use Rattle.frac128.specs.Terms.{int_sum_by}
+use Rattle.rv_core.specs.Runs.{Setup, mrun}
+use Rattle.flow_system.specs.KeptRuns.{visit_count}
+use Rattle.low_ir.specs.declared.run.Began.{Began}
+use Rattle.low_ir.specs.Code.{Low}
+use Rattle.low_ir.specs.Effects.{World}
+use Rattle.low_ir.specs.Places.{Assignment, Placed, placed}
+use Rattle.low_ir.specs.Room.{marks_once}
+use Rattle.low_ir.specs.Turns.{mark_count}
+use Rattle.low_items.specs.Functions.{PlacedBlock, PlacedFunction}
+use Rattle.low_relation.specs.Following.{Ends}
+use Rattle.low_frames.specs.Memories.{Placement}
+use Rattle.low_loaded.specs.Layouts.{layout_of}
+use Rattle.laid_claims.specs.Listed.{Laid, places_of}
+use Rattle.laid_image.specs.Images.{laid_of}
+
+-- the addresses of a mark are visited, all together, as often as the run over places passes the mark
+abbrev pub MarksAreCounted : Type 0
+MarksAreCounted = (pl : Placement) (p : Placed) (s : Setup) (v : ℕ) (u : World) (n : ℕ) → Ends (layout_of pl p) s v u n → (mark : ℕ) → int_sum_by (visit_count (mrun s n).visits) (places_of (laid_of pl p) mark) ≡ pos (mark_count p u.trace mark)
+
+-- over places and over virtual registers the same blocks have the mark
+abbrev pub PlacedKeepMarks : Type 0
+PlacedKeepMarks = (a : Assignment) (low : Low) (trace : List Began) (mark : ℕ) → mark_count (placed a low) trace mark ≡ mark_count low trace mark
+
+-- how many blocks have a mark
+abbrev pub blocks_marked : ℕ → List PlacedBlock → ℕ
+blocks_marked mark [] = 0
+blocks_marked mark (b ∷ bs) = marks_once b.mark mark + blocks_marked mark bs
+
+abbrev pub functions_marked : ℕ → List PlacedFunction → ℕ
+functions_marked mark [] = 0
+functions_marked mark (fn ∷ fns) = blocks_marked mark fn.blocks + functions_marked mark fns
+
+-- a mark has one address for each
+abbrev pub PlacesAreFew : Type 0
+PlacesAreFew = (l : Laid) (mark : ℕ) → length (places_of l mark) ≡ functions_marked mark l.program.functions
