@@ -2,3 +2,4 @@ pub mod Sums
 pub mod Events
 pub mod Marks
 pub mod Places
+pub mod Standing

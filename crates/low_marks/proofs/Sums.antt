@@ -56,3 +56,7 @@ module _ (g : ℕ → ℕ) (k : ℕ) (others : (x : ℕ) → x ≢ k → g x ≡
       (λ (same : f ≡ k). let a = ap g same in let r = behind_it (suc f) n (omega (arith, same)) in omega (arith, a, r))
       (λ (other : f ≢ k). let a = others f other in let r = one_counts (suc f) n (omega (arith, low, other)) (omega (arith, high)) in omega (arith, a, r))
       (cases_eq f k)
+
+  pub none_counts : (f n : ℕ) → f + n ≤ k → summed g (upto f n) ≡ 0
+  none_counts f zero h = refl
+  none_counts f (suc n) h = let a = others f (λ e. omega (arith, e, h)) in let r = none_counts (suc f) n (omega (arith, h)) in omega (arith, a, r)

@@ -1,5 +1,11 @@
 // The laws of marks.
-ghost use Rattle.low_marks.specs.Laws.{MarksAreCounted, PlacedKeepMarks, PlacesAreFew};
+ghost use Rattle.low_marks.specs.Laws.{
+  AllPlacesAreFew,
+  MarksAreCounted,
+  PlacedKeepMarks,
+  PlacedStand,
+  PlacesAreFew,
+};
 
 /// The addresses of a mark are visited, all together, as often as the run over places passes the mark.
 pub fn marks_are_counted()
@@ -14,4 +20,14 @@ pub fn placed_keep_marks()
 /// A mark has one address for each block that it stands in.
 pub fn places_are_few()
     ensures { PlacesAreFew }
+{}
+
+/// All marks together have no more addresses than blocks have marks.
+pub fn all_places_are_few()
+    ensures { AllPlacesAreFew }
+{}
+
+/// Over places as many blocks have marks as over virtual registers.
+pub fn placed_stand()
+    ensures { PlacedStand }
 {}
