@@ -1,12 +1,11 @@
 -- The machine makes a call.
-use Rattle.std.proofs.Common.{◌≡◌, ◌≢◌, ⊎_elim, inl, inr, ℕ, ◌+◌, ◌%◌, ◌^◌, ◌<◌, ◌≤◌, Bool, true, false, List, [], ◌∷◌, ◌++◌, length, Option, Some, refl, sym, ap, ◌∙◌, subst, arith}
+use Rattle.std.proofs.Common.{◌≡◌, ◌≢◌, ⊎_elim, inl, inr, ℕ, ◌+◌, ◌%◌, ◌^◌, ◌<◌, ◌≤◌, Bool, true, false, List, [], ◌∷◌, ◌++◌, length, map, Option, Some, refl, sym, ap, ◌∙◌, subst, arith}
 use Rattle.std.specs.Prelude.{slice_get}
 use Rattle.rv_core.specs.declared.row.Width.{Width}
 use Rattle.rv_core.specs.declared.row.Width.TheVariants.{Word as Whole}
 use Rattle.rv_core.specs.Arithmetic.{byte_count}
 use Rattle.rv_core.specs.Memory.{read_from}
 use Rattle.rv_core.specs.Machine as machine
-use Rattle.code_items.specs.declared.item.Item.{Item}
 use Rattle.code_items.specs.declared.item.Item.TheVariants as items
 use Rattle.code_steps.specs.Steps.{Later}
 use Rattle.low_ir.specs.declared.places.Place.{Place}
@@ -20,7 +19,8 @@ use Rattle.low_ir.specs.Places.{File, places}
 use Rattle.low_items.specs.Numbers.{base, base_address, link, machine_register}
 use Rattle.low_items.specs.Frames.{home_at, slot_at}
 use Rattle.low_items.specs.Emission.{registers_among, kept_among, home_code, pass_code, late_code, before_call, behind_call}
-use Rattle.low_items.specs.Functions.{PlacedBlock, function_in, singles, body_items, opening_items}
+use Rattle.low_items.specs.Functions.{PlacedBlock, function_in, opening_items}
+use Rattle.low_relation.specs.Noted.{Noted, noted, singles, noted_body}
 use Rattle.low_relation.specs.Plans.{parameters_of, frame_size, SavesAt}
 use Rattle.low_relation.specs.Positions.{Course, Rest}
 use Rattle.low_relation.specs.Views.{view_of, HasRoom, Shows}
@@ -42,7 +42,7 @@ module _ (g : Given) where
   params c = parameters_of g.layout.program c
 
   -- what stands behind the call itself
-  abbrev pub behind : PlacedRunning → ℕ → Option Place → ℕ → List ℕ → List (Instr Place (List ℕ)) → List Item
+  abbrev pub behind : PlacedRunning → ℕ → Option Place → ℕ → List ℕ → List (Instr Place (List ℕ)) → List Noted
   behind r b d c note is = singles (behind_call (frame g r.top.func) d (params c) note) ++ body g r b is
 
   -- where function c begins, called by function f with its own values in t, and with u in its places
@@ -71,7 +71,7 @@ module _ (g : Given) where
   no_home_outside f a n (inr high) = inr (omega arith)
 
   -- the caller's values while its registers are at home too
-  ready_homed : (k : Course) (n m f : ℕ) (qs : List ℕ) (t : File) (ys : List Item) → Ready g f t n → Homed g k n m f qs ys → Ready g f t m
+  ready_homed : (k : Course) (n m f : ℕ) (qs : List ℕ) (t : File) (ys : List Noted) → Ready g f t n → Homed g k n m f qs ys → Ready g f t m
   ready_homed k n m f qs t ys ready a =
       record {
         there = ready.there;
@@ -92,7 +92,7 @@ module _ (g : Given) where
   base_apart q less e = (value_is q less).base_not (sym e)
 
   -- the arguments in the places of the callee, once the late ones are loaded
-  shows_loaded : (k : Course) (j i c : ℕ) (late : List ℕ) (u : File) (ys : List Item) → Awaits g j c late u → Unhomed g k j i c late ys → Shows g.layout.memory (frame g c) u (view_of (state g i))
+  shows_loaded : (k : Course) (j i c : ℕ) (late : List ℕ) (u : File) (ys : List Noted) → Awaits g j c late u → Unhomed g k j i c late ys → Shows g.layout.memory (frame g c) u (view_of (state g i))
   shows_loaded k j i c late u ys awaits d (Slot s) x e = ap (λ (z : machine.World). read_from (λ b. b.read) Whole z.memory (slot_at (frame g c) s)) d.world ∙ awaits.slots s x e
   shows_loaded k j i c late u ys awaits d (InRegister q) x e = by_late (is_member late q) refl (awaits.registers q x e)
     where
@@ -105,7 +105,7 @@ module _ (g : Given) where
   shows_after i m c u registers world shows (InRegister q) x e = registers (machine_register q) (link_apart q) (steady_is q).seven ∙ shows (InRegister q) x e
 
   -- from the call on to where the callee begins
-  begins : (k : Course) (n m j i v y f c back : ℕ) (note : List ℕ) (t u : File) (late : List ℕ) (ws xs ys zs : List Item) (trace : List Began) (kc : Course) → f < length g.layout.program.functions → Between g f c late → ((q : ℕ) → is_member late q ≡ true → is_member (registers_among (params c)) q ≡ true)
+  begins : (k : Course) (n m j i v y f c back : ℕ) (note : List ℕ) (t u : File) (late : List ℕ) (ws xs ys zs : List Noted) (trace : List Began) (kc : Course) → f < length g.layout.program.functions → Between g f c late → ((q : ℕ) → is_member late q ≡ true → is_member (registers_among (params c)) q ≡ true)
       → ((q : ℕ) → is_member (kept_among (params c) note) q ≡ true → is_member (frame g f).homes q ≡ true) → Ready g f t n → Homed g k n m f (kept_among (params c) note) ws → Passed g k m j c (params c) late u xs → Unhomed g k j i c late ys → Called g i v (g.layout.starts c 0) back trace k.returns
       → Entered g kc v y zs → Begins n y f c back note t u
   begins k n m j i v y f c back note t u late ws xs ys zs trace kc there between among homes ready a b d called entered =
@@ -140,7 +140,7 @@ module _ (g : Given) where
       → c < length g.layout.program.functions → c < r.top.func → SavesAt g.layout.program g.layout.memory g.layout.needs r.top.func c note → slice_get (function_in g.layout.program c).blocks 0 ≡ Some block
       → values places r.top.store args ≡ Some vs → write_all places (Some (empty_file (function_in g.layout.program c).size)) (params c) vs ≡ Some u
       → ((back m : ℕ) → Rest g.layout r.top.func (g.layout.stops r.top.func h.block) back (behind r h.block d c note is) → Begins n m r.top.func c back note r.top.store u
-      → At g (block_course g c 0 (r.world.trace ++ record { function = c; block = 0 } ∷ []) (back ∷ h.returns)) m (opening_items g.layout.memory g.layout.program c 0 ++ body_items g.layout.memory g.layout.program c 0 block.code block.end) → Later P m) → Later P n
+      → At g (block_course g c 0 (r.world.trace ++ record { function = c; block = 0 } ∷ []) (back ∷ h.returns)) m (map noted (opening_items g.layout.memory g.layout.program c 0) ++ noted_body g.layout.memory g.layout.program c 0 block.code block.end) → Later P m) → Later P n
   call_runs r P n c d args note is block vs u h code_is callee below saves first values_are written go =
       let l = g.layout in
       let f = r.top.func in
@@ -152,12 +152,12 @@ module _ (g : Given) where
       let late = late_registers ps args ps in
       let qs = kept_among ps note in
       let rest = behind r h.block d c note is in
-      let xs = items.Call true c ∷ rest in
+      let xs = noted (items.Call true c) ∷ rest in
       let ready = ready_of g r n h in
       let size = (function_in l.program c).size in
       let taken = all_taken t u args ps vs (Some (empty_file size)) values_are written in
       let start : At g k n (singles (before_call fr fc ps note args) ++ xs) =
-      subst (λ z. At g k n (singles (before_call fr fc z note args) ++ (items.Call true c ∷ (singles (behind_call fr d z note) ++ body g r h.block is)))) taken (code_at g r n (Call d c args note) is h code_is) in
+      subst (λ z. At g k n (singles (before_call fr fc z note args) ++ (noted (items.Call true c) ∷ (singles (behind_call fr d z note) ++ body g r h.block is)))) taken (code_at g r n (Call d c args note) is h code_is) in
       let pass = pass_code fr fc ps args ps in
       let loads = late_code fr fc ps args ps in
       let among : (q : ℕ) → is_member late q ≡ true → is_member (registers_among ps) q ≡ true = λ q e. late_parameter ps q args ps e in
@@ -169,8 +169,8 @@ module _ (g : Given) where
       (λ j b. unhomes_run g k P j c late xs callee (b.registers base (λ e. omega (arith, e)) (λ e. omega (arith, e)) (λ q own. base_apart q (b.inside q own)) ∙ a.registers base (λ e. omega (arith, e)) ∙ ready.based)
       (λ q e. (between.homes q e, b.inside q (among q e))) (subst (λ z. At g k j (singles z ++ xs)) (late_is fr fc ps args ps) b.at)
       (λ i e. call_lays g k P i c true rest e.at
-      (λ back v stands called. enter_filled g (block_course g c 0 trace (back ∷ h.returns)) P v c (opening_items l.memory l.program c 0 ++ body_items l.memory l.program c 0 block.code block.end)
+      (λ back v stands called. enter_filled g (block_course g c 0 trace (back ∷ h.returns)) P v (map noted (opening_items l.memory l.program c 0) ++ noted_body l.memory l.program c 0 block.code block.end)
       (at_block g v c 0 block r.world.trace (back ∷ h.returns) callee first called.stood)
       (λ y s. go back y stands
-      (begins k n m j i v y f c back note t u late (singles (pass ++ loads) ++ xs) (singles loads ++ xs) xs (opening_items l.memory l.program c 0 ++ body_items l.memory l.program c 0 block.code block.end) r.world.trace (block_course g c 0 trace (back ∷ h.returns)) ready.there between among saves.homes ready a b e called s)
+      (begins k n m j i v y f c back note t u late (singles (pass ++ loads) ++ xs) (singles loads ++ xs) xs (map noted (opening_items l.memory l.program c 0) ++ noted_body l.memory l.program c 0 block.code block.end) r.world.trace (block_course g c 0 trace (back ∷ h.returns)) ready.there between among saves.homes ready a b e called s)
       s.at)))))

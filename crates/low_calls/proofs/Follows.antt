@@ -8,7 +8,6 @@ use Rattle.std.proofs.lemmas.Option.{get_or_from_slice_get, slice_get_within}
 use Rattle.rv_core.specs.declared.row.Width.{Width}
 use Rattle.rv_core.specs.declared.row.Width.TheVariants.{Word as Whole}
 use Rattle.rv_core.specs.Arithmetic.{byte_count}
-use Rattle.code_items.specs.declared.item.Item.{Item}
 use Rattle.code_steps.specs.Steps.{Later}
 use Rattle.code_steps.proofs.LaterLemmas.{now}
 use Rattle.low_ir.specs.declared.places.Place.{Place}
@@ -21,23 +20,26 @@ use Rattle.low_ir.specs.Places.{File, places}
 use Rattle.low_items.specs.Numbers.{base, machine_register}
 use Rattle.low_items.specs.Frames.{saved_at, home_at, slot_at, return_at, object_at}
 use Rattle.low_items.specs.Emission.{registers_among}
-use Rattle.low_items.specs.Functions.{PlacedBlock, PlacedFunction, no_function, function_in, is_leaf, body_items}
+use Rattle.low_items.specs.Functions.{PlacedBlock, PlacedFunction, no_function, function_in, is_leaf, entry_code}
+use Rattle.low_relation.specs.Noted.{Noted, noted_body}
 use Rattle.low_relation.specs.Plans.{parameters_of, frame_size, object_size, SavesAt}
 use Rattle.low_relation.specs.Positions.{Course, Rest}
 use Rattle.low_relation.specs.Views.{view_of, Shows}
 use Rattle.low_relation.specs.Waiting.{IsIn, Returns, Rests, IsLinked}
 use Rattle.low_relation.specs.Following.{PlacedRunning, Holds, Goes}
-use Rattle.low_steps.proofs.Given.{Given, run_of, state, reg, read}
+use Rattle.low_steps.proofs.Given.{Given, run_of, state, reg, read, At}
 use Rattle.low_steps.proofs.Places.{steady_is, slot_word, within}
+use Rattle.low_steps.proofs.Noting.{noted_singles}
 use Rattle.low_steps.proofs.Operands.{frame, code}
 use Rattle.low_follow.proofs.Apart.{position-below, waits_kept, arrays_kept}
+use Rattle.low_follow.proofs.Elements.{member_contains}
 use Rattle.low_follow.proofs.Holding.{got_contains, left_contains, writes_known}
 use Rattle.low_follow.proofs.Plains.{Runs, Going_at}
 use Rattle.low_saves.proofs.Homes.{NoHome, home_word}
 use Rattle.low_saves.proofs.Saved.{saved_word}
 use Rattle.low_jumps.proofs.Arrivals.{block_course}
 use Rattle.low_entries.proofs.Entries.{Opened, opens}
-use Rattle.low_calls.proofs.Members.{kept_member, member_contains, among_append, calls_some}
+use Rattle.low_calls.proofs.Members.{kept_member, among_append, calls_some}
 use Rattle.low_calls.proofs.Passing.{IsOutside}
 use Rattle.low_calls.proofs.Stores.{empty_file, kept_value, kept_room}
 use Rattle.low_calls.proofs.Calls.{behind, Begins, frame_outside, no_home_outside, call_runs}
@@ -70,7 +72,7 @@ module _ (g : Given) where
     below : c < r.top.func
     saves : SavesAt g.layout.program g.layout.memory g.layout.needs r.top.func c note
 
-  module _ (r : PlacedRunning) (n m o c back : ℕ) (d : Option Place) (args : List (Operand Place)) (note : List ℕ) (is : List (Instr Place (List ℕ))) (u : File) (kc : Course) (xs : List Item) (h : Calls r n c d args note is) (b : Begins g n m r.top.func c back note r.top.store u)
+  module _ (r : PlacedRunning) (n m o c back : ℕ) (d : Option Place) (args : List (Operand Place)) (note : List ℕ) (is : List (Instr Place (List ℕ))) (u : File) (kc : Course) (xs : List Noted) (h : Calls r n c d args note is) (b : Begins g n m r.top.func c back note r.top.store u)
       (opened : Opened g kc m o c back (is_leaf (function_in g.layout.program c)) xs) where
     -- what neither the callee's frame nor the caller's homes have is as before
     outer : (y : Width) (a : ℕ) → IsOutside g c a (byte_count y) → NoHome g r.top.func a (byte_count y) → read g o y a ≡ read g n y a
@@ -195,11 +197,12 @@ module _ (g : Given) where
       let l = g.layout in
       let goal = Goes l (run_of g) (called r is d note c block u) in
       let trace = r.world.trace ++ record { function = c; block = 0 } ∷ [] in
-      let xs = body_items l.memory l.program c 0 block.code block.end in
+      let xs = noted_body l.memory l.program c 0 block.code block.end in
       call_runs g r goal n c d args note is block vs u h.goes code_is h.callee h.below h.saves first values_are written
       (λ back m rest b at.
       let high = rest.room in
-      opens g (block_course g c 0 trace (back ∷ h.goes.returns)) goal m c back (is_leaf (function_in l.program c)) xs h.callee b.based b.link_is (omega arith) at
+      opens g (block_course g c 0 trace (back ∷ h.goes.returns)) goal m c back (is_leaf (function_in l.program c)) xs h.callee b.based b.link_is (omega arith)
+      (subst (λ ys. At g (block_course g c 0 trace (back ∷ h.goes.returns)) m (ys ++ xs)) (noted_singles (entry_code (is_leaf (function_in l.program c)) (frame g c))) at)
       (λ o opened. now goal o
       (record {
         block = 0;

@@ -41,11 +41,6 @@ kept_parameter (InRegister r ∷ ps) note q m = by_note (is_member note r) m (λ
     by_note true h go = ⊎_elim (λ (same : r ≡ q). subst (λ x. is_member (r ∷ registers_among ps) x ≡ true) same (member_head r (registers_among ps))) (λ (rest : is_member (kept_among ps note) q ≡ true). member_tail r q (registers_among ps) (go rest)) (member_cases r q (kept_among ps note) h)
     by_note false h go = member_tail r q (registers_among ps) (go h)
 
-pub member_contains : (xs : List ℕ) (q : ℕ) → is_member xs q ≡ true → Contains xs q
-member_contains [] q e = cc
-member_contains (x ∷ xs) q e =
-    ⊎_elim (λ (same : x ≡ q). (0, omega arith, same)) (λ (rest : is_member xs q ≡ true). let h = member_contains xs q rest in (suc h.0, omega (arith, h.1), h.2)) (member_cases x q xs e)
-
 pub among_append : (ps qs : List Place) (q : ℕ) → Contains (registers_among qs) q → Contains (registers_among (ps ++ qs)) q
 among_append [] qs q h = h
 among_append (InRegister r ∷ ps) qs q h = let t = among_append ps qs q h in (suc t.0, omega (arith, t.1), t.2)

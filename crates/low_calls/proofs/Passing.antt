@@ -7,7 +7,6 @@ use Rattle.rv_core.specs.declared.row.Width.TheVariants.{Word as Whole}
 use Rattle.rv_core.specs.Arithmetic.{byte_count}
 use Rattle.rv_core.specs.Memory.{read_from}
 use Rattle.rv_core.specs.Machine.{World}
-use Rattle.code_items.specs.declared.item.Item.{Item}
 use Rattle.code_steps.specs.Steps.{Later}
 use Rattle.low_ir.specs.declared.places.Place.{Place}
 use Rattle.low_ir.specs.declared.places.Place.TheVariants.{Register as InRegister, Slot}
@@ -20,7 +19,7 @@ use Rattle.low_items.specs.Numbers.{base, first_free, second_free, machine_regis
 use Rattle.low_items.specs.Frames.{position, home_at, slot_at}
 use Rattle.low_items.specs.Operands.{into_code}
 use Rattle.low_items.specs.Emission.{reads_register, registers_among, is_once, is_direct, store_argument, pass_code}
-use Rattle.low_items.specs.Functions.{singles}
+use Rattle.low_relation.specs.Noted.{Noted, singles}
 use Rattle.low_relation.specs.Plans.{frame_size, AreApart}
 use Rattle.low_relation.specs.Positions.{Course}
 use Rattle.low_relation.specs.Views.{view_of, HasRoom, Shows}
@@ -85,7 +84,7 @@ module _ (g : Given) where
     pub homes : (q : ℕ) → is_member late q ≡ true → is_member (frame g c).homes q ≡ true
 
   -- an argument was passed; file has what the caller's places still have
-  record Argued (k : Course) (n m f c : ℕ) (t : File) (p : Place) (xs : List (Operand Place)) (late : List ℕ) (u : File) (ys : List Item) : Type 0 where
+  record Argued (k : Course) (n m f c : ℕ) (t : File) (p : Place) (xs : List (Operand Place)) (late : List ℕ) (u : File) (ys : List Noted) : Type 0 where
     at : At g k m ys
     registers : (r : ℕ) → r ≢ first_free → r ≢ second_free → IsOther g p r → reg g m r ≡ reg g n r
     input : (state g m).world.input ≡ (state g n).world.input
@@ -97,7 +96,7 @@ module _ (g : Given) where
     values_are : values places file xs ≡ values places t xs
 
   -- into the parameter's register at once
-  direct_runs : (k : Course) (P : ℕ → Type 0) (n f c q : ℕ) (late : List ℕ) (t u w : File) (xs : List (Operand Place)) (ys : List Item) (x : Operand Place) (v : Value) → Ready g f t n → operand_value places t x ≡ Some v → HasRoom g.layout.memory (frame g c) u → Awaits n c late u
+  direct_runs : (k : Course) (P : ℕ → Type 0) (n f c q : ℕ) (late : List ℕ) (t u w : File) (xs : List (Operand Place)) (ys : List Noted) (x : Operand Place) (v : Value) → Ready g f t n → operand_value places t x ≡ Some v → HasRoom g.layout.memory (frame g c) u → Awaits n c late u
       → write_place u (InRegister q) v ≡ Some w → is_member late q ≡ false → reads_register q xs ≡ false
       → At g k n (singles (into_code (frame g f) (machine_register q) x) ++ ys) → ((m : ℕ) → Argued k n m f c t (InRegister q) xs late w ys → Later P m) → Later P n
   direct_runs k P n f c q late t u w xs ys x v ready e room awaits written never unread h go =
@@ -155,7 +154,7 @@ module _ (g : Given) where
   slot_beside c i a late (InRegister r) homes other word = let less = position-below (frame g c).homes r (homes r word.0) in let is = word.1 in inr (omega arith)
   slot_beside c i a late (Slot j) homes other word = ⊎_elim (λ (h : i < j). inl (omega (arith, word))) (λ (h : j < i). inr (omega (arith, word))) (strict i j (λ e. other (ap Slot e)))
 
-  ready_stored : (k : Course) (n m f c a w : ℕ) (t : File) (ys : List Item) → f ≢ c → c < length g.layout.program.functions → IsFrameWord g.image (frame g c) a → Ready g f t n → Put g k n m a w ys → Ready g f t m
+  ready_stored : (k : Course) (n m f c a w : ℕ) (t : File) (ys : List Noted) → f ≢ c → c < length g.layout.program.functions → IsFrameWord g.image (frame g c) a → Ready g f t n → Put g k n m a w ys → Ready g f t m
   ready_stored k n m f c a w t ys other there word ready put =
       record {
         there = ready.there;
@@ -180,7 +179,7 @@ module _ (g : Given) where
           ∙ ready.shows (Slot j) x e
 
   -- into a word of the callee's frame
-  stored_runs : (k : Course) (P : ℕ → Type 0) (n f c a : ℕ) (late : List ℕ) (p : Place) (all : List Place) (t u w : File) (xs : List (Operand Place)) (ys : List Item) (x : Operand Place) (v : Value) → Between f c late → Ready g f t n → operand_value places t x ≡ Some v → Awaits n c late u
+  stored_runs : (k : Course) (P : ℕ → Type 0) (n f c a : ℕ) (late : List ℕ) (p : Place) (all : List Place) (t u w : File) (xs : List (Operand Place)) (ys : List Noted) (x : Operand Place) (v : Value) → Between f c late → Ready g f t n → operand_value places t x ≡ Some v → Awaits n c late u
       → write_place u p v ≡ Some w → IsFrameWord g.image (frame g c) a → IsWordOf c late p a
       → At g k n (singles (store_argument (frame g f) (frame g c) all x a) ++ ys) → ((m : ℕ) → Argued k n m f c t p xs late w ys → Later P m) → Later P n
   stored_runs k P n f c a late p all t u w xs ys x v between ready e awaits written word is h go =
@@ -189,7 +188,7 @@ module _ (g : Given) where
       let whole : code g v % 2 ^ 32 ≡ code g v = omega arith in
       let from = word.from in
       let to = word.to in
-      store_runs g k P n f c a t ys all x v ready e word.small word.aligned word.opens h
+      store_runs g k P n f c a t ys all x v ready e word.small word.aligned word.ram word.opens h
       (λ m b.
       let same : read g m Whole a ≡ Some (code g v) = b.same ∙ ap Some whole in
       go m
@@ -245,7 +244,7 @@ module _ (g : Given) where
       }
 
   -- the arguments were passed, to a function whose places have them as in u
-  pub record Passed (k : Course) (n m c : ℕ) (ps : List Place) (late : List ℕ) (u : File) (ys : List Item) : Type 0 where
+  pub record Passed (k : Course) (n m c : ℕ) (ps : List Place) (late : List ℕ) (u : File) (ys : List Noted) : Type 0 where
     pub at : At g k m ys
     pub registers : (r : ℕ) → r ≢ first_free → r ≢ second_free → ((q : ℕ) → is_member (registers_among ps) q ≡ true → r ≢ machine_register q) → reg g m r ≡ reg g n r
     pub input : (state g m).world.input ≡ (state g n).world.input
@@ -255,7 +254,7 @@ module _ (g : Given) where
     pub room : HasRoom g.layout.memory (frame g c) u
     pub inside : (q : ℕ) → is_member (registers_among ps) q ≡ true → q < 24
 
-  joined : (k : Course) (n m j f c : ℕ) (t u w : File) (p : Place) (ps : List Place) (xs : List (Operand Place)) (late : List ℕ) (zs ys : List Item) → ((q : ℕ) → p ≡ InRegister q → q < 24) → Argued k n m f c t p xs late u zs → Passed k m j c ps late w ys → Passed k n j c (p ∷ ps) late w ys
+  joined : (k : Course) (n m j f c : ℕ) (t u w : File) (p : Place) (ps : List Place) (xs : List (Operand Place)) (late : List ℕ) (zs ys : List Noted) → ((q : ℕ) → p ≡ InRegister q → q < 24) → Argued k n m f c t p xs late u zs → Passed k m j c ps late w ys → Passed k n j c (p ∷ ps) late w ys
   joined k n m j f c t u w p ps xs late zs ys inside a b =
       record {
         at = b.at;
@@ -277,13 +276,13 @@ module _ (g : Given) where
       inside_all (Slot i) h q e = b.inside q e
 
   -- the arguments behind one
-  abbrev Rest : Course → (ℕ → Type 0) → ℕ → ℕ → List ℕ → List Place → List (Operand Place) → List Place → List Item → List Value → File → Type 0
+  abbrev Rest : Course → (ℕ → Type 0) → ℕ → ℕ → List ℕ → List Place → List (Operand Place) → List Place → List Noted → List Value → File → Type 0
   Rest k P f c late all xs ps ys vs w =
       (m : ℕ) (t u : File) → Ready g f t m → values places t xs ≡ Some vs → HasRoom g.layout.memory (frame g c) u → Awaits m c late u → write_all places (Some u) ps vs ≡ Some w
       → At g k m (singles (pass_code (frame g f) (frame g c) all xs ps) ++ ys) → ((j : ℕ) → Passed k m j c ps late w ys → Later P j) → Later P m
 
   -- one argument and those behind it
-  passes : (k : Course) (P : ℕ → Type 0) (n f c : ℕ) (late : List ℕ) (all : List Place) (x : Operand Place) (xs : List (Operand Place)) (p : Place) (ps : List Place) (ys : List Item) (t u u2 w : File) (v : Value) (vs : List Value) → Between f c late → Ready g f t n
+  passes : (k : Course) (P : ℕ → Type 0) (n f c : ℕ) (late : List ℕ) (all : List Place) (x : Operand Place) (xs : List (Operand Place)) (p : Place) (ps : List Place) (ys : List Noted) (t u u2 w : File) (v : Value) (vs : List Value) → Between f c late → Ready g f t n
       → operand_value places t x ≡ Some v → values places t xs ≡ Some vs → HasRoom g.layout.memory (frame g c) u → Awaits n c late u → AreTold late all (x ∷ xs) (p ∷ ps) → write_place u p v ≡ Some u2 → write_all places (Some u2) ps vs ≡ Some w
       → At g k n (singles (pass_code (frame g f) (frame g c) all (x ∷ xs) (p ∷ ps)) ++ ys) → Rest k P f c late all xs ps ys vs w → ((m : ℕ) → Passed k n m c (p ∷ ps) late w ys → Later P m) → Later P n
   passes k P n f c late all x xs (Slot i) ps ys t u u2 w v vs between ready e es room awaits told written all_written h rest go =
@@ -298,7 +297,7 @@ module _ (g : Given) where
       by_direct (is_direct all q xs) refl
       (in_parts g k n (if is_direct all q xs then into_code (frame g f) (machine_register q) x else store_argument (frame g f) (frame g c) all x (home_at (frame g c) q)) (pass_code (frame g f) (frame g c) all xs ps) ys h)
     where
-      behind : List Item
+      behind : List Noted
       behind = singles (pass_code (frame g f) (frame g c) all xs ps) ++ ys
 
       inside : (r : ℕ) → InRegister q ≡ InRegister r → r < 24
@@ -318,7 +317,7 @@ module _ (g : Given) where
           stored_runs k P n f c (home_at (frame g c) q) late (InRegister q) all t u u2 xs behind x v between ready e awaits written (home_word g c q between.callee (between.homes q is_late)) (is_late, refl) z go_on
 
   -- all arguments
-  pub pass_runs : (k : Course) (P : ℕ → Type 0) (n f c : ℕ) (late : List ℕ) (all : List Place) (xs : List (Operand Place)) (ps : List Place) (ys : List Item) (vs : List Value) (t u w : File) → Between f c late → Ready g f t n
+  pub pass_runs : (k : Course) (P : ℕ → Type 0) (n f c : ℕ) (late : List ℕ) (all : List Place) (xs : List (Operand Place)) (ps : List Place) (ys : List Noted) (vs : List Value) (t u w : File) → Between f c late → Ready g f t n
       → values places t xs ≡ Some vs → HasRoom g.layout.memory (frame g c) u → Awaits n c late u → AreTold late all xs ps → write_all places (Some u) ps vs ≡ Some w
       → At g k n (singles (pass_code (frame g f) (frame g c) all xs ps) ++ ys) → ((m : ℕ) → Passed k n m c ps late w ys → Later P m) → Later P n
   pass_runs k P n f c late all [] [] ys [] t u w between ready e room awaits told written h go =

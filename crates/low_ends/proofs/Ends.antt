@@ -1,5 +1,5 @@
 -- Jumps and branches at the ends of blocks.
-use Rattle.std.proofs.Common.{◌≡◌, ◌≢◌, ⊎_elim, ℕ, zero, suc, ◌<◌, Bool, true, false, [], ◌∷◌, ◌++◌, length, Contains, Option, Some, None, refl, sym, ap, ◌∙◌, subst, arith}
+use Rattle.std.proofs.Common.{◌≡◌, ◌≢◌, ⊎_elim, ℕ, zero, suc, ◌<◌, Bool, true, false, [], ◌∷◌, ◌++◌, length, map, Contains, Option, Some, None, refl, sym, ap, ◌∙◌, subst, arith}
 use Rattle.std.specs.Prelude.{◌==◌, if◌then◌else◌, slice_get}
 use Rattle.std.proofs.lemmas.Bool.Decides.{nat_tests}
 use Rattle.std.proofs.lemmas.List.{append-nil}
@@ -24,13 +24,15 @@ use Rattle.low_ir.specs.Runs.{operand_value, block_in, enter, went_to, branches,
 use Rattle.low_ir.specs.Places.{places}
 use Rattle.low_items.specs.Numbers.{first_free, second_free}
 use Rattle.low_items.specs.Operands.{operand_register, operand_code}
-use Rattle.low_items.specs.Functions.{PlacedBlock, PlacedFunction, no_function, function_in, at_once, block_count, ends_at, ends_by, graph_of, singles, jump_items, body_items}
+use Rattle.low_items.specs.Functions.{PlacedBlock, PlacedFunction, no_function, function_in, at_once, block_count, ends_at, ends_by, graph_of, jump_items}
 use Rattle.low_items.proofs.GraphLemmas.{shaped}
+use Rattle.low_relation.specs.Noted.{noted, singles, noted_body}
 use Rattle.low_relation.specs.Positions.{Course}
 use Rattle.low_relation.specs.Views.{view_of}
 use Rattle.low_relation.specs.Following.{PlacedRunning}
 use Rattle.low_steps.proofs.Given.{Given, state, reg, read, At}
 use Rattle.low_steps.proofs.Places.{IsSteady}
+use Rattle.low_steps.proofs.Noting.{noted_code}
 use Rattle.low_steps.proofs.Operands.{frame, first_is_free, second_is_free, in_parts, ready_kept, operand, operand_apart}
 use Rattle.low_follow.proofs.Apart.{arrays_kept}
 use Rattle.low_follow.proofs.Plains.{Runs, Going_at, ready_of, body, course_in}
@@ -96,10 +98,10 @@ module _ (g : Given) where
 
   -- the end of the block's items, where the next block begins
   falls : (k : Course) (n : ℕ) → At g k n [] → Stood g n k.stop k.trace k.returns
-  falls k n h = record { running = h.running; count = h.count; here = h.code; events = sym (append-nil _) ∙ h.events; returns_are = h.returns; straight = h.straight; inside = h.inside }
+  falls k n h = record { running = h.running; count = h.count; here = h.code; events = sym (append-nil _) ∙ h.events; returns_are = h.returns; straight = h.straight; inside = h.inside; touches = h.touches }
 
   -- jump_items
-  jump_by : (r : PlacedRunning) (n m t : ℕ) (h : Going_at g r n) (next : Bool) → (t == suc h.block) ≡ next → (t ≡ zero → ⊥) → At g (course_in g r r.world h.block h.returns) m (jump_items g.layout.memory g.layout.program r.top.func next t)
+  jump_by : (r : PlacedRunning) (n m t : ℕ) (h : Going_at g r n) (next : Bool) → (t == suc h.block) ≡ next → (t ≡ zero → ⊥) → At g (course_in g r r.world h.block h.returns) m (map noted (jump_items g.layout.memory g.layout.program r.top.func next t))
       → ((q : ℕ) → IsSteady q → reg g m q ≡ reg g n q) → (state g m).world ≡ (state g n).world → Later (Runs g (went_to g.layout.program r t)) m
   jump_by r n m t h true is some at registers world =
       let l = g.layout in
@@ -138,7 +140,7 @@ module _ (g : Given) where
 
   pub jump_follows : (r : PlacedRunning) (n t : ℕ) (h : Going_at g r n) → r.top.code ≡ [] → r.top.end ≡ Jump t → Later (Runs g (went_to g.layout.program r t)) n
   jump_follows r n t h code_is end_is =
-      let at = subst (λ e. At g (course_in g r r.world h.block h.returns) n (body_items g.layout.memory g.layout.program r.top.func h.block [] e)) end_is (subst (λ c. At g (course_in g r r.world h.block h.returns) n (body g r h.block c)) code_is h.at) in
+      let at = subst (λ e. At g (course_in g r r.world h.block h.returns) n (noted_body g.layout.memory g.layout.program r.top.func h.block [] e)) end_is (subst (λ c. At g (course_in g r r.world h.block h.returns) n (body g r h.block c)) code_is h.at) in
       jump_by r n n t h (t == suc h.block) refl (leads_on r n t h (followed r n t h (Jump t) end_is (0, omega arith, refl))) at (λ q s. refl) refl
 
   pub branch_follows : (r : PlacedRunning) (n : ℕ) (c : Condition) (x y : Operand Place) (taken other : ℕ) (h : Going_at g r n) → r.top.code ≡ [] → r.top.end ≡ Branch c x y taken other
@@ -154,12 +156,15 @@ module _ (g : Given) where
       let k = course_in g r r.world h.block h.returns in
       let rx = operand_register fr first_free x in
       let ry = operand_register fr second_free y in
-      let rest = jump_items l.memory l.program f (other == suc h.block) other in
-      let behind = items.Branch Far c rx ry taken ∷ rest in
+      let jump = jump_items l.memory l.program f (other == suc h.block) other in
+      let rest = map noted jump in
+      let behind = noted (items.Branch Far c rx ry taken) ∷ rest in
       let goal = Runs g (branches l.program r (Some (if holds c u v then taken else other))) in
       let ready = ready_of g r n h in
-      let at = subst (λ e. At g k n (body_items l.memory l.program f h.block [] e)) end_is (subst (λ z. At g k n (body g r h.block z)) code_is h.at) in
-      operand g k goal n f first_free r.top.store (singles (operand_code fr second_free y) ++ behind) x (Word u) first_is_free ready e1 (in_parts g k n (operand_code fr first_free x) (operand_code fr second_free y) behind at)
+      let branch = operand_code fr first_free x ++ operand_code fr second_free y in
+      let at = subst (λ e. At g k n (noted_body l.memory l.program f h.block [] e)) end_is (subst (λ z. At g k n (body g r h.block z)) code_is h.at) in
+      let start = subst (λ z. At g k n z) (noted_code branch (items.Branch Far c rx ry taken ∷ jump)) at in
+      operand g k goal n f first_free r.top.store (singles (operand_code fr second_free y) ++ behind) x (Word u) first_is_free ready e1 (in_parts g k n (operand_code fr first_free x) (operand_code fr second_free y) behind start)
       (λ m a.
       let ready2 = ready_kept g f n m first_free r.top.store first_is_free ready a.world a.others in
       operand g k goal m f second_free r.top.store behind y (Word v) second_is_free ready2 e2 a.at

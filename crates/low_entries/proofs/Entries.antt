@@ -9,14 +9,15 @@ use Rattle.rv_core.specs.declared.row.Width.TheVariants.{Word as Whole}
 use Rattle.rv_core.specs.Arithmetic.{displaced, byte_count}
 use Rattle.rv_core.specs.Memory.{read_from}
 use Rattle.rv_core.specs.Machine.{World}
-use Rattle.code_items.specs.declared.item.Item.{Item}
 use Rattle.code_items.specs.declared.item.Item.TheVariants as items
 use Rattle.code_steps.specs.Steps.{Later}
 use Rattle.low_ir.specs.declared.run.Began.{Began}
 use Rattle.low_ir.specs.Effects.{is_member}
 use Rattle.low_items.specs.Numbers.{base, base_address, link, first_free, machine_register}
 use Rattle.low_items.specs.Frames.{return_at, saved_at}
-use Rattle.low_items.specs.Functions.{singles, is_frame_near, frame_code, frame_register, frame_offset, link_store, link_load, saves, loads, saves_nothing, entry_code, exit_code}
+use Rattle.low_items.specs.Functions.{is_frame_near, frame_code, frame_register, frame_offset, link_store, link_load, saves, loads, saves_nothing, entry_code, exit_code}
+use Rattle.laid_accesses.specs.Touches.{OfFrame}
+use Rattle.low_relation.specs.Noted.{Noted, noted, singles}
 use Rattle.low_relation.specs.Plans.{frame_size}
 use Rattle.low_relation.specs.Positions.{Course}
 use Rattle.low_relation.specs.Views.{view_of}
@@ -49,18 +50,18 @@ module _ (g : Given) where
     pub others : (r : ℕ) → r ≢ link → r ≢ first_free → ((q : ℕ) → is_member (frame g f).saved q ≡ true → r ≢ machine_register q) → reg g m r ≡ reg g n r
 
   -- the return address is in x1
-  record Linked (k : Course) (n m f : ℕ) (near : Bool) (to : ℕ) (xs : List Item) : Type 0 where
+  record Linked (k : Course) (n m f : ℕ) (near : Bool) (to : ℕ) (xs : List Noted) : Type 0 where
     at : At g k m xs
     world : (state g m).world ≡ (state g n).world
     value : reg g m link ≡ to
     others : (r : ℕ) → r ≢ link → reg g m r ≡ reg g n r
 
-  link_runs : (k : Course) (P : ℕ → Type 0) (n f to : ℕ) (near leaf : Bool) (xs : List Item) → f < length g.layout.program.functions → Reached g n f near → IsLinked leaf (frame g f) (view_of (state g n)) to
+  link_runs : (k : Course) (P : ℕ → Type 0) (n f to : ℕ) (near leaf : Bool) (xs : List Noted) → f < length g.layout.program.functions → Reached g n f near → IsLinked leaf (frame g f) (view_of (state g n)) to
       → At g k n (singles (link_load near (frame g f) leaf) ++ xs) → ((m : ℕ) → Linked k n m f near to xs → Later P m) → Later P n
   link_runs k P n f to near true xs there reached linked h go = go n (record { at = h; world = refl; value = linked; others = λ r o. refl })
   link_runs k P n f to near false xs there reached linked h go =
       let word = return_word_of f there in
-      load_one g k P n xs link (frame_register near) (frame_offset near (frame g f) (return_at (frame g f))) (return_at (frame g f)) to (omega arith) (omega arith) (reached (return_at (frame g f)) word.from word.small) word.aligned linked h
+      load_one g k P n xs link (frame_register near) (frame_offset near (frame g f) (return_at (frame g f))) (return_at (frame g f)) to (omega arith) (omega arith) (reached (return_at (frame g f)) word.from word.small) word.aligned word.ram linked h
       (λ m a. go m (record { at = a.at; world = a.world; value = a.value; others = a.others }))
 
   frame_apart_link : (near : Bool) → frame_register near ≢ link
@@ -69,7 +70,7 @@ module _ (g : Given) where
 
   leaves_by : (k : Course) (P : ℕ → Type 0) (n f to : ℕ) (leaf nothing near : Bool) (returns : List ℕ) → f < length g.layout.program.functions → reg g n base ≡ base_address → k.returns ≡ to ∷ returns → IsLinked leaf (frame g f) (view_of (state g n)) to → to ≤ 2 ^ 30 → to % 2 ≡ 0
       → saves_nothing leaf (frame g f) ≡ nothing
-      → At g k n (singles (if nothing then [] else (frame_code near (frame g f) ++ (link_load near (frame g f) leaf ++ loads near (frame g f) (frame g f).saved))) ++ items.Return ∷ []) → ((m : ℕ) → Left n m f to k.trace returns → Later P m) → Later P n
+      → At g k n (singles (if nothing then [] else (frame_code near (frame g f) ++ (link_load near (frame g f) leaf ++ loads near (frame g f) (frame g f).saved))) ++ noted items.Return ∷ []) → ((m : ℕ) → Left n m f to k.trace returns → Later P m) → Later P n
   leaves_by k P n f to leaf true near returns there based places linked small even none h go =
       let parts = and_parts leaf (length (frame g f).saved == 0) none in
       let empty = is_zero (length (frame g f).saved) parts.1 in
@@ -85,7 +86,7 @@ module _ (g : Given) where
       let fr = frame g f in
       let placed = g.laid.plan.frames f there in
       let top : fr.at + frame_size fr ≤ 0x2020_0000 = placed.in_ram.to in
-      let last = items.Return ∷ [] in
+      let last = noted items.Return ∷ [] in
       let second = link_load near fr leaf ++ loads near fr fr.saved in
       frame_runs g k P n f near (singles second ++ last) (omega arith) based (in_parts g k n (frame_code near fr) second last h)
       (λ m a.
@@ -108,11 +109,11 @@ module _ (g : Given) where
 
   -- a function leaves to where it was called from
   pub leaves : (k : Course) (P : ℕ → Type 0) (n f to : ℕ) (leaf : Bool) (returns : List ℕ) → f < length g.layout.program.functions → reg g n base ≡ base_address → k.returns ≡ to ∷ returns → IsLinked leaf (frame g f) (view_of (state g n)) to → to ≤ 2 ^ 30 → to % 2 ≡ 0
-      → At g k n (singles (exit_code leaf (frame g f)) ++ items.Return ∷ []) → ((m : ℕ) → Left n m f to k.trace returns → Later P m) → Later P n
+      → At g k n (singles (exit_code leaf (frame g f)) ++ noted items.Return ∷ []) → ((m : ℕ) → Left n m f to k.trace returns → Later P m) → Later P n
   leaves k P n f to leaf returns there based places linked small even h go = leaves_by k P n f to leaf (saves_nothing leaf (frame g f)) (is_frame_near (frame g f)) returns there based places linked small even refl h go
 
   -- the machine has entered a function
-  pub record Opened (k : Course) (n m f to : ℕ) (leaf : Bool) (xs : List Item) : Type 0 where
+  pub record Opened (k : Course) (n m f to : ℕ) (leaf : Bool) (xs : List Noted) : Type 0 where
     pub at : At g k m xs
     pub input : (state g m).world.input ≡ (state g n).world.input
     pub output : (state g m).world.output ≡ (state g n).world.output
@@ -122,7 +123,7 @@ module _ (g : Given) where
     pub beside : (y : Width) (a : ℕ) → (a + byte_count y ≤ (frame g f).at) ⊎ ((frame g f).at + 4 * (1 + length (frame g f).saved) ≤ a) → read g m y a ≡ read g n y a
 
   -- the return address is saved
-  record Kept (k : Course) (n m f to : ℕ) (leaf : Bool) (xs : List Item) : Type 0 where
+  record Kept (k : Course) (n m f to : ℕ) (leaf : Bool) (xs : List Noted) : Type 0 where
     at : At g k m xs
     input : (state g m).world.input ≡ (state g n).world.input
     output : (state g m).world.output ≡ (state g n).world.output
@@ -130,12 +131,12 @@ module _ (g : Given) where
     linked : IsLinked leaf (frame g f) (view_of (state g m)) to
     beside : (y : Width) (a : ℕ) → (a + byte_count y ≤ (frame g f).at) ⊎ ((frame g f).at + 4 ≤ a) → read g m y a ≡ read g n y a
 
-  keeps_link : (k : Course) (P : ℕ → Type 0) (n f to : ℕ) (near leaf : Bool) (xs : List Item) → f < length g.layout.program.functions → Reached g n f near → reg g n link ≡ to → to < 2 ^ 32
+  keeps_link : (k : Course) (P : ℕ → Type 0) (n f to : ℕ) (near leaf : Bool) (xs : List Noted) → f < length g.layout.program.functions → Reached g n f near → reg g n link ≡ to → to < 2 ^ 32
       → At g k n (singles (link_store near (frame g f) leaf) ++ xs) → ((m : ℕ) → Kept k n m f to leaf xs → Later P m) → Later P n
   keeps_link k P n f to near true xs there reached is small h go = go n (record { at = h; input = refl; output = refl; registers = λ r o. refl; linked = is; beside = λ y a o. refl })
   keeps_link k P n f to near false xs there reached is small h go =
       let word = return_word_of f there in
-      store_any g k P n 0 xs Sw Whole (frame_register near) link (frame_offset near (frame g f) (return_at (frame g f))) (return_at (frame g f)) to refl (reached (return_at (frame g f)) word.from word.small) word.aligned is word.opens h
+      store_any g k P n 0 xs OfFrame Sw Whole (frame_register near) link (frame_offset near (frame g f) (return_at (frame g f))) (return_at (frame g f)) to refl (reached (return_at (frame g f)) word.from word.small) word.aligned word.ram is word.opens h
       (λ m a. go m
       (record {
         at = a.at;
@@ -146,7 +147,7 @@ module _ (g : Given) where
         beside = λ y b o. a.beside y b o;
       }))
 
-  opens_by : (k : Course) (P : ℕ → Type 0) (n f to : ℕ) (leaf nothing near : Bool) (xs : List Item) → f < length g.layout.program.functions → reg g n base ≡ base_address → reg g n link ≡ to → to < 2 ^ 32 → saves_nothing leaf (frame g f) ≡ nothing
+  opens_by : (k : Course) (P : ℕ → Type 0) (n f to : ℕ) (leaf nothing near : Bool) (xs : List Noted) → f < length g.layout.program.functions → reg g n base ≡ base_address → reg g n link ≡ to → to < 2 ^ 32 → saves_nothing leaf (frame g f) ≡ nothing
       → At g k n (singles (if nothing then [] else (frame_code near (frame g f) ++ (link_store near (frame g f) leaf ++ saves near (frame g f) (frame g f).saved))) ++ xs) → ((m : ℕ) → Opened k n m f to leaf xs → Later P m) → Later P n
   opens_by k P n f to leaf true near xs there based is small none h go =
       let parts = and_parts leaf (length (frame g f).saved == 0) none in
@@ -187,7 +188,7 @@ module _ (g : Given) where
       frame_some true e = omega (arith, e)
       frame_some false e = omega (arith, e)
 
-      back_to_zero : {m j : ℕ} {ys : List Item} → Kept k m j f to leaf ys → (r : ℕ) → reg g j r ≡ reg g m r
+      back_to_zero : {m j : ℕ} {ys : List Noted} → Kept k m j f to leaf ys → (r : ℕ) → reg g j r ≡ reg g m r
       back_to_zero s zero = refl
       back_to_zero s (suc r) = s.registers (suc r) (λ e. omega (arith, e))
 
@@ -196,6 +197,6 @@ module _ (g : Given) where
       still false j i c e = c.beside Whole (return_at (frame g f)) (inl (omega arith)) ∙ e
 
   -- a function is entered with its return address in x1
-  pub opens : (k : Course) (P : ℕ → Type 0) (n f to : ℕ) (leaf : Bool) (xs : List Item) → f < length g.layout.program.functions → reg g n base ≡ base_address → reg g n link ≡ to → to < 2 ^ 32
+  pub opens : (k : Course) (P : ℕ → Type 0) (n f to : ℕ) (leaf : Bool) (xs : List Noted) → f < length g.layout.program.functions → reg g n base ≡ base_address → reg g n link ≡ to → to < 2 ^ 32
       → At g k n (singles (entry_code leaf (frame g f)) ++ xs) → ((m : ℕ) → Opened k n m f to leaf xs → Later P m) → Later P n
   opens k P n f to leaf xs there based is small h go = opens_by k P n f to leaf (saves_nothing leaf (frame g f)) (is_frame_near (frame g f)) xs there based is small refl h go

@@ -1,7 +1,8 @@
 -- Behind instructions that read and write arrays.
-use Rattle.std.proofs.Common.{◌≡◌, ◌≢◌, ◌⊎◌, ⊎_elim, inl, inr, ℕ, zero, suc, ◌+◌, ◌*◌, ◌/◌, ◌%◌, ◌^◌, ◌<◌, ◌≤◌, Bool, true, false, List, [], ◌∷◌, ◌++◌, length, Option, Some, None, refl, sym, ap, ◌∙◌, subst, arith, get_or-set_same, get_or-set_other, length-set}
+use Rattle.std.proofs.Common.{◌≡◌, ◌≢◌, ◌⊎◌, ⊎_elim, inl, inr, ℕ, zero, suc, ◌+◌, ◌*◌, ◌/◌, ◌%◌, ◌^◌, ◌<◌, ◌≤◌, Bool, true, false, List, [], ◌∷◌, ◌++◌, length, Option, Some, None, Contains, refl, sym, ap, ◌∙◌, subst, arith, get_or-set_same, get_or-set_other, length-set}
 use Rattle.std.specs.Prelude.{slice_get, slice_set, slice_index, slice_index_or}
 use Rattle.std.proofs.lemmas.Bool.{cases_eq}
+use Rattle.rv_core.specs.Regions.{region_of}
 use Rattle.rv_core.specs.declared.row.Width.{Width}
 use Rattle.rv_core.specs.declared.row.Width.TheVariants.{Word as Whole}
 use Rattle.rv_core.specs.Arithmetic.{byte_count, extended}
@@ -22,15 +23,17 @@ use Rattle.low_ir.specs.Runs.{operand_value, values_cons, values, goes_on, finis
 use Rattle.low_ir.specs.Places.{write_place, places}
 use Rattle.low_items.specs.Numbers.{base, machine_register}
 use Rattle.low_items.specs.Frames.{Memory, object_at}
+use Rattle.laid_accesses.specs.Touches.{OfArrays, named}
+use Rattle.low_relation.specs.Noted.{Noted}
 use Rattle.low_relation.specs.Plans.{frame_size, object_size}
 use Rattle.low_items.specs.Functions.{function_in, is_leaf}
-use Rattle.code_items.specs.declared.item.Item.{Item}
 use Rattle.low_relation.specs.Positions.{Course}
 use Rattle.low_relation.specs.Layouts.{IsOpen}
 use Rattle.low_relation.specs.Views.{view_of, Shows, HasElements, IsArray, HasArrays}
 use Rattle.low_relation.specs.Waiting.{IsIn, IsLinked}
 use Rattle.low_relation.specs.Following.{PlacedRunning, Holds}
 use Rattle.low_steps.proofs.Given.{Given, state, reg, read, At}
+use Rattle.low_steps.proofs.Touching.{region_of-part}
 use Rattle.low_steps.proofs.Places.{IsSteady, steady_is, open-part, within}
 use Rattle.low_steps.proofs.Operands.{frame, code, Gave}
 use Rattle.low_steps.proofs.Plain.{put_lays}
@@ -114,7 +117,7 @@ module _ (g : Given) where
       → there (values places r.top.store (address_reads a)) (λ xs. resolved g.layout.program.claims a xs (λ o k. gives r.world (Pointer o k))) ≡ did → Later (Runs g (finish places r is (Some d) did)) n
   point_follows r n is d a h code_is None e = now (Runs g (finish places r is (Some d) None)) n tt
   point_follows r n is d a h code_is (Some did) e =
-      let t = is_resolved g g.layout.program.claims r.top.store a.displacement (λ o k. gives r.world (Pointer o k)) did a.base a.offset e in
+      let t = is_resolved g r.top.store a.displacement (λ o k. gives r.world (Pointer o k)) did a.base a.offset e in
       let k = (t.start + t.offset + a.displacement) % 2 ^ 32 in
       let is_did : record { world = r.world; value = Pointer t.object k } ≡ did = let z = t.goes in cc in
       subst (λ x. Later (Runs g (finish places r is (Some d) (Some x))) n) is_did
@@ -127,6 +130,7 @@ module _ (g : Given) where
   pub record Element (n q k w : ℕ) (kind : Kind) : Type 0 where
     pub lands : (object_at mem q + k) % 2 ^ 32 ≡ object_at mem q + k
     pub aligned : (object_at mem q + k) % byte_count (width_of kind) ≡ 0
+    pub region : region_of (object_at mem q + k) ≡ Some (g.layout.regions q)
     pub found : read g n (width_of kind) (object_at mem q + k) ≡ Some (w % 2 ^ (8 * kind_bytes kind))
     pub keeps : converted kind w ≡ w
 
@@ -135,6 +139,7 @@ module _ (g : Given) where
     inside : k + byte_count (width_of kind) ≤ object_size x
     lands : (object_at mem q + k) % 2 ^ 32 ≡ object_at mem q + k
     aligned : (object_at mem q + k) % byte_count (width_of kind) ≡ 0
+    region : region_of (object_at mem q + k) ≡ Some (g.layout.regions q)
 
   lies : (q k : ℕ) (kind : Kind) (x : Object) → slice_get objects q ≡ Some x → kind ≡ x.kind → k % kind_bytes kind ≡ 0 → k / kind_bytes kind < x.size → Lies q k kind x
   lies q k kind x found same even less =
@@ -150,6 +155,7 @@ module _ (g : Given) where
         inside = there;
         lands = omega arith;
         aligned = ap (λ z. (object_at mem q + z) % byte_count (width_of kind)) (sym whole) ∙ aligned_sum kind (object_at mem q) (k / kind_bytes kind) (g.laid.plan.aligned q x found);
+        region = region_of-part (g.layout.regions q) (object_at mem q) (object_size x) (object_at mem q + k) (g.laid.plan.objects q x found) (omega arith) (omega arith);
       }
 
   element_of : (n q k w : ℕ) (c : Contents) (x : Object) → slice_get objects q ≡ Some x → IsArray mem q x c (view_of (state g n)) → k % kind_bytes c.kind ≡ 0 → slice_index_or c.elements (k / kind_bytes c.kind) None ≡ Some w → Element n q k w c.kind
@@ -161,6 +167,7 @@ module _ (g : Given) where
       record {
         lands = l.lands;
         aligned = l.aligned;
+        region = l.region;
         found = ap (λ z. read g n (width_of c.kind) (object_at mem q + z)) (sym (offset_is c.kind k even)) ∙ e.0;
         keeps = e.1;
       }
@@ -176,13 +183,13 @@ module _ (g : Given) where
       → there (values places r.top.store (address_reads a)) (λ xs. resolved g.layout.program.claims a xs (λ o k. there (loaded r.world.objects kind o k) (λ w. gives r.world (Word w)))) ≡ did → Later (Runs g (finish places r is (Some d) did)) n
   load_follows r n is kind d a h code_is None e = now (Runs g (finish places r is (Some d) None)) n tt
   load_follows r n is kind d a h code_is (Some did) e =
-      let t = is_resolved g g.layout.program.claims r.top.store a.displacement (λ o k. there (loaded r.world.objects kind o k) (λ w. gives r.world (Word w))) did a.base a.offset e in
-      by_value t.object t.start t.offset t.based t.moved (loaded r.world.objects kind t.object ((t.start + t.offset + a.displacement) % 2 ^ 32)) refl t.goes
+      let t = is_resolved g r.top.store a.displacement (λ o k. there (loaded r.world.objects kind o k) (λ w. gives r.world (Word w))) did a.base a.offset e in
+      by_value t.object t.start t.offset t.based t.claimed t.moved (loaded r.world.objects kind t.object ((t.start + t.offset + a.displacement) % 2 ^ 32)) refl t.goes
     where
-      by_value : (q b x : ℕ) → IsBase g r.top.store a.base q b → IsOffset g r.top.store a.offset x → (o : Option ℕ) → loaded r.world.objects kind q ((b + x + a.displacement) % 2 ^ 32) ≡ o → there o (λ w. gives r.world (Word w)) ≡ Some did
+      by_value : (q b x : ℕ) → IsBase g r.top.store a.base q b → Contains (named g.layout.program a.base) q → IsOffset g r.top.store a.offset x → (o : Option ℕ) → loaded r.world.objects kind q ((b + x + a.displacement) % 2 ^ 32) ≡ o → there o (λ w. gives r.world (Word w)) ≡ Some did
           → Later (Runs g (finish places r is (Some d) (Some did))) n
-      by_value q b x based moved None found z = absurd cc
-      by_value q b x based moved (Some w) found z =
+      by_value q b x based has moved None found z = absurd cc
+      by_value q b x based has moved (Some w) found z =
           let k = (b + x + a.displacement) % 2 ^ 32 in
           let same : record { world = r.world; value = Word w } ≡ did = cc in
           let el = element_at r n q k w kind h (is_loaded r.world.objects kind q k w (slice_get r.world.objects q) refl found) in
@@ -190,13 +197,13 @@ module _ (g : Given) where
           let small : w < 2 ^ 32 = subst (λ u. u < 2 ^ 32) el.keeps (converted-small kind w) in
           subst (λ u. Later (Runs g (finish places r is (Some d) (Some u))) n) same
           (give g r n (Load kind d a) is d (Word w) r.world h code_is refl small refl
-          (λ P inside go. load_lays g (course_in g r r.world h.block h.returns) P n r.top.func q b x a.displacement (object_at mem q + k) (w % 2 ^ (8 * kind_bytes kind)) r.top.store (body g r h.block is) kind a.base a.offset d (ready_of g r n h) based moved inside
-          el.lands el.aligned el.found (subst (λ u. u < 2 ^ 32) (sym value) small) (code_at g r n (Do (Load kind d a)) is h code_is)
+          (λ P inside go. load_lays g (course_in g r r.world h.block h.returns) P n r.top.func q b x a.displacement (object_at mem q + k) (w % 2 ^ (8 * kind_bytes kind)) r.top.store (body g r h.block is) (OfArrays (named g.layout.program a.base)) kind a.base a.offset d (ready_of g r n h) based moved inside
+          el.lands el.aligned (q, has, el.region) el.found (subst (λ u. u < 2 ^ 32) (sym value) small) (code_at g r n (Do (Load kind d a)) is h code_is)
           (λ m y. go m (outcome g r n m h.block h.returns is d w h.exchanges (subst (λ u. Gave g (course_in g r r.world h.block h.returns) n m r.top.func d u (body g r h.block is)) value y))))
           (write_place r.top.store d (Word w)) refl)
 
   -- an array behind a store to one of its elements
-  array_stored : (k : Course) (n m q b v : ℕ) (c : Contents) (x : Object) (xs : List Item) → IsArray mem q x c (view_of (state g n)) → b % kind_bytes c.kind ≡ 0 → b / kind_bytes c.kind < length c.elements
+  array_stored : (k : Course) (n m q b v : ℕ) (c : Contents) (x : Object) (xs : List Noted) → IsArray mem q x c (view_of (state g n)) → b % kind_bytes c.kind ≡ 0 → b / kind_bytes c.kind < length c.elements
       → Kept g k n m (width_of c.kind) (object_at mem q + b) v xs
       → IsArray mem q x (record { kind = c.kind; storage = c.storage; elements = slice_set c.elements (b / kind_bytes c.kind) (Some (converted c.kind v)) }) (view_of (state g m))
   array_stored k n m q b v c x xs array even less kept =
@@ -235,7 +242,7 @@ module _ (g : Given) where
           (cases_eq i (b / kind_bytes c.kind))
 
   -- what a store to array q leaves of the others
-  others_stored : (k : Course) (n m q b v : ℕ) (kind : Kind) (x : Object) (xs : List Item) → slice_get objects q ≡ Some x → b + byte_count (width_of kind) ≤ object_size x → Kept g k n m (width_of kind) (object_at mem q + b) v xs
+  others_stored : (k : Course) (n m q b v : ℕ) (kind : Kind) (x : Object) (xs : List Noted) → slice_get objects q ≡ Some x → b + byte_count (width_of kind) ≤ object_size x → Kept g k n m (width_of kind) (object_at mem q + b) v xs
       → (o : ℕ) (y : Object) → o ≢ q → slice_get objects o ≡ Some y → SameObject g.layout o y (view_of (state g n)) (view_of (state g m))
   others_stored k n m q b v kind x xs found inside kept o y other found2 w a from to =
       kept.beside w a
@@ -244,7 +251,7 @@ module _ (g : Given) where
       (λ (high : object_at mem q + object_size x ≤ object_at mem o). inr (omega arith))
       (g.laid.plan.objects_apart o q y x other found2 found))
 
-  words_stored : (k : Course) (n m q b v : ℕ) (kind : Kind) (x : Object) (xs : List Item) → slice_get objects q ≡ Some x → b + byte_count (width_of kind) ≤ object_size x → Kept g k n m (width_of kind) (object_at mem q + b) v xs
+  words_stored : (k : Course) (n m q b v : ℕ) (kind : Kind) (x : Object) (xs : List Noted) → slice_get objects q ≡ Some x → b + byte_count (width_of kind) ≤ object_size x → Kept g k n m (width_of kind) (object_at mem q + b) v xs
       → (f : ℕ) → f < length g.layout.program.functions → SameWords g.layout f (view_of (state g n)) (view_of (state g m))
   words_stored k n m q b v kind x xs found inside kept f below a from to =
       kept.beside Whole a
@@ -261,7 +268,7 @@ module _ (g : Given) where
   got_set (z ∷ xs) (suc n) (suc i) x y e =
       ⊎_elim (λ (h : (i ≡ n) × (x ≡ y)). inl (ap suc h.0, h.1)) (λ (h : (i ≢ n) × (slice_get xs i ≡ Some y)). inr (λ s. h.0 (omega (arith, s)), h.1)) (got_set xs n i x y e)
 
-  arrays_stored : (k : Course) (n m q b v : ℕ) (cs : List Contents) (c : Contents) (xs : List Item) → HasArrays mem objects cs (view_of (state g n)) → slice_get cs q ≡ Some c → b % kind_bytes c.kind ≡ 0 → b / kind_bytes c.kind < length c.elements
+  arrays_stored : (k : Course) (n m q b v : ℕ) (cs : List Contents) (c : Contents) (xs : List Noted) → HasArrays mem objects cs (view_of (state g n)) → slice_get cs q ≡ Some c → b % kind_bytes c.kind ≡ 0 → b / kind_bytes c.kind < length c.elements
       → Kept g k n m (width_of c.kind) (object_at mem q + b) v xs
       → HasArrays mem objects (slice_set cs q (record { kind = c.kind; storage = c.storage; elements = slice_set c.elements (b / kind_bytes c.kind) (Some (converted c.kind v)) })) (view_of (state g m))
   arrays_stored k n m q b v cs c xs arrays there_is even less kept o e is =
@@ -284,16 +291,16 @@ module _ (g : Given) where
       → there (values places r.top.store (address_reads a)) (λ xs. resolved g.layout.program.claims a xs (λ o k. there (stored r.world.objects kind o k v) (λ cs. changes (with_objects r.world cs)))) ≡ did → Later (Runs g (finish places r is None did)) n
   store_follows r n is kind a x h code_is v value None e = now (Runs g (finish places r is None None)) n tt
   store_follows r n is kind a x h code_is v value (Some did) e =
-      let t = is_resolved g g.layout.program.claims r.top.store a.displacement (λ o k. there (stored r.world.objects kind o k v) (λ cs. changes (with_objects r.world cs))) did a.base a.offset e in
-      by_objects t.object t.start t.offset t.based t.moved (stored r.world.objects kind t.object ((t.start + t.offset + a.displacement) % 2 ^ 32) v) refl t.goes
+      let t = is_resolved g r.top.store a.displacement (λ o k. there (stored r.world.objects kind o k v) (λ cs. changes (with_objects r.world cs))) did a.base a.offset e in
+      by_objects t.object t.start t.offset t.based t.claimed t.moved (stored r.world.objects kind t.object ((t.start + t.offset + a.displacement) % 2 ^ 32) v) refl t.goes
     where
       goal_of : World → ℕ → Type 0
       goal_of u m = Runs g (goes_on r is u (Some r.top.store)) m
 
-      by_contents : (q b y : ℕ) → IsBase g r.top.store a.base q b → IsOffset g r.top.store a.offset y → (z : Kind) (c : Contents) → c.kind ≡ z → z ≡ kind → slice_get r.world.objects q ≡ Some c → ((b + y + a.displacement) % 2 ^ 32) % kind_bytes c.kind ≡ 0
+      by_contents : (q b y : ℕ) → IsBase g r.top.store a.base q b → Contains (named g.layout.program a.base) q → IsOffset g r.top.store a.offset y → (z : Kind) (c : Contents) → c.kind ≡ z → z ≡ kind → slice_get r.world.objects q ≡ Some c → ((b + y + a.displacement) % 2 ^ 32) % kind_bytes c.kind ≡ 0
           → can_store c.storage ≡ true → (b + y + a.displacement) % 2 ^ 32 / kind_bytes c.kind < length c.elements
           → Later (Runs g (goes_on r is (with_objects r.world (slice_set r.world.objects q (record { kind = c.kind; storage = c.storage; elements = slice_set c.elements ((b + y + a.displacement) % 2 ^ 32 / kind_bytes c.kind) (Some (converted c.kind v)) }))) (Some r.top.store))) n
-      by_contents q b y based moved z c is_z is_kind there_is even may less =
+      by_contents q b y based has moved z c is_z is_kind there_is even may less =
           let k = (b + y + a.displacement) % 2 ^ 32 in
           let kinds : c.kind ≡ kind = is_z ∙ is_kind in
           let cs = slice_set r.world.objects q (record { kind = c.kind; storage = c.storage; elements = slice_set c.elements (k / kind_bytes c.kind) (Some (converted c.kind v)) }) in
@@ -308,7 +315,7 @@ module _ (g : Given) where
           let inside = subst (λ s. IsIn g.layout.program r.top.func h.block s r.top.end) code_is h.inside in
           let goal = Runs g (goes_on r is u (Some r.top.store)) in
           let place = course_in g r r.world h.block h.returns in
-          store_lays g place goal n r.top.func q b y a.displacement (object_at mem q + k) v r.top.store (body g r h.block is) c.kind a.base a.offset x (ready_of g r n h) based moved value l.lands l.aligned opens
+          store_lays g place goal n r.top.func q b y a.displacement (object_at mem q + k) v r.top.store (body g r h.block is) (OfArrays (named g.layout.program a.base)) c.kind a.base a.offset x (ready_of g r n h) based moved value l.lands l.aligned (q, has, l.region) opens
           (subst (λ s. At g place n (body g r h.block (Do (Store s a x) ∷ is))) (sym kinds) (code_at g r n (Do (Store kind a x)) is h code_is))
           (λ m w. now goal m
           (record {
@@ -320,10 +327,10 @@ module _ (g : Given) where
             at = w.at;
           }))
 
-      by_objects : (q b y : ℕ) → IsBase g r.top.store a.base q b → IsOffset g r.top.store a.offset y → (o : Option (List Contents)) → stored r.world.objects kind q ((b + y + a.displacement) % 2 ^ 32) v ≡ o → there o (λ cs. changes (with_objects r.world cs)) ≡ Some did
+      by_objects : (q b y : ℕ) → IsBase g r.top.store a.base q b → Contains (named g.layout.program a.base) q → IsOffset g r.top.store a.offset y → (o : Option (List Contents)) → stored r.world.objects kind q ((b + y + a.displacement) % 2 ^ 32) v ≡ o → there o (λ cs. changes (with_objects r.world cs)) ≡ Some did
           → Later (Runs g (finish places r is None (Some did))) n
-      by_objects q b y based moved None found z = absurd cc
-      by_objects q b y based moved (Some cs) found z =
+      by_objects q b y based has moved None found z = absurd cc
+      by_objects q b y based has moved (Some cs) found z =
           let k = (b + y + a.displacement) % 2 ^ 32 in
           let same : record { world = with_objects r.world cs; value = Word 0 } ≡ did = cc in
           let t = is_stored r.world.objects kind q k v cs (slice_get r.world.objects q) refl found in
@@ -331,4 +338,4 @@ module _ (g : Given) where
           t.is ∙ ap (λ s. slice_set r.world.objects q (record { kind = t.contents.kind; storage = t.contents.storage; elements = slice_set t.contents.elements (k / kind_bytes s) (Some (converted s v)) })) (sym t.kind_is) in
           subst (λ u. Later (Runs g (finish places r is None (Some u))) n) same
           (subst (λ s. Later (Runs g (goes_on r is (with_objects r.world s) (Some r.top.store))) n) (sym new)
-          (by_contents q b y based moved kind t.contents t.kind_is refl t.there (subst (λ s. k % kind_bytes s ≡ 0) (sym t.kind_is) t.aligned) t.may_store (subst (λ s. k / kind_bytes s < length t.contents.elements) (sym t.kind_is) t.inside)))
+          (by_contents q b y based has moved kind t.contents t.kind_is refl t.there (subst (λ s. k % kind_bytes s ≡ 0) (sym t.kind_is) t.aligned) t.may_store (subst (λ s. k / kind_bytes s < length t.contents.elements) (sym t.kind_is) t.inside)))

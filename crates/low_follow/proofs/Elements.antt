@@ -1,6 +1,7 @@
 -- Pointers, and elements of arrays that are loaded and stored; bytes that are written.
 use Rattle.std.proofs.Common.{◌≡◌, ◌≢◌, ◌⊎◌, inl, inr, ℕ, zero, suc, ◌+◌, ◌-◌, ◌*◌, ◌/◌, ◌%◌, ◌^◌, ◌<◌, ◌≤◌, Bool, true, false, List, [], ◌∷◌, ◌++◌, length, Option, Some, None, pos, negsuc, refl, sym, ap, ◌∙◌, arith}
 use Rattle.std.specs.Prelude.{◌==◌, ◌&&◌, nat_lt, if◌then◌else◌, slice_get, slice_set, slice_index_or}
+use Rattle.std.specs.List.{Contains}
 use Rattle.std.proofs.lemmas.Bool.{and_parts, ltb-true}
 use Rattle.std.proofs.lemmas.Bool.Decides.{nat_tests}
 use Rattle.wcc_base.specs.Signs.{signed_of}
@@ -20,6 +21,7 @@ use Rattle.low_ir.specs.Code.{Base, Fixed, Through, Address}
 use Rattle.low_ir.specs.Effects.{Contents, Did, base_reads, offset_reads, there, only_if, is_member, by_offset, resolved, is_element, element, can_store, takes, with_element}
 use Rattle.low_ir.specs.Runs.{values_cons, values}
 use Rattle.low_ir.specs.Places.{File, read_place, places}
+use Rattle.laid_accesses.specs.Touches.{named}
 use Rattle.low_steps.proofs.Given.{Given}
 use Rattle.low_steps.proofs.Accesses.{IsBase, IsOffset}
 use Rattle.low_follow.proofs.Holding.{strict}
@@ -130,41 +132,54 @@ pub record IsResolved (g : Given) (file : File) (y : Base Place) (o : Option Pla
   pub start : ℕ
   pub offset : ℕ
   pub based : IsBase g file y object start
+  pub claimed : Contains (named g.layout.program y) object
   pub moved : IsOffset g file o offset
   pub goes : go object ((start + offset + d) % 2 ^ 32) ≡ Some did
+
+-- a member is an element
+pub member_contains : (xs : List ℕ) (q : ℕ) → is_member xs q ≡ true → Contains xs q
+member_contains [] q e = cc
+member_contains (x ∷ xs) q e = by_test (x == q) refl e (member_contains xs q)
+  where
+    by_test : (b : Bool) → (x == q) ≡ b → (if b then true else is_member xs q) ≡ true → (is_member xs q ≡ true → Contains xs q) → Contains (x ∷ xs) q
+    by_test true t z go = (0, omega arith, same-number x q t)
+    by_test false t z go = let h = go z in (suc h.0, omega (arith, h.1), h.2)
 
 abbrev address_with : Base Place → Option Place → ℕ → Address Place
 address_with y o d = record { base = y; offset = o; displacement = d }
 
-module _ (g : Given) (claims : List (List ℕ)) (file : File) (d : ℕ) (go : ℕ → ℕ → Option Did) (did : Did) where
-  offset_of : (y : Base Place) (q n : ℕ) (p : Place) (o : Option Value) → read_place file p ≡ o → IsBase g file y q n → there (values_cons o (Some [])) (λ xs. by_offset (Some p) xs (λ w. go q ((n + w + d) % 2 ^ 32))) ≡ Some did → IsResolved g file y (Some p) d go did
-  offset_of y q n p None e is h = absurd cc
-  offset_of y q n p (Some (Pointer a b)) e is h = absurd cc
-  offset_of y q n p (Some (Word w)) e is h = record { object = q; start = n; offset = w; based = is; moved = e; goes = h }
+module _ (g : Given) (file : File) (d : ℕ) (go : ℕ → ℕ → Option Did) (did : Did) where
+  abbrev claims : List (List ℕ)
+  claims = g.layout.program.claims
+
+  offset_of : (y : Base Place) (q n : ℕ) (p : Place) (o : Option Value) → read_place file p ≡ o → IsBase g file y q n → Contains (named g.layout.program y) q → there (values_cons o (Some [])) (λ xs. by_offset (Some p) xs (λ w. go q ((n + w + d) % 2 ^ 32))) ≡ Some did → IsResolved g file y (Some p) d go did
+  offset_of y q n p None e is has h = absurd cc
+  offset_of y q n p (Some (Pointer a b)) e is has h = absurd cc
+  offset_of y q n p (Some (Word w)) e is has h = record { object = q; start = n; offset = w; based = is; claimed = has; moved = e; goes = h }
 
   pointer_of : (x : Place) (claim : ℕ) (o : Option Value) → read_place file x ≡ o → there (values_cons o (Some [])) (λ xs. resolved claims (address_with (Through x claim) None d) xs go) ≡ Some did → IsResolved g file (Through x claim) None d go did
   pointer_of x claim None e h = absurd cc
   pointer_of x claim (Some (Word w)) e h = absurd cc
-  pointer_of x claim (Some (Pointer q n)) e h = by_claim (is_member (slice_index_or claims claim []) q) h
+  pointer_of x claim (Some (Pointer q n)) e h = by_claim (is_member (slice_index_or claims claim []) q) refl h
     where
-      by_claim : (b : Bool) → only_if b (go q ((n + 0 + d) % 2 ^ 32)) ≡ Some did → IsResolved g file (Through x claim) None d go did
-      by_claim false z = absurd cc
-      by_claim true z = record { object = q; start = n; offset = 0; based = e; moved = refl; goes = z }
+      by_claim : (b : Bool) → is_member (slice_index_or claims claim []) q ≡ b → only_if b (go q ((n + 0 + d) % 2 ^ 32)) ≡ Some did → IsResolved g file (Through x claim) None d go did
+      by_claim false m z = absurd cc
+      by_claim true m z = record { object = q; start = n; offset = 0; based = e; claimed = member_contains (slice_index_or claims claim []) q m; moved = refl; goes = z }
 
   both_of : (x : Place) (claim : ℕ) (p : Place) (o c : Option Value) → read_place file x ≡ o → read_place file p ≡ c → there (values_cons o (values_cons c (Some []))) (λ xs. resolved claims (address_with (Through x claim) (Some p) d) xs go) ≡ Some did → IsResolved g file (Through x claim) (Some p) d go did
   both_of x claim p None c e1 e2 h = absurd cc
   both_of x claim p (Some a) None e1 e2 h = absurd cc
   both_of x claim p (Some (Word w)) (Some c) e1 e2 h = absurd cc
-  both_of x claim p (Some (Pointer q n)) (Some c) e1 e2 h = by_claim (is_member (slice_index_or claims claim []) q) h
+  both_of x claim p (Some (Pointer q n)) (Some c) e1 e2 h = by_claim (is_member (slice_index_or claims claim []) q) refl h
     where
-      by_claim : (b : Bool) → only_if b (by_offset (Some p) (c ∷ []) (λ w. go q ((n + w + d) % 2 ^ 32))) ≡ Some did → IsResolved g file (Through x claim) (Some p) d go did
-      by_claim false z = absurd cc
-      by_claim true z = offset_of (Through x claim) q n p (Some c) e2 e1 z
+      by_claim : (b : Bool) → is_member (slice_index_or claims claim []) q ≡ b → only_if b (by_offset (Some p) (c ∷ []) (λ w. go q ((n + w + d) % 2 ^ 32))) ≡ Some did → IsResolved g file (Through x claim) (Some p) d go did
+      by_claim false m z = absurd cc
+      by_claim true m z = offset_of (Through x claim) q n p (Some c) e2 e1 (member_contains (slice_index_or claims claim []) q m) z
 
   -- each address that stands for something is one of an object
   pub is_resolved : (y : Base Place) (o : Option Place) → there (values places file (base_reads y ++ offset_reads o)) (λ xs. resolved claims (address_with y o d) xs go) ≡ Some did → IsResolved g file y o d go did
-  is_resolved (Fixed q) None h = record { object = q; start = 0; offset = 0; based = (refl, refl); moved = refl; goes = h }
-  is_resolved (Fixed q) (Some p) h = offset_of (Fixed q) q 0 p (read_place file p) refl (refl, refl) h
+  is_resolved (Fixed q) None h = record { object = q; start = 0; offset = 0; based = (refl, refl); claimed = (0, omega arith, refl); moved = refl; goes = h }
+  is_resolved (Fixed q) (Some p) h = offset_of (Fixed q) q 0 p (read_place file p) refl (refl, refl) (0, omega arith, refl) h
   is_resolved (Through x claim) None h = pointer_of x claim (read_place file x) refl h
   is_resolved (Through x claim) (Some p) h = both_of x claim p (read_place file x) (read_place file p) refl refl h
 

@@ -7,7 +7,6 @@ use Rattle.rv_core.specs.declared.row.Alu.{Alu}
 use Rattle.rv_core.specs.Arithmetic.{alu_value}
 use Rattle.rv_core.specs.Machine as machine
 use Rattle.rv_core.specs.Memory.{read_from}
-use Rattle.code_items.specs.declared.item.Item.{Item}
 use Rattle.code_steps.specs.Steps.{Later}
 use Rattle.code_steps.proofs.LaterLemmas.{now}
 use Rattle.low_ir.specs.declared.places.Place.{Place}
@@ -20,7 +19,7 @@ use Rattle.low_ir.specs.Places.{File, write_place, places}
 use Rattle.low_items.specs.Numbers.{base, result}
 use Rattle.low_items.specs.Operands.{put_code}
 use Rattle.low_items.specs.Emission.{registers_among}
-use Rattle.low_items.specs.Functions.{singles, body_items}
+use Rattle.low_relation.specs.Noted.{Noted, singles, noted_body}
 use Rattle.low_relation.specs.Positions.{Course}
 use Rattle.low_relation.specs.Views.{view_of, IsLocated, HasRoom}
 use Rattle.low_relation.specs.Waiting.{IsIn}
@@ -58,8 +57,8 @@ module _ (g : Given) where
   pub ready_of : (r : PlacedRunning) (n : ℕ) → Going_at r n → Ready g r.top.func r.top.store n
   ready_of r n h = record { there = h.inside.there; based = h.holds.based; room = h.holds.room; shows = h.holds.shows }
 
-  abbrev pub body : PlacedRunning → ℕ → List (Instr Place (List ℕ)) → List Item
-  body r b is = body_items g.layout.memory g.layout.program r.top.func b is r.top.end
+  abbrev pub body : PlacedRunning → ℕ → List (Instr Place (List ℕ)) → List Noted
+  body r b is = noted_body g.layout.memory g.layout.program r.top.func b is r.top.end
 
   abbrev pub course_in : PlacedRunning → World → ℕ → List ℕ → Course
   course_in r u b returns = record { function = r.top.func; stop = g.layout.stops r.top.func b; trace = u.trace; returns = returns }

@@ -8,12 +8,11 @@ use Rattle.rv_core.specs.declared.row.Effect.TheVariants.{BranchIf}
 use Rattle.rv_core.specs.Rows.{row_of}
 use Rattle.rv_core.specs.Arithmetic.{signed, displaced, holds}
 use Rattle.rv_core.specs.Instructions.{instruction, ecall}
-use Rattle.rv_core.specs.Machine.{State, GoesTo, behind, branches, performed_by, register_of}
+use Rattle.rv_core.specs.Machine.{State, GoesTo, access_by, behind, branches, performed_by, register_of}
 use Rattle.rv_core.specs.Code.{instruction_before}
 use Rattle.rv_core.specs.Runs.{mrun, linkage_by}
 use Rattle.code_items.specs.declared.item.Form.{Form}
 use Rattle.code_items.specs.declared.item.Form.TheVariants.{Short, Inverted, Far}
-use Rattle.code_items.specs.declared.item.Item.{Item}
 use Rattle.code_items.specs.declared.item.Item.TheVariants as items
 use Rattle.code_items.specs.Offsets.{IsCodeAddress, offset}
 use Rattle.code_items.specs.Items.{branch_op, opposite, jump_words, branch_words, words, size, jump_size, form_size}
@@ -21,6 +20,7 @@ use Rattle.code_items.specs.Standing.{HasWords, is_exit}
 use Rattle.code_items.proofs.OffsetLemmas.{displaced-offset}
 use Rattle.code_steps.specs.Steps.{Later}
 use Rattle.low_ir.specs.declared.run.Began.{Began}
+use Rattle.low_relation.specs.Noted.{Noted, noted}
 use Rattle.low_relation.specs.Layouts.{HasCode}
 use Rattle.low_relation.specs.Positions.{seen, Course}
 use Rattle.low_steps.proofs.Given.{Given, run_of, state, reg, At}
@@ -60,7 +60,7 @@ branches_to imm false s = refl
 
 module _ (g : Given) where
   -- the machine goes on behind a branch; x7 may have been written
-  pub record Passed (k : Course) (n m : ℕ) (xs : List Item) : Type 0 where
+  pub record Passed (k : Course) (n m : ℕ) (xs : List Noted) : Type 0 where
     pub at : At g k m xs
     pub registers : (q : ℕ) → q ≢ 7 → reg g m q ≡ reg g n q
     pub world : (state g m).world ≡ (state g n).world
@@ -81,6 +81,7 @@ module _ (g : Given) where
       let i = instruction (branch_op c) 0 x y imm in
       let count = h.count in
       step_to g P n a trace returns i (if b then displaced a imm else (a + 4)) s.registers h fetched exit
+      (ap (λ e. access_by e i s) (branch_row c))
       (ap (λ e. linkage_by e (instruction_before s.world.memory s.pc) i) (branch_row c))
       (ap (λ e. performed_by e i s) (branch_row c)
       ∙ ap (λ z. branches imm (holds c z (reg g n y)) s) left
@@ -116,7 +117,7 @@ module _ (g : Given) where
   past_jump P n a trace returns c x y imm u v h low fetched exit left right is go = branch_step P n a trace returns (opposite c) x y imm u v true h low fetched exit left right (opposite_holds c u v false is) go
 
   -- the rest of the block behind a branch
-  goes_past : (k : Course) (n m a : ℕ) (to : ℕ) (xs : List Item) (trace : List Began) → trace ≡ k.trace → HasCode g.layout k.function k.stop to xs → ((b : ℕ) → to ≤ b → b < k.stop → g.layout.begins b ≡ []) → Moved g n m to trace k.returns (state g n).registers → Passed k n m xs
+  goes_past : (k : Course) (n m a : ℕ) (to : ℕ) (xs : List Noted) (trace : List Began) → trace ≡ k.trace → HasCode g.layout k.function k.stop to xs → ((b : ℕ) → to ≤ b → b < k.stop → g.layout.begins b ≡ []) → Moved g n m to trace k.returns (state g n).registers → Passed k n m xs
   goes_past k n m a to xs trace same code quiet w =
       record {
         at = to_run g k m to xs (subst (λ t. Stood g m to t k.returns) same w.stood) code quiet;
@@ -124,7 +125,7 @@ module _ (g : Given) where
         world = w.world;
       }
 
-  by_form : (k : Course) (P : ℕ → Type 0) (n a to next : ℕ) (form : Form) (c : Condition) (x y u v : ℕ) (xs : List Item) (trace : List Began) (b : Bool) → trace ++ g.layout.begins a ≡ k.trace → Stood g n a trace k.returns → IsCodeAddress a → IsCodeAddress to
+  by_form : (k : Course) (P : ℕ → Type 0) (n a to next : ℕ) (form : Form) (c : Condition) (x y u v : ℕ) (xs : List Noted) (trace : List Began) (b : Bool) → trace ++ g.layout.begins a ≡ k.trace → Stood g n a trace k.returns → IsCodeAddress a → IsCodeAddress to
       → HasWords g.layout.code a (branch_words form c x y a to) → g.layout.code.exit a ≡ false → next ≡ a + form_size form → next ≤ 2 ^ 30 → next ≤ k.stop → HasCode g.layout k.function k.stop next xs → ((e : ℕ) → a < e → e < k.stop → g.layout.begins e ≡ [])
       → reg g n x ≡ u → reg g n y ≡ v → holds c u v ≡ b → (b ≡ true → (m : ℕ) → Came g n m to k.trace k.returns → Later P m) → (b ≡ false → (m : ℕ) → Passed k n m xs → Later P m) → Later P n
   by_form k P n a to next Short c x y u v xs trace true done h from target words_are exit ends room inside code quiet left right is taken other =
@@ -160,7 +161,7 @@ module _ (g : Given) where
       (subst (λ z. Moved g n m z (trace ++ g.layout.begins a) k.returns (state g n).registers) twelve w)))
 
   -- a branch to a block, where the condition holds of two registers, or on
-  pub branch_lays : (k : Course) (P : ℕ → Type 0) (n t : ℕ) (form : Form) (c : Condition) (x y u v : ℕ) (xs : List Item) (b : Bool) → At g k n (items.Branch form c x y t ∷ xs) → reg g n x ≡ u → reg g n y ≡ v → holds c u v ≡ b
+  pub branch_lays : (k : Course) (P : ℕ → Type 0) (n t : ℕ) (form : Form) (c : Condition) (x y u v : ℕ) (xs : List Noted) (b : Bool) → At g k n (noted (items.Branch form c x y t) ∷ xs) → reg g n x ≡ u → reg g n y ≡ v → holds c u v ≡ b
       → (b ≡ true → (m : ℕ) → Came g n m (g.layout.starts k.function t) k.trace k.returns → Later P m) → (b ≡ false → (m : ℕ) → Passed k n m xs → Later P m) → Later P n
   branch_lays k P n t form c x y u v xs b h left right is taken other =
       let l = g.layout in
@@ -168,6 +169,6 @@ module _ (g : Given) where
       let stands = h.code.1 in
       let shape = stands.like.0 in
       let like : stands.form ≡ items.Branch shape c x y t = stands.like.1 in
-      by_form k P n a (l.starts k.function t) h.code.0 shape c x y u v xs (seen l (mrun (run_of g) n).visits) b h.events (stands_there g k n (items.Branch form c x y t) xs h) stands.address (g.laid.places k.function t)
+      by_form k P n a (l.starts k.function t) h.code.0 shape c x y u v xs (seen l (mrun (run_of g) n).visits) b h.events (stands_there g k n (noted (items.Branch form c x y t)) xs h) stands.address (g.laid.places k.function t)
       (subst (λ z. HasWords l.code a (words l.starts k.function a z)) like stands.words) (stands.exit ∙ ap is_exit like) (stands.ends ∙ ap (λ z. a + size z) like) stands.room
       (code_from l k.function k.stop h.code.0 xs h.code.2) h.code.2 h.quiet left right is taken other

@@ -9,7 +9,6 @@ use Rattle.rv_core.specs.Machine.{GoesTo, behind, register_of, with_register}
 use Rattle.rv_core.specs.Code.{decoded, instruction_before, instruction_at}
 use Rattle.rv_core.specs.Runs.{Calls, Returns, mrun, sets_upper, linkage_of_register, places_after, astray_after}
 use Rattle.rv_core.proofs.Constancy.{mrun-fetched}
-use Rattle.code_items.specs.declared.item.Item.{Item}
 use Rattle.code_items.specs.declared.item.Item.TheVariants as items
 use Rattle.code_items.specs.Offsets.{IsCodeAddress, offset, upper_part, lower_part}
 use Rattle.code_items.specs.Items.{jump_words, words, size, jump_size, return_word}
@@ -18,6 +17,7 @@ use Rattle.code_items.proofs.OffsetLemmas.{displaced-offset, displaced-parts}
 use Rattle.code_steps.specs.Steps.{Later}
 use Rattle.code_steps.proofs.StepLemmas.{register-written, register-other, length-written}
 use Rattle.low_ir.specs.declared.run.Began.{Began}
+use Rattle.low_relation.specs.Noted.{Noted, noted}
 use Rattle.low_relation.specs.Positions.{seen, Course, Rest}
 use Rattle.low_steps.proofs.Given.{Given, run_of, state, reg, At}
 use Rattle.low_steps.proofs.Stepping.{code_from}
@@ -54,7 +54,7 @@ module _ (g : Given) where
       let count = h.count in
       let low = from.low in
       let next : behind a ≡ back = behind_is a low ∙ sym ends in
-      step_linked g P n a trace returns (instruction Jal 1 0 0 (offset a to)) to (with_register s.registers 1 back) Calls h words_are.0 exit refl refl
+      step_linked g P n a trace returns (instruction Jal 1 0 0 (offset a to)) to (with_register s.registers 1 back) Calls h words_are.0 exit refl refl refl
       (ap (λ x. GoesTo (displaced x (offset a to)) (with_register s.registers 1 (behind x)) s.world) h.here
       ∙ ap (λ x. GoesTo x (with_register s.registers 1 (behind a)) s.world) (displaced-offset a to from target)
       ∙ ap (λ x. GoesTo to (with_register s.registers 1 x) s.world) next)
@@ -71,7 +71,7 @@ module _ (g : Given) where
       let count = h.count in
       let low = from.low in
       let u = displaced a (upper_part a to) in
-      step_to g P n a trace returns (instruction Auipc 7 0 0 (upper_part a to)) (a + 4) (with_register s.registers 7 u) h words_are.0 exit refl
+      step_to g P n a trace returns (instruction Auipc 7 0 0 (upper_part a to)) (a + 4) (with_register s.registers 7 u) h words_are.0 exit refl refl
       (ap (λ x. GoesTo (behind x) (with_register s.registers 7 (displaced x (upper_part a to))) s.world) h.here ∙ ap (λ x. GoesTo x (with_register s.registers 7 u) s.world) (behind_is a low))
       (length-written s.registers 7 u ∙ count)
       (λ m w.
@@ -82,7 +82,7 @@ module _ (g : Given) where
       let done = trace ++ g.layout.begins a in
       let here = w.stood.here in
       let next : behind (a + 4) ≡ back = omega arith in
-      step_linked g P m (a + 4) done returns i to (with_register t.registers 1 back) Calls w.stood words_are.1.0 (not_exit (a + 4) (lower_part a to) words_are.1.0 (g.layout.code.exit (a + 4)) refl)
+      step_linked g P m (a + 4) done returns i to (with_register t.registers 1 back) Calls w.stood words_are.1.0 (not_exit (a + 4) (lower_part a to) words_are.1.0 (g.layout.code.exit (a + 4)) refl) refl
       (far_calls (sets_upper (instruction_before t.world.memory t.pc) 7) (lower_part a to)) refl
       (ap (λ x. GoesTo (displaced x (lower_part a to) / 2 * 2) (with_register t.registers 1 (behind t.pc)) t.world) seven
       ∙ ap (λ x. GoesTo x (with_register t.registers 1 (behind t.pc)) t.world) (displaced-parts a to from target)
@@ -98,7 +98,7 @@ module _ (g : Given) where
       })))
 
   -- a call of a function, behind which the rest of the block goes on
-  pub call_lays : (k : Course) (P : ℕ → Type 0) (n f : ℕ) (far : Bool) (xs : List Item) → At g k n (items.Call far f ∷ xs)
+  pub call_lays : (k : Course) (P : ℕ → Type 0) (n f : ℕ) (far : Bool) (xs : List Noted) → At g k n (noted (items.Call far f) ∷ xs)
       → ((back m : ℕ) → Rest g.layout k.function k.stop back xs → Called n m (g.layout.starts f 0) back k.trace k.returns → Later P m) → Later P n
   call_lays k P n f far xs h go =
       let l = g.layout in
@@ -113,7 +113,7 @@ module _ (g : Given) where
       let some = jump_some form in
       let even = stands.address.aligned in
       let fours = jump_fours form in
-      call_runs P n a (l.starts f 0) back (seen l (mrun (run_of g) n).visits) k.returns form (stands_there g k n (items.Call far f) xs h) stands.address (g.laid.places f 0) ends stands.room words_are (stands.exit ∙ ap is_exit like)
+      call_runs P n a (l.starts f 0) back (seen l (mrun (run_of g) n).visits) k.returns form (stands_there g k n (noted (items.Call far f)) xs h) stands.address (g.laid.places f 0) ends stands.room words_are (stands.exit ∙ ap is_exit like)
       (λ is_far. h.quiet (a + 4) (omega arith) (let eight : jump_size form ≡ 8 = ap jump_size is_far in omega arith))
       (λ m c. go back m (record { aligned = omega arith; room = stands.room; code = h.code.2; quiet = λ b past less. h.quiet b (omega arith) less }) (subst (λ x. Called n m (l.starts f 0) back x k.returns) h.events c))
     where
@@ -140,7 +140,7 @@ module _ (g : Given) where
     pub world : (state g m).world ≡ (state g n).world
 
   -- a return to the latest place
-  pub return_lays : (k : Course) (P : ℕ → Type 0) (n to : ℕ) (returns : List ℕ) (xs : List Item) → At g k n (items.Return ∷ xs) → k.returns ≡ to ∷ returns → reg g n 1 ≡ to → to ≤ 2 ^ 30 → to % 2 ≡ 0
+  pub return_lays : (k : Course) (P : ℕ → Type 0) (n to : ℕ) (returns : List ℕ) (xs : List Noted) → At g k n (noted items.Return ∷ xs) → k.returns ≡ to ∷ returns → reg g n 1 ≡ to → to ≤ 2 ^ 30 → to % 2 ≡ 0
       → ((m : ℕ) → Returned n m to k.trace returns → Later P m) → Later P n
   return_lays k P n to returns xs h places link small even go =
       let l = g.layout in
@@ -152,7 +152,7 @@ module _ (g : Given) where
       let count = h.count in
       let lands : displaced to (pos 0) / 2 * 2 ≡ to = omega arith in
       let fine : astray_after Returns to k.returns ≡ false = ap (astray_after Returns to) places ∙ ap not (same_test to) in
-      step_linked g P n a (seen l (mrun (run_of g) n).visits) k.returns return_word to s.registers Returns (stands_there g k n items.Return xs h) words_are.0 (stands.exit ∙ ap is_exit like)
+      step_linked g P n a (seen l (mrun (run_of g) n).visits) k.returns return_word to s.registers Returns (stands_there g k n (noted items.Return) xs h) words_are.0 (stands.exit ∙ ap is_exit like) refl
       (plain_returns (sets_upper (instruction_before s.world.memory s.pc) 1) (before_none n)) fine
       (ap (λ x. GoesTo (displaced x (pos 0) / 2 * 2) s.registers s.world) link ∙ ap (λ x. GoesTo x s.registers s.world) lands)
       count

@@ -7,7 +7,6 @@ use Rattle.rv_core.specs.Instructions.{instruction}
 use Rattle.rv_core.specs.Machine.{GoesTo, behind, register_of, with_register}
 use Rattle.rv_core.specs.Code.{instruction_before}
 use Rattle.rv_core.specs.Runs.{Stays, mrun, sets_upper, linkage_of_register}
-use Rattle.code_items.specs.declared.item.Item.{Item}
 use Rattle.code_items.specs.declared.item.Item.TheVariants as items
 use Rattle.code_items.specs.Offsets.{IsCodeAddress, offset, upper_part, lower_part}
 use Rattle.code_items.specs.Items.{jump_words, words, size, jump_size}
@@ -16,6 +15,7 @@ use Rattle.code_items.proofs.OffsetLemmas.{displaced-offset, displaced-parts}
 use Rattle.code_steps.specs.Steps.{Later}
 use Rattle.code_steps.proofs.StepLemmas.{register-written, register-other, length-written}
 use Rattle.low_ir.specs.declared.run.Began.{Began}
+use Rattle.low_relation.specs.Noted.{Noted, noted}
 use Rattle.low_relation.specs.Positions.{seen, Course}
 use Rattle.low_steps.proofs.Given.{Given, run_of, state, reg, At}
 use Rattle.low_steps.proofs.Stepping.{code_from}
@@ -49,7 +49,7 @@ module _ (g : Given) where
   jump_runs P n a to trace returns false h from target room words_are exit quiet go =
       let s = state g n in
       let count = h.count in
-      step_to g P n a trace returns (instruction Jal 0 0 0 (offset a to)) to s.registers h words_are.0 exit refl
+      step_to g P n a trace returns (instruction Jal 0 0 0 (offset a to)) to s.registers h words_are.0 exit refl refl
       (ap (λ x. GoesTo (displaced x (offset a to)) s.registers s.world) h.here ∙ ap (λ x. GoesTo x s.registers s.world) (displaced-offset a to from target)) count
       (λ m w. go m (record { stood = w.stood; registers = λ q other. ap (λ r. register_of r q) w.registers_are; world = w.world }))
   jump_runs P n a to trace returns true h from target room words_are exit quiet go =
@@ -57,7 +57,7 @@ module _ (g : Given) where
       let count = h.count in
       let low = from.low in
       let u = displaced a (upper_part a to) in
-      step_to g P n a trace returns (instruction Auipc 7 0 0 (upper_part a to)) (a + 4) (with_register s.registers 7 u) h words_are.0 exit refl
+      step_to g P n a trace returns (instruction Auipc 7 0 0 (upper_part a to)) (a + 4) (with_register s.registers 7 u) h words_are.0 exit refl refl
       (ap (λ x. GoesTo (behind x) (with_register s.registers 7 (displaced x (upper_part a to))) s.world) h.here ∙ ap (λ x. GoesTo x (with_register s.registers 7 u) s.world) (behind_is a low))
       (length-written s.registers 7 u ∙ count)
       (λ m w.
@@ -66,7 +66,7 @@ module _ (g : Given) where
       let seven : reg g m 7 ≡ u = ap (λ r. register_of r 7) w.registers_are ∙ register-written s.registers 7 u (omega arith) (omega arith) in
       let later_count = w.stood.count in
       let done = trace ++ g.layout.begins a in
-      step_to g P m (a + 4) done returns i to t.registers w.stood words_are.1.0 (not_exit (a + 4) (lower_part a to) words_are.1.0 (g.layout.code.exit (a + 4)) refl)
+      step_to g P m (a + 4) done returns i to t.registers w.stood words_are.1.0 (not_exit (a + 4) (lower_part a to) words_are.1.0 (g.layout.code.exit (a + 4)) refl) refl
       (far_stays (sets_upper (instruction_before t.world.memory t.pc) 7) (lower_part a to))
       (ap (λ x. GoesTo (displaced x (lower_part a to) / 2 * 2) t.registers t.world) seven ∙ ap (λ x. GoesTo x t.registers t.world) (displaced-parts a to from target))
       later_count
@@ -78,7 +78,7 @@ module _ (g : Given) where
       })))
 
   -- a jump to a block
-  pub jump_lays : (k : Course) (P : ℕ → Type 0) (n t : ℕ) (far : Bool) (xs : List Item) → At g k n (items.Jump far t ∷ xs) → ((m : ℕ) → Came n m (g.layout.starts k.function t) k.trace k.returns → Later P m) → Later P n
+  pub jump_lays : (k : Course) (P : ℕ → Type 0) (n t : ℕ) (far : Bool) (xs : List Noted) → At g k n (noted (items.Jump far t) ∷ xs) → ((m : ℕ) → Came n m (g.layout.starts k.function t) k.trace k.returns → Later P m) → Later P n
   jump_lays k P n t far xs h go =
       let l = g.layout in
       let a = (state g n).pc in
@@ -91,6 +91,6 @@ module _ (g : Given) where
       let room = stands.room in
       let rest = code_from l k.function k.stop h.code.0 xs h.code.2 in
       let target = l.starts k.function t in
-      jump_runs P n a target (seen l (mrun (run_of g) n).visits) k.returns form (stands_there g k n (items.Jump far t) xs h) stands.address (g.laid.places k.function t) (omega arith) words_are exit
+      jump_runs P n a target (seen l (mrun (run_of g) n).visits) k.returns form (stands_there g k n (noted (items.Jump far t)) xs h) stands.address (g.laid.places k.function t) (omega arith) words_are exit
       (λ is_far. h.quiet (a + 4) (omega arith) (let eight : jump_size form ≡ 8 = ap jump_size is_far in omega arith))
       (λ m c. go m (subst (λ x. Came n m target x k.returns) h.events c))

@@ -1,11 +1,13 @@
 -- The image of a program is laid as its layout says.
-use Rattle.std.proofs.Common.{◌≡◌, ℕ, ◌+◌, ◌<◌, ◌≤◌, Bool, true, false, [], length, refl, sym, arith, if◌then◌else◌}
-use Rattle.std.specs.Prelude.{◌==◌}
+use Rattle.std.proofs.Common.{◌≡◌, ℕ, ◌+◌, ◌<◌, ◌≤◌, Bool, true, false, [], length, map, Contains, refl, sym, subst, arith, if◌then◌else◌}
+use Rattle.std.specs.Prelude.{◌==◌, All, slice_index_or}
 use Rattle.std.proofs.lemmas.Bool.{false≢true}
 use Rattle.std.proofs.lemmas.Bool.Decides.{nat_tests}
+use Rattle.std.proofs.lemmas.List.Elements.{All-contains_itself}
 use Rattle.flow_system.specs.Claims.{Claims}
 use Rattle.flow_system.specs.Moves.{Code, code_of}
-use Rattle.code_items.specs.Placings.{Placing, block_of}
+use Rattle.code_items.specs.Placings.{Placing, base_of, block_of, blocks_of}
+use Rattle.code_writing.specs.Forms.{AreLike}
 use Rattle.code_forms.proofs.LikeLemmas.{formed_like}
 use Rattle.placed_code.proofs.Alike.{block_alike}
 use Rattle.laid_code.specs.Graphs.{Graph}
@@ -13,8 +15,11 @@ use Rattle.laid_code.specs.Laid.{IsImageOf}
 use Rattle.laid_code.proofs.ReachedLemmas.{starts_next, ends_within}
 use Rattle.low_ir.specs.Places.{Placed}
 use Rattle.low_items.specs.Formed.{IsProgram}
-use Rattle.low_items.specs.Functions.{function_in, at_once, graph_of, items_at}
+use Rattle.low_items.specs.Functions.{function_in, at_once, graph_of}
 use Rattle.low_sound.specs.Ranges.{InProgram}
+use Rattle.laid_accesses.specs.Lines.{items_accesses}
+use Rattle.laid_accesses.specs.Touches.{program_touches}
+use Rattle.low_relation.specs.Noted.{noted_at}
 use Rattle.low_relation.specs.Layouts.{Layout, HasCode, IsLaid}
 use Rattle.low_planned.specs.Laws.{KeepsRegisters}
 use Rattle.low_planned.proofs.PlanLemmas.{is_plan}
@@ -24,7 +29,8 @@ use Rattle.low_image.proofs.LaidLemmas.{image_is, placed_even}
 use Rattle.low_loaded.specs.Layouts.{layout_of}
 use Rattle.low_loaded.proofs.BegunLemmas.{begins_alone, begins_none}
 use Rattle.low_loaded.proofs.ExitLemmas.{exits_call}
-use Rattle.low_loaded.proofs.CodeLemmas.{has_code}
+use Rattle.low_loaded.proofs.NotedLemmas.{touch_of, items_are, touches_are}
+use Rattle.low_loaded.proofs.CodeLemmas.{block_accesses, has_code}
 use Rattle.low_loaded.proofs.OpenLemmas.{memory_open}
 
 count_by : (t : Bool) (n k : ℕ) → t ≡ false → n ≤ (if t then 1 else n + k)
@@ -54,12 +60,19 @@ module _ (pl : Placement) (p : Placed) (formed : IsProgram p) (sound : InProgram
   few : (f : ℕ) → f < length p.functions → length (function_in p f).blocks ≤ g.blocks f
   few f less = count_by (f == length p.functions) (length (function_in p f).blocks) (if at_once (memory_of pl p) p f then 0 else 1) (grind (arith, nat_tests, less))
 
-  code : (f b : ℕ) → f < g.functions → b < g.blocks f → HasCode l f (l.stops f b) (l.starts f b) (items_at (memory_of pl p) p f b)
+  -- what a block accesses is among the accesses of its function
+  listed : (f b : ℕ) → f ≤ length p.functions → All (Contains (l.accesses f)) (items_accesses l.regions (l.starts f b) (map touch_of (noted_at (memory_of pl p) p f b)) (block_of place f b))
+  listed f b there =
+      subst (λ ts. All (Contains (l.accesses f)) (items_accesses l.regions (l.starts f b) ts (block_of place f b))) (sym (touches_are (memory_of pl p) p f b there))
+      (block_accesses (Contains (l.accesses f)) l.regions (base_of place f) (slice_index_or (program_touches (memory_of pl p) p) f []) (blocks_of place f) b (All-contains_itself (l.accesses f)))
+
+  code : (f b : ℕ) → f < g.functions → b < g.blocks f → HasCode l f (l.stops f b) (l.starts f b) (noted_at (memory_of pl p) p f b)
   code f b i j =
       let end = ends_within g place c here.shaped here.laid f b j in
       let room = here.laid.room f i in
-      has_code l f (l.stops f b) (l.starts f b) (items_at (memory_of pl p) p f b) (block_of place f b)
-      (block_alike (items_in pl p) (formed_in pl p) f b (formed_like (rows_in pl p) (items_in pl p))) (here.laid.stands f b i j) (here.laid.places f b).aligned refl (omega (arith, end, room))
+      let there : f ≤ length p.functions = omega (arith, i) in
+      has_code l f (l.stops f b) (l.starts f b) (noted_at (memory_of pl p) p f b) (block_of place f b) there
+      (subst (λ xs. AreLike xs (block_of place f b)) (sym (items_are (memory_of pl p) p f b there)) (block_alike (items_in pl p) (formed_in pl p) f b (formed_like (rows_in pl p) (items_in pl p)))) (here.laid.stands f b i j) (listed f b there) (here.laid.places f b).aligned refl (omega (arith, end, room))
 
   pub is_laid : IsLaid l (image_in pl p)
   is_laid = record {

@@ -1,5 +1,6 @@
 pub mod BegunLemmas
 pub mod ExitLemmas
+pub mod NotedLemmas
 pub mod CodeLemmas
 pub mod OpenLemmas
 pub mod LaidLemmas

@@ -9,7 +9,8 @@ use Rattle.low_items.specs.Functions.{function_in}
 use Rattle.low_relation.specs.Layouts.{Layout}
 use Rattle.low_frames.specs.Needs.{needed_of}
 use Rattle.low_frames.specs.Memories.{Placement, memory_of, regions_of}
-use Rattle.low_image.specs.Images.{placing_in, image_in, exits_in}
+use Rattle.low_image.specs.Images.{rows_in, placing_in, image_in, exits_in}
+use Rattle.laid_claims.specs.Listed.{accesses_in}
 
 -- what begins at address a, if blocks begin where s says
 module _ (s : Starts) (a : ℕ) where
@@ -34,4 +35,5 @@ module _ (pl : Placement) (p : Placed) where
     stops = λ f b. start_of (placing_in pl p) f b + total (block_of (placing_in pl p) f b);
     code = code_by (image_in pl p) (exits_in pl p);
     begins = λ a. functions_begun (start_of (placing_in pl p)) a p (length p.functions);
+    accesses = accesses_in (record { program = p; memory = memory_of pl p; regions = regions_of pl p; rows = rows_in pl p });
   }

@@ -3,12 +3,13 @@ use Rattle.std.proofs.Common.{◌≡◌, ◌≢◌, ◌⊎◌, ⊎_elim, ℕ, �
 use Rattle.std.specs.Prelude.{◌==◌, if◌then◌else◌, slice_index_or, slice_set}
 use Rattle.std.proofs.lemmas.Bool.{cases_eq}
 use Rattle.std.proofs.lemmas.Bool.Decides.{nat_tests}
+use Rattle.rv_core.specs.declared.regions.Region.TheVariants.{Ram}
+use Rattle.rv_core.specs.Regions.{region_of}
 use Rattle.rv_core.specs.declared.row.Width.{Width}
 use Rattle.rv_core.specs.declared.row.Width.TheVariants.{Word as Whole}
 use Rattle.rv_core.specs.Arithmetic.{byte_count}
 use Rattle.rv_core.specs.Memory.{read_from}
 use Rattle.rv_core.specs.Machine.{World}
-use Rattle.code_items.specs.declared.item.Item.{Item}
 use Rattle.code_steps.specs.Steps.{Later}
 use Rattle.low_ir.specs.declared.places.Place.{Place}
 use Rattle.low_ir.specs.declared.places.Place.TheVariants.{Register as InRegister, Slot}
@@ -20,7 +21,7 @@ use Rattle.low_items.specs.Numbers.{base, first_free, second_free, machine_regis
 use Rattle.low_items.specs.Frames.{slot_at}
 use Rattle.low_items.specs.Operands.{operand_register, operand_code, store_code}
 use Rattle.low_items.specs.Emission.{reads_register, store_argument}
-use Rattle.low_items.specs.Functions.{singles}
+use Rattle.low_relation.specs.Noted.{Noted, singles}
 use Rattle.low_relation.specs.Positions.{Course}
 use Rattle.low_relation.specs.Views.{view_of, Shows}
 use Rattle.low_relation.specs.Layouts.{IsOpen}
@@ -67,7 +68,7 @@ reads-rest q (Register (InRegister r)) xs e = by_test (q == r) e
 
 module _ (g : Given) where
   -- the caller's other values still stand where they were, once a register has an argument
-  pub ready_unset : (k : Course) (n m f q v : ℕ) (t : File) (xs : List Item) → q < 24 → Ready g f t n → Wrote g k n m (machine_register q) v xs → Ready g f (unset t q) m
+  pub ready_unset : (k : Course) (n m f q v : ℕ) (t : File) (xs : List Noted) → q < 24 → Ready g f t n → Wrote g k n m (machine_register q) v xs → Ready g f (unset t q) m
   ready_unset k n m f q v t xs less r w =
       let long = r.room.registers in
       record {
@@ -90,7 +91,7 @@ module _ (g : Given) where
       shows (Slot j) x e = ap (λ (z : World). read_from (λ b. b.read) Whole z.memory (slot_at (frame g f) j)) w.world ∙ r.shows (Slot j) x e
 
   -- an argument that goes to a word of memory
-  pub record Put (k : Course) (n m a w : ℕ) (xs : List Item) : Type 0 where
+  pub record Put (k : Course) (n m a w : ℕ) (xs : List Noted) : Type 0 where
     pub at : At g k m xs
     pub registers : (r : ℕ) → r ≢ first_free → r ≢ second_free → reg g m r ≡ reg g n r
     pub input : (state g m).world.input ≡ (state g n).world.input
@@ -98,13 +99,13 @@ module _ (g : Given) where
     pub same : read g m Whole a ≡ Some (w % 2 ^ 32)
     pub beside : (y : Width) (b : ℕ) → (b + byte_count y ≤ a) ⊎ (a + 4 ≤ b) → read g m y b ≡ read g n y b
 
-  pub store_runs : (k : Course) (P : ℕ → Type 0) (n f c a : ℕ) (t : File) (xs : List Item) (all : List Place) (x : Operand Place) (v : Value) → Ready g f t n → operand_value places t x ≡ Some v → a < 2 ^ 32 → a % 4 ≡ 0 → IsOpen g.image a 4
+  pub store_runs : (k : Course) (P : ℕ → Type 0) (n f c a : ℕ) (t : File) (xs : List Noted) (all : List Place) (x : Operand Place) (v : Value) → Ready g f t n → operand_value places t x ≡ Some v → a < 2 ^ 32 → a % 4 ≡ 0 → region_of a ≡ Some Ram → IsOpen g.image a 4
       → At g k n (singles (store_argument (frame g f) (frame g c) all x a) ++ xs) → ((m : ℕ) → Put k n m a (code g v) xs → Later P m) → Later P n
-  store_runs k P n f c a t xs all x v ready e small aligned opens h go =
+  store_runs k P n f c a t xs all x v ready e small aligned inside opens h go =
       let r = operand_register (frame g f) first_free x in
       let rest = store_code second_free r a in
       operand g k P n f first_free t (singles rest ++ xs) x v first_is_free ready e (in_parts g k n (operand_code (frame g f) first_free x) rest xs h)
-      (λ m p. store g k P m xs second_free r a (code g v) (omega arith) (omega arith) (operand_apart g f n t x v ready e) (ready_kept g f n m first_free t first_is_free ready p.world p.others).based small aligned p.value opens p.at
+      (λ m p. store g k P m xs second_free r a (code g v) (omega arith) (omega arith) (operand_apart g f n t x v ready e) (ready_kept g f n m first_free t first_is_free ready p.world p.others).based small aligned inside p.value opens p.at
       (λ j q. go j
       (record {
         at = q.at;

@@ -9,9 +9,10 @@ use Rattle.low_ir.specs.Runs.{Running, Run, Going, Done, Bad}
 use Rattle.low_ir.specs.Places.{File}
 use Rattle.low_items.specs.Numbers.{base, base_address}
 use Rattle.low_items.specs.Frames.{frame_of}
-use Rattle.low_items.specs.Functions.{function_in, is_leaf, body_items}
+use Rattle.low_items.specs.Functions.{function_in, is_leaf}
+use Rattle.low_relation.specs.Noted.{noted_body}
 use Rattle.low_relation.specs.Layouts.{Layout}
-use Rattle.low_relation.specs.Positions.{seen, Course, state, At}
+use Rattle.low_relation.specs.Positions.{seen, Touches, Course, state, At}
 use Rattle.low_relation.specs.Views.{View, view_of, HasRoom, Shows, HasArrays}
 use Rattle.low_relation.specs.Waiting.{IsIn, Returns, AreWaiting, IsLinked, register_in}
 
@@ -49,7 +50,7 @@ module _ (l : Layout) (s : Setup) where
     pub returns : List ℕ
     pub holds : Holds l r (view_of (state l s n)) returns
     pub exchanges : Exchanges r.world n
-    pub at : At l s (course r block returns) n (body_items l.memory l.program r.top.func block r.top.code r.top.end)
+    pub at : At l s (course r block returns) n (noted_body l.memory l.program r.top.func block r.top.code r.top.end)
 
   -- the run has ended at an exit, and so has the machine, with the same value
   pub record Ends (value : ℕ) (u : World) (n : ℕ) : Type 0 where
@@ -63,6 +64,7 @@ module _ (l : Layout) (s : Setup) where
     pub visits : (mrun s n).visits ≡ last ∷ earlier
     pub exit : l.code.exit last.at ≡ true
     pub inside : All (λ v. l.code.exit v.at ≡ false) earlier
+    pub touches : All (Touches l) (mrun s n).visits
 
   abbrev pub Follows : PlacedRun → ℕ → Type 0
   Follows (Going r) n = Goes r n

@@ -1,5 +1,5 @@
 -- Laid programs: where the blocks of a program stand in the code of an image, and what that has to meet.
-use Rattle.std.specs.Prelude.{◌≡◌, ◌⊎◌, ℕ, suc, ◌+◌, ◌^◌, ◌<◌, ◌≤◌, true, false, List, [], ◌∷◌, length, Option, Some, None, Contains, slice_get}
+use Rattle.std.specs.Prelude.{◌≡◌, ◌⊎◌, ℕ, suc, ◌+◌, ◌^◌, ◌<◌, ◌≤◌, true, false, List, [], ◌∷◌, length, Option, Some, None, All, Contains, slice_get}
 use Rattle.rv_core.specs.declared.regions.Region.{Region}
 use Rattle.rv_core.specs.Images.{Image}
 use Rattle.rv_core.specs.Memory.{loaded}
@@ -20,10 +20,13 @@ use Rattle.low_ir.specs.Effects.{can_store}
 use Rattle.low_ir.specs.Places.{Placed}
 use Rattle.low_items.specs.Frames.{Memory, frame_of, object_at}
 use Rattle.low_items.specs.Formed.{IsProgram}
-use Rattle.low_items.specs.Functions.{PlacedBlock, function_in, block_count, items_at}
+use Rattle.low_items.specs.Functions.{PlacedBlock, function_in, block_count}
+use Rattle.laid_accesses.specs.Lines.{Access, access_at}
 use Rattle.low_relation.specs.Plans.{Needs, IsPlan, object_size, frame_size}
+use Rattle.low_relation.specs.Noted.{Noted, noted_at}
 
--- a program, where its data lie, where its blocks begin and end, its code, and which blocks begin at an address
+-- a program, where its data lie, where its blocks begin and end, its code, which blocks begin at an address,
+-- and what each function's code accesses
 pub record Layout : Type 0 where
   pub program : Placed
   pub memory : Memory
@@ -33,19 +36,23 @@ pub record Layout : Type 0 where
   pub stops : Starts
   pub code : Code
   pub begins : ℕ → List Began
+  pub accesses : ℕ → List Access
 
 -- an item of function f, in one of its forms, stands from one address to another
-pub record Stands (l : Layout) (f a : ℕ) (x : Item) (to : ℕ) : Type 0 where
+pub record Stands (l : Layout) (f a : ℕ) (x : Noted) (to : ℕ) : Type 0 where
   pub form : Item
-  pub like : IsLike x form
+  pub like : IsLike x.item form
   pub address : IsCodeAddress a
   pub words : HasWords l.code a (words l.starts f a form)
   pub exit : l.code.exit a ≡ is_exit form
   pub ends : to ≡ a + size form
   pub room : to ≤ 2 ^ 30
+  -- what it may touch is among its function's accesses
+  pub there : f ≤ length l.program.functions
+  pub listed : All (Contains (l.accesses f)) (access_at l.regions a x.touch)
 
 -- items of function f stand in a row from one address to another
-abbrev pub HasCode : Layout → ℕ → ℕ → ℕ → List Item → Type 0
+abbrev pub HasCode : Layout → ℕ → ℕ → ℕ → List Noted → Type 0
 HasCode l f stop a [] = a ≡ stop
 HasCode l f stop a (x ∷ xs) = (to : ℕ) × Stands l f a x to × HasCode l f stop to xs
 
@@ -83,7 +90,7 @@ pub record IsLaid (l : Layout) (image : Image) : Type 0 where
   pub plan : IsPlan l.program l.memory l.needs l.regions
   pub opens : IsMemoryOf l image
   pub fetches : (a : ℕ) → l.code.fetch a ≡ instruction_in image a
-  pub blocks : (f b : ℕ) → f < suc (length l.program.functions) → b < block_count l.memory l.program f → HasCode l f (l.stops f b) (l.starts f b) (items_at l.memory l.program f b)
+  pub blocks : (f b : ℕ) → f < suc (length l.program.functions) → b < block_count l.memory l.program f → HasCode l f (l.stops f b) (l.starts f b) (noted_at l.memory l.program f b)
   pub places : (f b : ℕ) → IsCodeAddress (l.starts f b)
   pub next : (f b : ℕ) → f < suc (length l.program.functions) → suc b < block_count l.memory l.program f → l.stops f b ≡ l.starts f (suc b)
   pub entry : image.entry ≡ l.starts (length l.program.functions) 0

@@ -1,4 +1,5 @@
 pub mod Plans
+pub mod Noted
 pub mod Layouts
 pub mod Positions
 pub mod Views

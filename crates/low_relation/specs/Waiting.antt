@@ -12,8 +12,9 @@ use Rattle.low_ir.specs.Places.{File, Placed, machine_registers, read_place}
 use Rattle.low_items.specs.Numbers.{link, service, machine_register}
 use Rattle.low_items.specs.Frames.{Frame, frame_of, slot_at, saved_at, home_at, return_at}
 use Rattle.low_items.specs.Emission.{registers_among, behind_call}
-use Rattle.low_items.specs.Functions.{PlacedBlock, function_in, singles, body_items}
+use Rattle.low_items.specs.Functions.{PlacedBlock, function_in}
 use Rattle.low_relation.specs.Plans.{parameters_of}
+use Rattle.low_relation.specs.Noted.{noted, single, singles, noted_body}
 use Rattle.low_relation.specs.Layouts.{Layout}
 use Rattle.low_relation.specs.Positions.{Rest}
 use Rattle.low_relation.specs.Views.{View, HasWord, code_of, HasRoom}
@@ -51,11 +52,11 @@ pub record Rests (l : Layout) (w : PlacedWaiting) (g : ℕ) (v : View) (after : 
   pub inside : IsIn l.program w.frame.func block w.frame.code w.frame.end
   pub call : Contains inside.block.code (Call w.into g args note)
   pub rest : Rest l w.frame.func (l.stops w.frame.func block) at
-      (singles (behind_call (frame_of l.memory w.frame.func) w.into (parameters_of l.program g) note) ++ body_items l.memory l.program w.frame.func block w.frame.code w.frame.end)
+      (singles (behind_call (frame_of l.memory w.frame.func) w.into (parameters_of l.program g) note) ++ noted_body l.memory l.program w.frame.func block w.frame.code w.frame.end)
 
 -- behind its call the start code ends the run
 abbrev pub IsHome : Layout → ℕ → Type 0
-IsHome l at = let start = length l.program.functions in Rest l start (l.stops start 0) at (items.Single (addi service 0 (pos 0)) ∷ items.Exit ∷ [])
+IsHome l at = let start = length l.program.functions in Rest l start (l.stops start 0) at (single (addi service 0 (pos 0)) ∷ noted items.Exit ∷ [])
 
 -- the activations below one of function g, behind which registers are as `after` says: each goes on where its call returns, the last
 -- of them returns to the start code

@@ -1,12 +1,12 @@
 -- The start code ends the run.
-use Rattle.std.proofs.Common.{◌≡◌, ◌≢◌, ℕ, suc, ◌+◌, ◌%◌, ◌^◌, ◌<◌, ◌≤◌, Bool, true, false, List, [], ◌∷◌, ◌++◌, length, Some, pos, refl, sym, ap, ◌∙◌, subst, arith}
+use Rattle.std.proofs.Common.{◌≡◌, ℕ, suc, Bool, true, false, [], ◌∷◌, length, Some, pos, refl, sym, ap, ◌∙◌, subst, arith}
 use Rattle.std.specs.Prelude.{All, ◌||◌}
-use Rattle.rv_core.specs.Arithmetic.{signed, word}
+use Rattle.std.proofs.lemmas.List.Elements.{All-cons}
+use Rattle.rv_core.specs.Arithmetic.{signed}
 use Rattle.rv_core.specs.Instructions.{addi, ecall}
-use Rattle.rv_core.specs.Machine.{World, Leaves, calls, performed}
+use Rattle.rv_core.specs.Machine.{World, Leaves, calls}
 use Rattle.rv_core.specs.Code.{instruction_in}
-use Rattle.rv_core.specs.Runs.{Visit, mrun, visit_of}
-use Rattle.code_items.specs.declared.item.Item.{Item}
+use Rattle.rv_core.specs.Runs.{mrun, visit_of}
 use Rattle.code_items.specs.declared.item.Item.TheVariants as items
 use Rattle.code_items.specs.Items.{words}
 use Rattle.code_items.specs.Standing.{HasWords, is_exit}
@@ -15,7 +15,8 @@ use Rattle.code_steps.proofs.LaterLemmas.{now, stepped}
 use Rattle.code_steps.proofs.StepLemmas.{steps_leave}
 use Rattle.low_ir.specs.Effects as effects
 use Rattle.low_items.specs.Numbers.{result, service}
-use Rattle.low_relation.specs.Positions.{seen, Course}
+use Rattle.low_relation.specs.Noted.{noted, single}
+use Rattle.low_relation.specs.Positions.{seen, Touches, Course}
 use Rattle.low_relation.specs.Waiting.{IsHome}
 use Rattle.low_relation.specs.Following.{Exchanges, Ends}
 use Rattle.low_steps.proofs.Given.{Given, run_of, state, reg, At}
@@ -28,7 +29,7 @@ stays_straight true e = e
 
 module _ (g : Given) where
   -- an exit with a value
-  exits : (k : Course) (n v : ℕ) (u : effects.World) → At g k n (items.Exit ∷ []) → k.trace ≡ u.trace → k.returns ≡ [] → reg g n service ≡ 0 → reg g n result ≡ v → Exchanges g.layout (run_of g) u n → Ends g.layout (run_of g) v u (suc n)
+  exits : (k : Course) (n v : ℕ) (u : effects.World) → At g k n (noted items.Exit ∷ []) → k.trace ≡ u.trace → k.returns ≡ [] → reg g n service ≡ 0 → reg g n result ≡ v → Exchanges g.layout (run_of g) u n → Ends g.layout (run_of g) v u (suc n)
   exits k n v u h trace returns none value exchanges =
       let l = g.layout in
       let s = state g n in
@@ -50,6 +51,7 @@ module _ (g : Given) where
         visits = w.visits;
         exit = stands.exit ∙ ap is_exit like;
         inside = h.inside;
+        touches = subst (λ x. All (Touches l) x) (sym w.visits) (All-cons (Touches l) (visit_of s ecall) visits tt h.touches);
       }
 
   -- the run has returned to the start code
@@ -58,7 +60,7 @@ module _ (g : Given) where
       let start = length g.layout.program.functions in
       let k : Course = record { function = start; stop = g.layout.stops start 0; trace = u.trace; returns = [] } in
       let goal = Ends g.layout (run_of g) v u in
-      add_immediate g k goal n (items.Exit ∷ []) service 0 (pos 0) (omega arith) (omega arith) (to_run g k n at (items.Single (addi service 0 (pos 0)) ∷ items.Exit ∷ []) stood home.code home.quiet)
+      add_immediate g k goal n (noted items.Exit ∷ []) service 0 (pos 0) (omega arith) (omega arith) (to_run g k n at (single (addi service 0 (pos 0)) ∷ noted items.Exit ∷ []) stood home.code home.quiet)
       (λ m a.
       let kept : Exchanges g.layout (run_of g) u m = record { input = ap (λ (x : World). x.input) a.world ∙ exchanges.input; bytes = exchanges.bytes; output = ap (λ (x : World). x.output) a.world ∙ exchanges.output } in
       stepped goal m (now goal (suc m) (exits k m v u a.at refl refl (a.value ∙ omega arith) (a.others result (λ e. omega (arith, e)) ∙ value) kept)))

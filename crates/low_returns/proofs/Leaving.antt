@@ -1,6 +1,6 @@
 -- A block that returns.
-use Rattle.std.proofs.Common.{◌≡◌, ◌≢◌, ◌⊎◌, ⊎_elim, ℕ, zero, suc, ◌+◌, ◌%◌, ◌^◌, ◌<◌, ◌≤◌, Bool, true, false, List, [], ◌∷◌, ◌++◌, length, Option, Some, None, refl, sym, ap, ◌∙◌, subst, arith}
-use Rattle.std.specs.Prelude.{◌==◌, if◌then◌else◌, slice_get, slice_index, slice_index_or}
+use Rattle.std.proofs.Common.{◌≡◌, ◌≢◌, ◌⊎◌, ⊎_elim, ℕ, suc, ◌+◌, ◌%◌, ◌^◌, ◌<◌, ◌≤◌, Bool, true, false, List, [], ◌∷◌, ◌++◌, length, map, Option, Some, None, refl, sym, ap, ◌∙◌, subst, arith}
+use Rattle.std.specs.Prelude.{◌==◌, if◌then◌else◌, slice_index, slice_index_or}
 use Rattle.std.proofs.lemmas.Bool.{cases_eq}
 use Rattle.std.proofs.lemmas.Bool.Decides.{nat_tests}
 use Rattle.std.proofs.lemmas.Option.{slice_get_past}
@@ -9,7 +9,6 @@ use Rattle.rv_core.specs.declared.row.Width.{Width}
 use Rattle.rv_core.specs.declared.row.Width.TheVariants.{Word as Whole}
 use Rattle.rv_core.specs.Memory.{read_from}
 use Rattle.rv_core.specs.Machine as machine
-use Rattle.code_items.specs.declared.item.Item.{Item}
 use Rattle.code_items.specs.declared.item.Item.TheVariants as items
 use Rattle.code_steps.specs.Steps.{Later}
 use Rattle.code_steps.proofs.LaterLemmas.{now}
@@ -20,11 +19,12 @@ use Rattle.low_ir.specs.declared.run.Began.{Began}
 use Rattle.low_ir.specs.Code.{Operand, Return}
 use Rattle.low_ir.specs.Runs.{Done, operand_value, come_back, give_back}
 use Rattle.low_ir.specs.Places.{Placed, places}
-use Rattle.low_items.specs.Numbers.{base, result}
+use Rattle.low_items.specs.Numbers.{result}
 use Rattle.low_items.specs.Frames.{Memory}
 use Rattle.low_items.specs.Operands.{into_code}
-use Rattle.low_items.specs.Functions.{function_in, is_leaf, at_once, block_count, exit_code, singles, jump_items, leave_items, leaving_blocks, function_items, blocks_from, items_at, body_items}
+use Rattle.low_items.specs.Functions.{function_in, is_leaf, at_once, block_count, exit_code, jump_items, leave_items, leaving_blocks, function_items, blocks_from, items_at}
 use Rattle.low_items.proofs.ItemLemmas.{of_function, blocks_length}
+use Rattle.low_relation.specs.Noted.{Noted, noted, singles, noted_body, noted_by, noted_at}
 use Rattle.low_relation.specs.Layouts.{HasCode, started_in}
 use Rattle.low_relation.specs.Positions.{Course}
 use Rattle.low_relation.specs.Views.{view_of}
@@ -32,13 +32,14 @@ use Rattle.low_relation.specs.Waiting.{PlacedWaiting, AreWaiting, IsLinked}
 use Rattle.low_relation.specs.Following.{PlacedRunning, Holds, Exchanges}
 use Rattle.low_steps.proofs.Given.{Given, run_of, state, reg, read, At}
 use Rattle.low_steps.proofs.Places.{IsSteady, steady_is}
-use Rattle.low_steps.proofs.Operands.{frame, in_parts, into}
+use Rattle.low_steps.proofs.Noting.{noted_code}
+use Rattle.low_steps.proofs.Operands.{frame, into}
 use Rattle.low_follow.proofs.Apart.{arrays_kept}
 use Rattle.low_follow.proofs.Holding.{strict}
 use Rattle.low_follow.proofs.Plains.{Runs, Going_at, ready_of, body, course_in, operand-small}
 use Rattle.low_follow.proofs.Arrays.{holds_led}
 use Rattle.low_jumps.proofs.Standing.{Stood, to_run}
-use Rattle.low_jumps.proofs.Jumps.{Came, jump_lays}
+use Rattle.low_jumps.proofs.Jumps.{jump_lays}
 use Rattle.low_entries.proofs.Entries.{Left, leaves}
 use Rattle.low_returns.proofs.Home.{home_ends}
 use Rattle.low_returns.proofs.Resuming.{resumes}
@@ -69,8 +70,8 @@ even_of : (a : ℕ) → a % 4 ≡ 0 → a % 2 ≡ 0
 even_of a e = omega arith
 
 module _ (g : Given) where
-  abbrev exit_items : ℕ → List Item
-  exit_items f = singles (exit_code (is_leaf (function_in g.layout.program f)) (frame g f)) ++ items.Return ∷ []
+  abbrev exit_items : ℕ → List Noted
+  exit_items f = singles (exit_code (is_leaf (function_in g.layout.program f)) (frame g f)) ++ noted items.Return ∷ []
 
   -- the value is in x10, and the exit is to be run
   leaves_with : (r : PlacedRunning) (m v : ℕ) (k : Course) (returns : List ℕ) → r.top.func < length g.layout.program.functions → v < 2 ^ 32 → Holds g.layout r (view_of (state g m)) returns → Exchanges g.layout (run_of g) r.world m → reg g m result ≡ v
@@ -101,6 +102,14 @@ module _ (g : Given) where
           leaves g k (Runs g (come_back places r.world (w ∷ ws) v)) m r.top.func to (is_leaf (function_in g.layout.program r.top.func)) ats there h.based (same ∙ places_are) linked rest.room (even_of to rest.aligned) at
           (λ j left. resumes g r w ws m j to v ats is there small (subst (λ x. Holds g.layout r (view_of (state g m)) x) places_are h) exchanges (subst (λ t. Left g m j r.top.func to t ats) trace left) (result_kept j to k.trace ats left))
 
+  leaving_noted : (f : ℕ) → f < length g.layout.program.functions → at_once g.layout.memory g.layout.program f ≡ false → noted_at g.layout.memory g.layout.program f (length (function_in g.layout.program f).blocks) ≡ exit_items f
+  leaving_noted f there once =
+      let l = g.layout in
+      let last = length (function_in l.program f).blocks in
+      ap (noted_by l.memory l.program f last) (slice_get_past (function_in l.program f).blocks last (omega arith))
+      ∙ ap (λ xs. map noted xs) (leaving_items l.memory l.program f there once)
+      ∙ noted_code (exit_code (is_leaf (function_in l.program f)) (frame g f)) (items.Return ∷ [])
+
   -- the machine has come to the block that leaves
   leaving_at : (n f : ℕ) (trace : List Began) (returns : List ℕ) → f < length g.layout.program.functions → at_once g.layout.memory g.layout.program f ≡ false → Stood g n (g.layout.starts f (length (function_in g.layout.program f).blocks)) trace returns
       → At g (record { function = f; stop = g.layout.stops f (length (function_in g.layout.program f).blocks); trace = trace; returns = returns }) n (exit_items f)
@@ -109,7 +118,7 @@ module _ (g : Given) where
       let last = length (function_in l.program f).blocks in
       let below = last_below l.memory l.program f there once in
       let k : Course = record { function = f; stop = l.stops f last; trace = trace; returns = returns } in
-      let code = subst (λ xs. HasCode l f (l.stops f last) (l.starts f last) xs) (leaving_items l.memory l.program f there once) (g.laid.blocks f last (omega arith) below) in
+      let code = subst (λ xs. HasCode l f (l.stops f last) (l.starts f last) xs) (leaving_noted f there once) (g.laid.blocks f last (omega arith) below) in
       let none : l.begins (l.starts f last) ≡ [] = g.laid.begins f last (omega arith) below ∙ ap (started_in f last) (slice_get_past (function_in l.program f).blocks last (omega arith)) in
       to_run g k n (l.starts f last) (exit_items f) h code (λ b from before. quiet f last none below there b from before)
     where
@@ -121,12 +130,12 @@ module _ (g : Given) where
           (cases_eq (g.layout.starts f last) b)
 
   -- what a block that returns ends with, where the exit stands at the return or behind the other blocks
-  abbrev leave_by : PlacedRunning → Bool → Bool → List Item
+  abbrev leave_by : PlacedRunning → Bool → Bool → List Noted
   leave_by r true next = exit_items r.top.func
-  leave_by r false next = jump_items g.layout.memory g.layout.program r.top.func next (length (function_in g.layout.program r.top.func).blocks)
+  leave_by r false next = map noted (jump_items g.layout.memory g.layout.program r.top.func next (length (function_in g.layout.program r.top.func).blocks))
 
-  leave_is : (r : PlacedRunning) (b : ℕ) (once : Bool) → leave_items g.layout.memory g.layout.program r.top.func once b ≡ leave_by r once (length (function_in g.layout.program r.top.func).blocks == suc b)
-  leave_is r b true = refl
+  leave_is : (r : PlacedRunning) (b : ℕ) (once : Bool) → map noted (leave_items g.layout.memory g.layout.program r.top.func once b) ≡ leave_by r once (length (function_in g.layout.program r.top.func).blocks == suc b)
+  leave_is r b true = noted_code (exit_code (is_leaf (function_in g.layout.program r.top.func)) (frame g r.top.func)) (items.Return ∷ [])
   leave_is r b false = refl
 
   -- registers of values and memory are as before
@@ -150,7 +159,7 @@ module _ (g : Given) where
       let below = last_below l.memory l.program f h.inside.there once in
       let there = h.inside.there in
       let next : l.stops f h.block ≡ l.starts f (suc h.block) = g.laid.next f h.block (omega arith) (subst (λ x. x < block_count l.memory l.program f) same below) in
-      let stood : Stood g m (l.stops f h.block) r.world.trace h.returns = record { running = at.running; count = at.count; here = at.code; events = sym (append-nil _) ∙ at.events; returns_are = at.returns; straight = at.straight; inside = at.inside } in
+      let stood : Stood g m (l.stops f h.block) r.world.trace h.returns = record { running = at.running; count = at.count; here = at.code; events = sym (append-nil _) ∙ at.events; returns_are = at.returns; straight = at.straight; inside = at.inside; touches = at.touches } in
       leaves_with r m v (record { function = f; stop = l.stops f last; trace = r.world.trace; returns = h.returns }) h.returns there small holds exchanges value refl refl
       (leaving_at m f r.world.trace h.returns there once (subst (λ a. Stood g m a r.world.trace h.returns) (next ∙ ap (l.starts f) (sym same)) stood))
   exits_by r n m v h false false once is small holds exchanges value at =
@@ -173,7 +182,7 @@ module _ (g : Given) where
       let once = at_once l.memory l.program f in
       let next = length (function_in l.program f).blocks == suc h.block in
       let goal = Runs g (come_back places r.world r.below v) in
-      let at = subst (λ z. At g k n (body_items l.memory l.program f h.block [] z)) end_is (subst (λ z. At g k n (body g r h.block z)) code_is h.at) in
-      into g k goal n f result r.top.store (leave_items l.memory l.program f once h.block) x (Word v) (omega arith) (omega arith) (ready_of g r n h) e at
+      let at = subst (λ z. At g k n (noted_body l.memory l.program f h.block [] z)) end_is (subst (λ z. At g k n (body g r h.block z)) code_is h.at) in
+      into g k goal n f result r.top.store (map noted (leave_items l.memory l.program f once h.block)) x (Word v) (omega arith) (omega arith) (ready_of g r n h) e (subst (λ z. At g k n z) (noted_code (into_code (frame g f) result x) (leave_items l.memory l.program f once h.block)) at)
       (λ m a. exits_by r n m v h once next refl refl (operand-small g f r.top.store x (Word v) h.holds.room e) (still_holds r n m h.returns h.holds h.inside.there (λ q s. a.others q s.ten) a.world) (still_exchanges r n m h.exchanges a.world) a.value
       (subst (λ xs. At g k m xs) (leave_is r h.block once) a.at))

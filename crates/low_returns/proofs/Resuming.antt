@@ -1,43 +1,41 @@
 -- An activation that waited goes on.
-use Rattle.std.proofs.Common.{◌≡◌, ◌≢◌, ◌⊎◌, ⊎_elim, inl, inr, ℕ, zero, suc, ◌+◌, ◌%◌, ◌^◌, ◌<◌, ◌≤◌, Bool, true, false, List, [], ◌∷◌, ◌++◌, length, Contains, Option, Some, None, refl, sym, ap, ◌∙◌, subst, arith, length-append}
-use Rattle.std.specs.Prelude.{◌==◌, if◌then◌else◌, slice_get, slice_index}
+use Rattle.std.proofs.Common.{◌≡◌, ◌≢◌, ◌⊎◌, ⊎_elim, inl, ℕ, zero, suc, ◌+◌, ◌^◌, ◌<◌, ◌≤◌, Bool, true, false, List, [], ◌∷◌, ◌++◌, length, Contains, Option, Some, None, refl, sym, ap, ◌∙◌, subst, arith, length-append}
+use Rattle.std.specs.Prelude.{◌==◌, if◌then◌else◌, slice_index}
 use Rattle.std.specs.Option.{option_to_list}
-use Rattle.std.proofs.lemmas.Bool.{cases_eq}
 use Rattle.std.proofs.lemmas.Bool.Decides.{nat_tests}
-use Rattle.std.proofs.lemmas.List.Elements.{Contains-append_left, Contains-append_right, Contains-append_cases}
 use Rattle.rv_core.specs.declared.row.Width.{Width}
 use Rattle.rv_core.specs.declared.row.Width.TheVariants.{Word as Whole}
 use Rattle.rv_core.specs.Memory.{read_from}
 use Rattle.rv_core.specs.Machine as machine
-use Rattle.code_items.specs.declared.item.Item.{Item}
 use Rattle.code_steps.specs.Steps.{Later}
 use Rattle.code_steps.proofs.LaterLemmas.{now}
 use Rattle.low_ir.specs.declared.places.Place.{Place}
 use Rattle.low_ir.specs.declared.places.Place.TheVariants.{Register as InRegister, Slot}
-use Rattle.low_ir.specs.declared.run.Value.{Value}
 use Rattle.low_ir.specs.declared.run.Value.TheVariants.{Word}
 use Rattle.low_ir.specs.Code.{Operand, Instr, Do, Call}
 use Rattle.low_ir.specs.Effects.{is_member}
-use Rattle.low_ir.specs.Runs.{Running, goes_on, write_to}
-use Rattle.low_ir.specs.Places.{File, Placed, read_place, write_place, places}
-use Rattle.low_items.specs.Numbers.{base, base_address, link, result, first_free, machine_register}
-use Rattle.low_items.specs.Frames.{Frame, frame_of, slot_at, saved_at, home_at, return_at}
+use Rattle.low_ir.specs.Runs.{goes_on, write_to}
+use Rattle.low_ir.specs.Places.{File, places}
+use Rattle.low_items.specs.Numbers.{base, base_address, link, result, machine_register}
+use Rattle.low_items.specs.Frames.{slot_at, saved_at, home_at, return_at}
 use Rattle.low_items.specs.Emission.{registers_among, kept_among, return_code, value_code, behind_call}
-use Rattle.low_items.specs.Functions.{PlacedBlock, function_in, is_leaf, callees_in, all_callees, callees_of, singles, body_items}
+use Rattle.low_items.specs.Functions.{PlacedBlock, function_in, is_leaf, callees_in, all_callees, callees_of}
+use Rattle.low_relation.specs.Noted.{Noted, singles, noted_body}
 use Rattle.low_relation.specs.Plans.{parameters_of, writes_of, block_writes, function_writes, SavesAt}
 use Rattle.low_relation.specs.Positions.{Course}
-use Rattle.low_relation.specs.Views.{View, view_of, HasWord, HasRoom, Shows, HasArrays}
-use Rattle.low_relation.specs.Waiting.{IsIn, Returns, PlacedWaiting, Rests, AreWaiting, IsLinked, register_in}
+use Rattle.low_relation.specs.Views.{View, view_of, Shows}
+use Rattle.low_relation.specs.Waiting.{IsIn, PlacedWaiting, Rests, AreWaiting, IsLinked}
 use Rattle.low_relation.specs.Following.{PlacedRunning, Holds, Exchanges, Goes}
 use Rattle.low_steps.proofs.Given.{Given, run_of, state, reg, read, At}
-use Rattle.low_steps.proofs.Places.{IsSteady, value_is, steady_is, machine_register-same, lt_or, within}
-use Rattle.low_steps.proofs.Operands.{frame, code, in_parts, Gave}
+use Rattle.low_steps.proofs.Places.{value_is, steady_is, machine_register-same, lt_or}
+use Rattle.low_steps.proofs.Operands.{frame, code, in_parts}
 use Rattle.low_steps.proofs.Operands as operands
 use Rattle.low_follow.proofs.Apart.{waits_kept, arrays_kept}
-use Rattle.low_follow.proofs.Holding.{Keeps, in_flat_map, got_contains, holds_kept, written_there}
+use Rattle.low_follow.proofs.Elements.{member_contains}
+use Rattle.low_follow.proofs.Holding.{in_flat_map, got_contains, holds_kept, written_there}
 use Rattle.low_follow.proofs.Plains.{Runs}
 use Rattle.low_saves.proofs.Homes.{member_head, member_cases, member_tail, Unhomed, unhomes_run}
-use Rattle.low_jumps.proofs.Standing.{Stood, to_run}
+use Rattle.low_jumps.proofs.Standing.{to_run}
 use Rattle.low_entries.proofs.Entries.{Left}
 
 -- members of registers and of those that are kept
@@ -66,11 +64,6 @@ kept_parameter (InRegister r ∷ ps) note q m = by_note (is_member note r) m (λ
     by_note : (b : Bool) → is_member (if b then (r ∷ kept_among ps note) else kept_among ps note) q ≡ true → (is_member (kept_among ps note) q ≡ true → is_member (registers_among ps) q ≡ true) → is_member (r ∷ registers_among ps) q ≡ true
     by_note true h go = ⊎_elim (λ (same : r ≡ q). subst (λ x. is_member (r ∷ registers_among ps) x ≡ true) same (member_head r (registers_among ps))) (λ (rest : is_member (kept_among ps note) q ≡ true). member_tail r q (registers_among ps) (go rest)) (member_cases r q (kept_among ps note) h)
     by_note false h go = member_tail r q (registers_among ps) (go h)
-
-member_contains : (xs : List ℕ) (q : ℕ) → is_member xs q ≡ true → Contains xs q
-member_contains [] q e = cc
-member_contains (x ∷ xs) q e =
-    ⊎_elim (λ (same : x ≡ q). (0, omega arith, same)) (λ (rest : is_member xs q ≡ true). let h = member_contains xs q rest in (suc h.0, omega (arith, h.1), h.2)) (member_cases x q xs e)
 
 -- the registers of parameters are among those that a call writes
 among_append : (ps qs : List Place) (q : ℕ) → Contains (registers_among qs) q → Contains (registers_among (ps ++ qs)) q
@@ -106,7 +99,7 @@ module _ (g : Given) where
   gives_value : (r : PlacedRunning) (w : PlacedWaiting) (ws : List PlacedWaiting) (n v block : ℕ) (rest : List ℕ) → v < 2 ^ 32 → (inside : IsIn g.layout.program w.frame.func block w.frame.code w.frame.end)
       → ((q : ℕ) → w.into ≡ Some (InRegister q) → Contains (function_writes g.layout.program (function_in g.layout.program w.frame.func)) q)
       → Holds g.layout (resumed r w ws) (view_of (state g n)) rest → Exchanges g.layout (run_of g) r.world n → reg g n result ≡ v
-      → (d : Option Place) → w.into ≡ d → At g (record { function = w.frame.func; stop = g.layout.stops w.frame.func block; trace = r.world.trace; returns = rest }) n (singles (value_code (frame g w.frame.func) d) ++ body_items g.layout.memory g.layout.program w.frame.func block w.frame.code w.frame.end)
+      → (d : Option Place) → w.into ≡ d → At g (record { function = w.frame.func; stop = g.layout.stops w.frame.func block; trace = r.world.trace; returns = rest }) n (singles (value_code (frame g w.frame.func) d) ++ noted_body g.layout.memory g.layout.program w.frame.func block w.frame.code w.frame.end)
       → (o : Option File) → write_to places w.frame.store d (Word v) ≡ o → Later (Runs g (goes_on (resumed r w ws) w.frame.code r.world o)) n
   gives_value r w ws n v block rest small inside writes holds exchanges value None is at None e = absurd cc
   gives_value r w ws n v block rest small inside writes holds exchanges value None is at (Some file) e =
@@ -120,7 +113,7 @@ module _ (g : Given) where
       let k : Course = record { function = f; stop = g.layout.stops f block; trace = r.world.trace; returns = rest } in
       let goal = Runs g (goes_on (resumed r w ws) w.frame.code r.world (Some file)) in
       let there = written_there g f w.frame.store file d (Word v) holds.room e in
-      operands.put g k goal n f result v (body_items g.layout.memory g.layout.program f block w.frame.code w.frame.end) d (λ z. omega (arith, z)) inside.there there small holds.based value at
+      operands.put g k goal n f result v (noted_body g.layout.memory g.layout.program f block w.frame.code w.frame.end) d (λ z. omega (arith, z)) inside.there there small holds.based value at
       (λ m a. now goal m
       (record {
         block = block;
@@ -183,11 +176,11 @@ module _ (g : Given) where
       cc
 
   -- registers that aren't kept by the call are as they came back
-  not_kept : (k : Course) (m j e : ℕ) (ps : List Place) (note : List ℕ) (xs : List Item) → Unhomed g k m j e (kept_among ps note) xs → (q : ℕ) → is_member (registers_among ps) q ≡ false → reg g j (machine_register q) ≡ reg g m (machine_register q)
+  not_kept : (k : Course) (m j e : ℕ) (ps : List Place) (note : List ℕ) (xs : List Noted) → Unhomed g k m j e (kept_among ps note) xs → (q : ℕ) → is_member (registers_among ps) q ≡ false → reg g j (machine_register q) ≡ reg g m (machine_register q)
   not_kept k m j e ps note xs a q outside =
       a.others (machine_register q) (λ p c z. let same : q ≡ p = machine_register-same q p z in let both : true ≡ false = sym (kept_parameter ps note p c) ∙ ap (is_member (registers_among ps)) (sym same) ∙ outside in cc)
 
-  shown : (w : PlacedWaiting) (f n m j : ℕ) (after : ℕ → ℕ) (at : ℕ) (k : Course) (xs : List Item) (rests : Rests g.layout w f (view_of (state g n)) after at) → Unhomed g k m j w.frame.func (kept_among (parameters_of g.layout.program f) rests.note) xs
+  shown : (w : PlacedWaiting) (f n m j : ℕ) (after : ℕ → ℕ) (at : ℕ) (k : Course) (xs : List Noted) (rests : Rests g.layout w f (view_of (state g n)) after at) → Unhomed g k m j w.frame.func (kept_among (parameters_of g.layout.program f) rests.note) xs
       → (state g m).world ≡ (state g n).world → ((q : ℕ) → is_member (g.layout.needs f) q ≡ true → after q < 2 ^ 32 → reg g m (machine_register q) ≡ after q) → Shows g.layout.memory (frame g w.frame.func) w.frame.store (view_of (state g j))
   shown w f n m j after at k xs rests a world promise (Slot s) x e = ap (λ (z : machine.World). read_from (λ b. b.read) Whole z.memory (slot_at (frame g w.frame.func) s)) (a.world ∙ world) ∙ rests.slots s x e
   shown w f n m j after at k xs rests a world promise (InRegister q) x e = by_parameter (is_member (registers_among (parameters_of g.layout.program f)) q) refl
@@ -219,7 +212,7 @@ module _ (g : Given) where
       let ps = parameters_of l.program f in
       let qs = kept_among ps rests.note in
       let k : Course = record { function = e; stop = l.stops e rests.block; trace = r.world.trace; returns = ats } in
-      let body = body_items l.memory l.program e rests.block w.frame.code w.frame.end in
+      let body = noted_body l.memory l.program e rests.block w.frame.code w.frame.end in
       let goal = Runs g (goes_on (resumed r w ws) w.frame.code r.world (write_to places w.frame.store w.into (Word v))) in
       let at_call = saves_at w f seen_at h.after at rests in
       let promise = promised r n m at ats (at ∷ ats) h left in

@@ -1,11 +1,11 @@
 -- The machine follows a run over places.
-use Rattle.std.proofs.Common.{◌≡◌, ℕ, zero, suc, List, [], ◌∷◌, Option, refl, subst}
+use Rattle.std.proofs.Common.{◌≡◌, ℕ, zero, suc, List, [], ◌∷◌, refl, subst}
 use Rattle.code_steps.specs.Steps.{Later}
 use Rattle.code_steps.proofs.LaterLemmas.{now, and_then}
 use Rattle.low_ir.specs.declared.places.Place.{Place}
-use Rattle.low_ir.specs.Code.{Operand, Instr, Do, Call, End, Jump, Branch, Return}
+use Rattle.low_ir.specs.Code.{Instr, Do, Call, End, Jump, Branch, Return}
 use Rattle.low_ir.specs.Effects.{World}
-use Rattle.low_ir.specs.Runs.{Going, Done, Bad, operand_value, at_instr, at_end, at_code, step, run}
+use Rattle.low_ir.specs.Runs.{Going, Done, Bad, operand_value, at_end, at_code, step, run}
 use Rattle.low_ir.specs.Places.{places}
 use Rattle.low_relation.specs.Following.{PlacedRunning, PlacedRun}
 use Rattle.low_steps.proofs.Given.{Given}

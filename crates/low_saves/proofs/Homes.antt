@@ -8,14 +8,13 @@ use Rattle.rv_core.specs.declared.row.Width.TheVariants.{Word as Whole}
 use Rattle.rv_core.specs.Arithmetic.{byte_count}
 use Rattle.rv_core.specs.Memory.{read_from}
 use Rattle.rv_core.specs.Machine.{World}
-use Rattle.code_items.specs.declared.item.Item.{Item}
 use Rattle.code_steps.specs.Steps.{Later}
 use Rattle.low_ir.specs.Effects.{is_member}
 use Rattle.low_items.specs.Numbers.{base, base_address, first_free, machine_register}
 use Rattle.low_items.specs.Frames.{position, home_at, slot_at}
 use Rattle.low_items.specs.Operands.{load_code, store_code}
 use Rattle.low_items.specs.Emission.{home_code, return_code}
-use Rattle.low_items.specs.Functions.{singles}
+use Rattle.low_relation.specs.Noted.{Noted, singles}
 use Rattle.low_relation.specs.Layouts.{AreOpen}
 use Rattle.low_relation.specs.Positions.{Course}
 use Rattle.low_steps.proofs.Given.{Given, state, reg, read, memory, At}
@@ -80,7 +79,7 @@ module _ (g : Given) where
   NoHome f a n = (a + n ≤ (frame g f).at + 4 * (1 + length (frame g f).saved)) ⊎ (slot_at (frame g f) 0 ≤ a)
 
   -- registers have gone to their homes
-  pub record Homed (k : Course) (n m f : ℕ) (qs : List ℕ) (xs : List Item) : Type 0 where
+  pub record Homed (k : Course) (n m f : ℕ) (qs : List ℕ) (xs : List Noted) : Type 0 where
     pub at : At g k m xs
     pub registers : (r : ℕ) → r ≢ first_free → reg g m r ≡ reg g n r
     pub input : (state g m).world.input ≡ (state g n).world.input
@@ -88,7 +87,7 @@ module _ (g : Given) where
     pub homes : (q : ℕ) → is_member (frame g f).homes q ≡ true → (is_member qs q ≡ true) ⊎ (read g n Whole (home_at (frame g f) q) ≡ Some (reg g n (machine_register q) % 2 ^ 32)) → read g m Whole (home_at (frame g f) q) ≡ Some (reg g n (machine_register q) % 2 ^ 32)
     pub beside : (y : Width) (a : ℕ) → NoHome f a (byte_count y) → read g m y a ≡ read g n y a
 
-  pub homes_run : (k : Course) (P : ℕ → Type 0) (n f : ℕ) (qs : List ℕ) (xs : List Item) → f < length g.layout.program.functions → reg g n base ≡ base_address → ((q : ℕ) → is_member qs q ≡ true → is_member (frame g f).homes q ≡ true)
+  pub homes_run : (k : Course) (P : ℕ → Type 0) (n f : ℕ) (qs : List ℕ) (xs : List Noted) → f < length g.layout.program.functions → reg g n base ≡ base_address → ((q : ℕ) → is_member qs q ≡ true → is_member (frame g f).homes q ≡ true)
       → At g k n (singles (home_code (frame g f) qs) ++ xs) → ((m : ℕ) → Homed k n m f qs xs → Later P m) → Later P n
   homes_run k P n f [] xs there based inside h go =
       go n
@@ -106,7 +105,7 @@ module _ (g : Given) where
       let word = home_word f q there member in
       let below = position-below fr.homes q member in
       let rest = home_code fr qs in
-      store g k P n (singles rest ++ xs) first_free (machine_register q) (home_at fr q) (reg g n (machine_register q)) (omega arith) (omega arith) (steady_is q).five based word.small word.aligned refl word.opens
+      store g k P n (singles rest ++ xs) first_free (machine_register q) (home_at fr q) (reg g n (machine_register q)) (omega arith) (omega arith) (steady_is q).five based word.small word.aligned word.ram refl word.opens
       (in_parts g k n (store_code first_free (machine_register q) (home_at fr q)) rest xs h)
       (λ m a. homes_run k P m f qs xs there (a.registers base (λ e. omega (arith, e)) ∙ based) (λ p e. inside p (member_tail q p qs e)) a.at
       (λ j b. go j
@@ -133,13 +132,13 @@ module _ (g : Given) where
       })))
 
   -- registers have come back from their homes
-  pub record Unhomed (k : Course) (n m f : ℕ) (qs : List ℕ) (xs : List Item) : Type 0 where
+  pub record Unhomed (k : Course) (n m f : ℕ) (qs : List ℕ) (xs : List Noted) : Type 0 where
     pub at : At g k m xs
     pub world : (state g m).world ≡ (state g n).world
     pub loads : (q w : ℕ) → read g n Whole (home_at (frame g f) q) ≡ Some w → (is_member qs q ≡ true) ⊎ (reg g n (machine_register q) ≡ w) → reg g m (machine_register q) ≡ w
     pub others : (r : ℕ) → ((q : ℕ) → is_member qs q ≡ true → r ≢ machine_register q) → reg g m r ≡ reg g n r
 
-  pub unhomes_run : (k : Course) (P : ℕ → Type 0) (n f : ℕ) (qs : List ℕ) (xs : List Item) → f < length g.layout.program.functions → reg g n base ≡ base_address → ((q : ℕ) → is_member qs q ≡ true → (is_member (frame g f).homes q ≡ true) × (q < 24))
+  pub unhomes_run : (k : Course) (P : ℕ → Type 0) (n f : ℕ) (qs : List ℕ) (xs : List Noted) → f < length g.layout.program.functions → reg g n base ≡ base_address → ((q : ℕ) → is_member qs q ≡ true → (is_member (frame g f).homes q ≡ true) × (q < 24))
       → At g k n (singles (return_code (frame g f) qs) ++ xs) → ((m : ℕ) → Unhomed k n m f qs xs → Later P m) → Later P n
   unhomes_run k P n f [] xs there based inside h go =
       go n (record { at = h; world = refl; loads = λ q w e z. ⊎_elim (λ (a : is_member [] q ≡ true). absurd cc) (λ (b : reg g n (machine_register q) ≡ w). b) z; others = λ r o. refl })
@@ -150,7 +149,7 @@ module _ (g : Given) where
       let value = value_is q member.1 in
       let rest = return_code fr qs in
       let found = can_read Whole (memory g n) (home_at fr q) (subst (λ fs. AreOpen fs (home_at fr q) 4) (sym (frames_are g n)) word.opens) in
-      load g k P n (singles rest ++ xs) (machine_register q) (home_at fr q) found.0 value.some value.less based word.small word.aligned found.1 (in_parts g k n (load_code (machine_register q) (home_at fr q)) rest xs h)
+      load g k P n (singles rest ++ xs) (machine_register q) (home_at fr q) found.0 value.some value.less based word.small word.aligned word.ram found.1 (in_parts g k n (load_code (machine_register q) (home_at fr q)) rest xs h)
       (λ m a.
       let same_reads : (b : ℕ) → read g m Whole b ≡ read g n Whole b = λ b. ap (λ (x : World). read_from (λ c. c.read) Whole x.memory b) a.world in
       unhomes_run k P m f qs xs there (a.others base (λ e. value.base_not (sym e)) ∙ based) (λ p e. inside p (member_tail q p qs e)) a.at

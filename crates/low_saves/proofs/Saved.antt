@@ -8,13 +8,13 @@ use Rattle.rv_core.specs.Arithmetic.{word, displaced, byte_count}
 use Rattle.rv_core.specs.Instructions.{addi}
 use Rattle.rv_core.specs.Memory.{read_from}
 use Rattle.rv_core.specs.Machine.{World}
-use Rattle.code_items.specs.declared.item.Item.{Item}
-use Rattle.code_items.specs.declared.item.Item.TheVariants.{Single}
 use Rattle.code_steps.specs.Steps.{Later}
 use Rattle.low_ir.specs.Effects.{is_member}
 use Rattle.low_items.specs.Numbers.{base, base_address, first_free, machine_register, lower_of}
 use Rattle.low_items.specs.Frames.{position, saved_at}
-use Rattle.low_items.specs.Functions.{singles, frame_code, frame_register, frame_offset, saves, loads}
+use Rattle.low_items.specs.Functions.{frame_code, frame_register, frame_offset, saves, loads}
+use Rattle.laid_accesses.specs.Touches.{OfFrame}
+use Rattle.low_relation.specs.Noted.{Noted, single, singles}
 use Rattle.low_relation.specs.Layouts.{AreOpen}
 use Rattle.low_relation.specs.Positions.{Course}
 use Rattle.low_steps.proofs.Given.{Given, state, reg, read, memory, At}
@@ -36,18 +36,18 @@ module _ (g : Given) where
   abbrev pub Reached : ℕ → ℕ → Bool → Type 0
   Reached n f near = (a : ℕ) → (frame g f).at ≤ a → a < 2 ^ 32 → displaced (reg g n (frame_register near)) (frame_offset near (frame g f) a) ≡ a
 
-  pub record Framed (k : Course) (n m f : ℕ) (near : Bool) (xs : List Item) : Type 0 where
+  pub record Framed (k : Course) (n m f : ℕ) (near : Bool) (xs : List Noted) : Type 0 where
     pub at : At g k m xs
     pub world : (state g m).world ≡ (state g n).world
     pub registers : (r : ℕ) → r ≢ first_free → reg g m r ≡ reg g n r
     pub reached : Reached m f near
 
-  pub frame_runs : (k : Course) (P : ℕ → Type 0) (n f : ℕ) (near : Bool) (xs : List Item) → (frame g f).at < 2 ^ 32 → reg g n base ≡ base_address → At g k n (singles (frame_code near (frame g f)) ++ xs) → ((m : ℕ) → Framed k n m f near xs → Later P m) → Later P n
+  pub frame_runs : (k : Course) (P : ℕ → Type 0) (n f : ℕ) (near : Bool) (xs : List Noted) → (frame g f).at < 2 ^ 32 → reg g n base ≡ base_address → At g k n (singles (frame_code near (frame g f)) ++ xs) → ((m : ℕ) → Framed k n m f near xs → Later P m) → Later P n
   frame_runs k P n f true xs small based h go =
       go n (record { at = h; world = refl; registers = λ r o. refl; reached = λ a low less. ap (λ x. displaced x (pos a -ℤ pos base_address)) based ∙ near-joined a less })
   frame_runs k P n f false xs small based h go =
       let at = (frame g f).at in
-      let last = Single (addi first_free first_free (lower_of at)) ∷ xs in
+      let last = single (addi first_free first_free (lower_of at)) ∷ xs in
       upper g k P n last first_free at (omega arith) (omega arith) h
       (λ m a. add_immediate g k P m xs first_free first_free (lower_of at) (omega arith) (omega arith) a.at
       (λ j b.
@@ -76,7 +76,7 @@ module _ (g : Given) where
   NotSaved f a n = (a + n ≤ (frame g f).at + 4) ⊎ ((frame g f).at + 4 * (1 + length (frame g f).saved) ≤ a)
 
   -- registers were saved
-  pub record Saved (k : Course) (n m f : ℕ) (qs : List ℕ) (xs : List Item) : Type 0 where
+  pub record Saved (k : Course) (n m f : ℕ) (qs : List ℕ) (xs : List Noted) : Type 0 where
     pub at : At g k m xs
     pub registers : (r : ℕ) → reg g m r ≡ reg g n r
     pub input : (state g m).world.input ≡ (state g n).world.input
@@ -84,7 +84,7 @@ module _ (g : Given) where
     pub words : (q : ℕ) → is_member (frame g f).saved q ≡ true → (is_member qs q ≡ true) ⊎ (read g n Whole (saved_at (frame g f) q) ≡ Some (reg g n (machine_register q) % 2 ^ 32)) → read g m Whole (saved_at (frame g f) q) ≡ Some (reg g n (machine_register q) % 2 ^ 32)
     pub beside : (y : Width) (a : ℕ) → NotSaved f a (byte_count y) → read g m y a ≡ read g n y a
 
-  pub saves_run : (k : Course) (P : ℕ → Type 0) (n f : ℕ) (near : Bool) (qs : List ℕ) (xs : List Item) → f < length g.layout.program.functions → Reached n f near → ((q : ℕ) → is_member qs q ≡ true → is_member (frame g f).saved q ≡ true)
+  pub saves_run : (k : Course) (P : ℕ → Type 0) (n f : ℕ) (near : Bool) (qs : List ℕ) (xs : List Noted) → f < length g.layout.program.functions → Reached n f near → ((q : ℕ) → is_member qs q ≡ true → is_member (frame g f).saved q ≡ true)
       → At g k n (singles (saves near (frame g f) qs) ++ xs) → ((m : ℕ) → Saved k n m f qs xs → Later P m) → Later P n
   saves_run k P n f near [] xs there reached inside h go =
       go n
@@ -102,7 +102,7 @@ module _ (g : Given) where
       let word = saved_word f q there member in
       let below = position-below fr.saved q member in
       let rest = saves near fr qs in
-      store_any g k P n 0 (singles rest ++ xs) Sw Whole (frame_register near) (machine_register q) (frame_offset near fr (saved_at fr q)) (saved_at fr q) (reg g n (machine_register q)) refl (reached (saved_at fr q) word.from word.small) word.aligned refl word.opens h
+      store_any g k P n 0 (singles rest ++ xs) OfFrame Sw Whole (frame_register near) (machine_register q) (frame_offset near fr (saved_at fr q)) (saved_at fr q) (reg g n (machine_register q)) refl (reached (saved_at fr q) word.from word.small) word.aligned word.ram refl word.opens h
       (λ m a.
       let same : (r : ℕ) → reg g m r ≡ reg g n r = same_registers a in
       saves_run k P m f near qs xs there (λ x low less. ap (λ y. displaced y (frame_offset near fr x)) (same (frame_register near)) ∙ reached x low less) (λ p e. inside p (member_tail q p qs e)) a.at
@@ -129,12 +129,12 @@ module _ (g : Given) where
       })))
     where
       -- x0 is no register that a store could have written
-      same_registers : {m : ℕ} {w : Width} {a v : ℕ} {ys : List Item} → Stored g k n m 0 w a v ys → (r : ℕ) → reg g m r ≡ reg g n r
+      same_registers : {m : ℕ} {w : Width} {a v : ℕ} {ys : List Noted} → Stored g k n m 0 w a v ys → (r : ℕ) → reg g m r ≡ reg g n r
       same_registers s zero = refl
       same_registers s (suc r) = s.registers (suc r) (λ e. omega (arith, e))
 
   -- registers were loaded
-  pub record Loaded (k : Course) (n m f : ℕ) (qs : List ℕ) (xs : List Item) : Type 0 where
+  pub record Loaded (k : Course) (n m f : ℕ) (qs : List ℕ) (xs : List Noted) : Type 0 where
     pub at : At g k m xs
     pub world : (state g m).world ≡ (state g n).world
     pub loads : (q w : ℕ) → read g n Whole (saved_at (frame g f) q) ≡ Some w → (is_member qs q ≡ true) ⊎ (reg g n (machine_register q) ≡ w) → reg g m (machine_register q) ≡ w
@@ -144,7 +144,7 @@ module _ (g : Given) where
   free_frame true q less = λ e. (value_is q less).base_not (sym e)
   free_frame false q less = λ e. (steady_is q).five (sym e)
 
-  pub loads_run : (k : Course) (P : ℕ → Type 0) (n f : ℕ) (near : Bool) (qs : List ℕ) (xs : List Item) → f < length g.layout.program.functions → Reached n f near → ((q : ℕ) → is_member qs q ≡ true → (is_member (frame g f).saved q ≡ true) × (q < 24))
+  pub loads_run : (k : Course) (P : ℕ → Type 0) (n f : ℕ) (near : Bool) (qs : List ℕ) (xs : List Noted) → f < length g.layout.program.functions → Reached n f near → ((q : ℕ) → is_member qs q ≡ true → (is_member (frame g f).saved q ≡ true) × (q < 24))
       → At g k n (singles (loads near (frame g f) qs) ++ xs) → ((m : ℕ) → Loaded k n m f qs xs → Later P m) → Later P n
   loads_run k P n f near [] xs there reached inside h go =
       go n (record { at = h; world = refl; loads = λ q w e z. ⊎_elim (λ (a : is_member [] q ≡ true). absurd cc) (λ (b : reg g n (machine_register q) ≡ w). b) z; others = λ r o. refl })
@@ -155,7 +155,7 @@ module _ (g : Given) where
       let value = value_is q member.1 in
       let rest = loads near fr qs in
       let found = can_read Whole (memory g n) (saved_at fr q) (subst (λ fs. AreOpen fs (saved_at fr q) 4) (sym (frames_are g n)) word.opens) in
-      load_one g k P n (singles rest ++ xs) (machine_register q) (frame_register near) (frame_offset near fr (saved_at fr q)) (saved_at fr q) found.0 value.some value.less (reached (saved_at fr q) word.from word.small) word.aligned found.1 h
+      load_one g k P n (singles rest ++ xs) (machine_register q) (frame_register near) (frame_offset near fr (saved_at fr q)) (saved_at fr q) found.0 value.some value.less (reached (saved_at fr q) word.from word.small) word.aligned word.ram found.1 h
       (λ m a.
       let same_reads : (b : ℕ) → read g m Whole b ≡ read g n Whole b = λ b. ap (λ (x : World). read_from (λ c. c.read) Whole x.memory b) a.world in
       loads_run k P m f near qs xs there (λ x low less. ap (λ y. displaced y (frame_offset near fr x)) (a.others (frame_register near) (free_frame near q member.1)) ∙ reached x low less) (λ p e. inside p (member_tail q p qs e)) a.at

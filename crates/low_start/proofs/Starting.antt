@@ -10,7 +10,6 @@ use Rattle.rv_core.specs.Instructions.{addi}
 use Rattle.rv_core.specs.Memory.{read_from}
 use Rattle.rv_core.specs.Machine as machine
 use Rattle.rv_core.specs.Runs.{Visit}
-use Rattle.code_items.specs.declared.item.Item.{Item}
 use Rattle.code_items.specs.declared.item.Item.TheVariants as items
 use Rattle.code_steps.specs.Steps.{Later}
 use Rattle.code_steps.proofs.LaterLemmas.{now, and_then}
@@ -23,11 +22,12 @@ use Rattle.low_ir.specs.Runs.{Bank, Done, Bad, write_all, enter, begin, first_in
 use Rattle.low_ir.specs.Places.{Placed, machine_registers, read_place, places}
 use Rattle.low_items.specs.Numbers.{link, base, base_address, service, machine_register, load_upper, lower_of}
 use Rattle.low_items.specs.Frames.{object_at}
-use Rattle.low_items.specs.Functions.{PlacedBlock, PlacedFunction, no_function, singles, function_in, is_leaf, entry_code, at_once, block_count, body_items, items_at}
+use Rattle.low_items.specs.Functions.{PlacedBlock, PlacedFunction, no_function, function_in, is_leaf, entry_code, at_once, block_count, opening_items}
 use Rattle.low_items.proofs.ItemLemmas.{of_start}
+use Rattle.low_relation.specs.Noted.{Noted, noted, single, noted_body, noted_by, noted_at}
 use Rattle.low_relation.specs.Plans.{frame_size, object_size}
 use Rattle.low_relation.specs.Layouts.{HasCode, started_in, started}
-use Rattle.low_relation.specs.Positions.{Course}
+use Rattle.low_relation.specs.Positions.{Touches, Course}
 use Rattle.low_relation.specs.Views.{view_of, HasArrays}
 use Rattle.low_relation.specs.Waiting.{IsHome}
 use Rattle.low_relation.specs.Following.{PlacedRunning}
@@ -35,6 +35,7 @@ use Rattle.low_steps.proofs.Given.{Given, state, reg, At}
 use Rattle.low_steps.proofs.Words.{parts-joined}
 use Rattle.low_steps.proofs.Places.{steady_is}
 use Rattle.low_steps.proofs.Moving.{add_immediate, upper}
+use Rattle.low_steps.proofs.Noting.{noted_singles}
 use Rattle.low_steps.proofs.Operands.{frame}
 use Rattle.low_follow.proofs.Apart.{arrays_kept}
 use Rattle.low_follow.proofs.Plains.{Runs, Going_at}
@@ -74,14 +75,14 @@ module _ (g : Given) where
   abbrev first_course : Course
   first_course = record { function = home; stop = g.layout.stops home 0; trace = []; returns = [] }
 
-  abbrev ending : List Item
-  ending = items.Single (addi service 0 (pos 0)) ∷ items.Exit ∷ []
+  abbrev ending : List Noted
+  ending = single (addi service 0 (pos 0)) ∷ noted items.Exit ∷ []
 
-  abbrev calling : List Item
-  calling = items.Call true p.main ∷ ending
+  abbrev calling : List Noted
+  calling = noted (items.Call true p.main) ∷ ending
 
-  abbrev opening : List Item
-  opening = items.Single (load_upper base base_address) ∷ items.Single (addi base base (lower_of base_address)) ∷ calling
+  abbrev opening : List Noted
+  opening = single (load_upper base base_address) ∷ single (addi base base (lower_of base_address)) ∷ calling
 
   one_block : 0 < block_count g.layout.memory p home
   one_block = subst (λ (b : Bool). 0 < (if b then 1 else (length (function_in p home).blocks + (if at_once g.layout.memory p home then 0 else 1)))) (sym (same_test home)) (omega arith)
@@ -94,7 +95,7 @@ module _ (g : Given) where
   at_first =
       let l = g.layout in
       let entry = g.laid.entry in
-      let is : items_at l.memory p home 0 ≡ opening = ap (λ bs. slice_index_or bs 0 []) (of_start l.memory p) in
+      let is : noted_at l.memory p home 0 ≡ opening = ap (noted_by l.memory p home 0) (ap (λ (fn : PlacedFunction). slice_get fn.blocks 0) (behind_all p.functions)) ∙ ap (λ bs. map noted (slice_index_or bs 0 [])) (of_start l.memory p) in
       let code = subst (λ xs. HasCode l home (l.stops home 0) (l.starts home 0) xs) is (g.laid.blocks home 0 (omega arith) one_block) in
       record {
         running = refl;
@@ -104,6 +105,7 @@ module _ (g : Given) where
         events = ap l.begins entry ∙ g.laid.begins home 0 (omega arith) one_block ∙ none_started;
         returns = refl;
         straight = refl;
+        touches = All-nil (Touches l);
         inside = All-nil (λ (v : Visit). l.code.exit v.at ≡ false);
       }
 
@@ -117,7 +119,7 @@ module _ (g : Given) where
 
   calls_main : (P : ℕ → Type 0) → ((back m : ℕ) → Called back m → Later P m) → Later P 0
   calls_main P go =
-      upper g first_course P 0 (items.Single (addi base base (lower_of base_address)) ∷ calling) base base_address (omega arith) (omega arith) at_first
+      upper g first_course P 0 (single (addi base base (lower_of base_address)) ∷ calling) base base_address (omega arith) (omega arith) at_first
       (λ n a. add_immediate g first_course P n calling base base (lower_of base_address) (omega arith) (omega arith) a.at
       (λ m b. call_lays g first_course P m p.main true ending b.at
       (λ back j rest c. go back j
@@ -140,12 +142,12 @@ module _ (g : Given) where
         let there = g.laid.formed.main in
         let fr = frame g p.main in
         let leaf = is_leaf (function_in p p.main) in
-        let xs = body_items l.memory p p.main 0 block.code block.end in
+        let xs = noted_body l.memory p p.main 0 block.code block.end in
         let k = block_course g p.main 0 (record { function = p.main; block = 0 } ∷ []) (back ∷ []) in
         let goal = Going_at g (first_running block size) in
         let low = c.home_is.room in
-        enter_filled g k goal m p.main (singles (entry_code leaf fr) ++ xs) (at_block g m p.main 0 block [] (back ∷ []) there has c.stood)
-        (λ n a. opens g k goal n p.main back leaf xs there (a.registers base ∙ c.based) (a.registers link ∙ c.link_is) (omega (arith, low)) a.at
+        enter_filled g k goal m (map noted (opening_items l.memory p p.main 0) ++ xs) (at_block g m p.main 0 block [] (back ∷ []) there has c.stood)
+        (λ n a. opens g k goal n p.main back leaf xs there (a.registers base ∙ c.based) (a.registers link ∙ c.link_is) (omega (arith, low)) (subst (λ ys. At g k n (ys ++ xs)) (noted_singles (entry_code leaf fr)) a.at)
         (λ j o.
         let world : (state g n).world ≡ (state g 0).world = a.world ∙ c.world in
         let slots_are = length-replicate {A = Option Value} size None in

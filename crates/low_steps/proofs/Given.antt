@@ -6,10 +6,10 @@ use Rattle.rv_core.specs.Table.{Table}
 use Rattle.rv_core.specs.Memory.{Block, read_from}
 use Rattle.rv_core.specs.Machine.{State, register_of}
 use Rattle.rv_core.specs.Runs.{Setup, setup}
+use Rattle.low_relation.specs.Noted.{Noted}
 use Rattle.low_relation.specs.Layouts.{Layout, IsLaid}
 use Rattle.low_relation.specs.Positions as positions
 use Rattle.low_relation.specs.Positions.{Course}
-use Rattle.code_items.specs.declared.item.Item.{Item}
 
 pub record Given : Type 0 where
   pub layout : Layout
@@ -35,5 +35,5 @@ read g n w a = read_from (λ b. b.read) w (state g n).world.memory a
 abbrev pub memory : Given → ℕ → List Block
 memory g n = (state g n).world.memory
 
-abbrev pub At : Given → Course → ℕ → List Item → Type 0
+abbrev pub At : Given → Course → ℕ → List Noted → Type 0
 At g k n xs = positions.At g.layout (run_of g) k n xs

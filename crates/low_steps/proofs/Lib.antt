@@ -2,9 +2,11 @@ pub mod Given
 pub mod Words
 pub mod Values
 pub mod Opened
+pub mod Touching
 pub mod Stepping
 pub mod Moving
 pub mod Places
+pub mod Noting
 pub mod Operands
 pub mod Plain
 pub mod Accesses

@@ -2,6 +2,8 @@
 use Rattle.std.proofs.Common.{◌≡◌, ◌≢◌, ◌⊎◌, ⊎_elim, inl, inr, ℕ, zero, suc, ◌+◌, ◌*◌, ◌%◌, ◌^◌, ◌<◌, ◌≤◌, List, [], ◌∷◌, length, Option, Some, None, sym, subst, arith}
 use Rattle.std.specs.Prelude.{slice_index_or}
 use Rattle.std.proofs.lemmas.Bool.Decides.{nat_tests, leb_tells}
+use Rattle.rv_core.specs.declared.regions.Region.TheVariants.{Ram}
+use Rattle.rv_core.specs.Regions.{region_of}
 use Rattle.rv_core.specs.Images.{Image}
 use Rattle.rv_core.specs.Memory.{loaded}
 use Rattle.rv_core.specs.Stores as stores
@@ -9,6 +11,7 @@ use Rattle.low_items.specs.Numbers.{machine_register}
 use Rattle.low_items.specs.Frames.{Frame, frame_of, slot_at}
 use Rattle.low_relation.specs.Plans.{frame_size}
 use Rattle.low_relation.specs.Layouts.{Layout, AreOpen, IsOpen, IsLaid}
+use Rattle.low_steps.proofs.Touching.{region_of-part}
 
 -- a register that only a value is written to: none of x5 to x7, x10 and x17
 pub record IsSteady (r : ℕ) : Type 0 where
@@ -103,6 +106,7 @@ open-part (f ∷ fs) a n b k from to (inr h) = inr (open-part fs a n b k from to
 pub record IsFrameWord (image : Image) (fr : Frame) (a : ℕ) : Type 0 where
   pub small : a < 2 ^ 32
   pub aligned : a % 4 ≡ 0
+  pub ram : region_of a ≡ Some Ram
   pub opens : IsOpen image a 4
   pub from : fr.at ≤ a
   pub to : a + 4 ≤ fr.at + frame_size fr
@@ -116,6 +120,7 @@ frame_word l image laid f j there within =
     record {
       small = omega arith;
       aligned = omega arith;
+      ram = region_of-part Ram fr.at (frame_size fr) (fr.at + 4 * j) placed.in_ram (omega arith) (omega arith);
       opens = open-part (stores.frames_of (loaded image.segments)) fr.at (frame_size fr) (fr.at + 4 * j) 4 (omega arith) (omega arith) (laid.opens.frames f there);
       from = omega arith;
       to = omega arith;

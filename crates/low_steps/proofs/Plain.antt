@@ -9,11 +9,9 @@ use Rattle.rv_core.specs.declared.row.Effect.TheVariants.{WithImmediate, WithReg
 use Rattle.rv_core.specs.Rows.{row_of}
 use Rattle.rv_core.specs.Arithmetic.{word, alu_value}
 use Rattle.rv_core.specs.Instructions.{instruction, addi, ecall}
-use Rattle.rv_core.specs.Machine.{World, input_value, performed_by, sets, calls, register_of, with_register}
+use Rattle.rv_core.specs.Machine.{World, access_by, access_of, input_value, performed_by, sets, calls, register_of, with_register}
 use Rattle.rv_core.specs.Code.{instruction_before}
 use Rattle.rv_core.specs.Runs.{linkage_by}
-use Rattle.code_items.specs.declared.item.Item.{Item}
-use Rattle.code_items.specs.declared.item.Item.TheVariants.{Single}
 use Rattle.code_steps.specs.Steps.{Later}
 use Rattle.code_steps.proofs.StepLemmas.{register-written, register-other, length-written}
 use Rattle.low_ir.specs.declared.places.Place.{Place}
@@ -27,14 +25,15 @@ use Rattle.low_items.specs.Numbers.{base, base_address, result, service, first_f
 use Rattle.low_items.specs.Frames.{slot_at}
 use Rattle.low_items.specs.Operands.{place_register, operand_register, operand_code, into_code, result_code, store_code}
 use Rattle.low_items.specs.Emission.{register_op, with_number, with_amount, immediate_form, immediate_of, set_code, operate_by}
-use Rattle.low_items.specs.Functions.{singles}
+use Rattle.low_relation.specs.Noted.{Noted, single, singles}
 use Rattle.low_relation.specs.Positions.{Course}
 use Rattle.low_steps.proofs.Given.{Given, state, reg, At}
 use Rattle.low_steps.proofs.Words.{word-lower, short-joined, test-zero}
 use Rattle.low_steps.proofs.Places.{IsSteady, value_is}
+use Rattle.low_steps.proofs.Touching.{touches_none}
 use Rattle.low_steps.proofs.Stepping.{Wrote, go_on, set_one}
 use Rattle.low_steps.proofs.Moving.{add_immediate}
-use Rattle.low_steps.proofs.Operands.{frame, code, first_is_free, second_is_free, some_word, in_parts, Ready, ready_kept, Fetched, operand, into, operand_apart, IsThere, IsOther, Gave, gave_behind, from_wrote, to_slot}
+use Rattle.low_steps.proofs.Operands.{frame, code, first_is_free, second_is_free, some_word, in_parts, Ready, ready_kept, operand, into, operand_apart, IsThere, IsOther, Gave, gave_behind, from_wrote, to_slot}
 use Rattle.low_steps.proofs.Operands as operands
 
 register_row : (operator : Alu) → (row_of (register_op operator)).effect ≡ WithRegister operator
@@ -103,7 +102,7 @@ form_is RemainderUnsigned n form small e = absurd cc
 
 module _ (g : Given) where
   -- a value is set
-  pub set_lays : (k : Course) (P : ℕ → Type 0) (n f : ℕ) (file : File) (xs : List Item) (d : Place) (x : Operand Place) (v : Value) → Ready g f file n → operand_value places file x ≡ Some v → IsThere g f d → code g v < 2 ^ 32
+  pub set_lays : (k : Course) (P : ℕ → Type 0) (n f : ℕ) (file : File) (xs : List Noted) (d : Place) (x : Operand Place) (v : Value) → Ready g f file n → operand_value places file x ≡ Some v → IsThere g f d → code g v < 2 ^ 32
       → At g k n (singles (set_code (frame g f) d x) ++ xs) → ((m : ℕ) → Gave g k n m f d (code g v) xs → Later P m) → Later P n
   set_lays k P n f file xs (InRegister q) x v ready e inside small h go =
       let value = value_is q inside in
@@ -133,14 +132,14 @@ module _ (g : Given) where
   target_based f (Slot j) inside = λ e. omega (arith, e)
 
   -- what is computed into it goes to its place
-  pub computed : (k : Course) (P : ℕ → Type 0) (n m f w : ℕ) (xs : List Item) (d : Place) → f < length g.layout.program.functions → IsThere g f d → w < 2 ^ 32 → reg g n base ≡ base_address
+  pub computed : (k : Course) (P : ℕ → Type 0) (n m f w : ℕ) (xs : List Noted) (d : Place) → f < length g.layout.program.functions → IsThere g f d → w < 2 ^ 32 → reg g n base ≡ base_address
       → Wrote g k n m (place_register (frame g f) first_free d) w (singles (result_code (frame g f) first_free second_free d) ++ xs) → ((j : ℕ) → Gave g k n j f d w xs → Later P j) → Later P m
   computed k P n m f w xs d there inside small based a go =
       operands.result g k P m f w xs d there inside small (a.others base (target_based f d inside) ∙ based) a.value a.at
       (λ j b. go j (gave_behind g k n m j f d w xs a.world (λ r s o. a.others r (target_apart f d r s o)) b))
 
   -- an operator of two operands, the right one in a register or in the instruction
-  by_register : (k : Course) (P : ℕ → Type 0) (n f : ℕ) (file : File) (xs : List Item) (operator : Alu) (d : Place) (x y : Operand Place) (a b : ℕ) → Ready g f file n → operand_value places file x ≡ Some (Word a) → operand_value places file y ≡ Some (Word b)
+  by_register : (k : Course) (P : ℕ → Type 0) (n f : ℕ) (file : File) (xs : List Noted) (operator : Alu) (d : Place) (x y : Operand Place) (a b : ℕ) → Ready g f file n → operand_value places file x ≡ Some (Word a) → operand_value places file y ≡ Some (Word b)
       → IsThere g f d → alu_value operator a b < 2 ^ 32 → At g k n (singles (operate_by (frame g f) None operator d x y) ++ xs) → ((m : ℕ) → Gave g k n m f d (alu_value operator a b) xs → Later P m) → Later P n
   by_register k P n f file xs operator d x y a b ready e1 e2 inside small h go =
       let fr = frame g f in
@@ -159,12 +158,13 @@ module _ (g : Given) where
       let left : reg g j rx ≡ a = q.others rx (operand_apart g f n file x (Word a) ready e1) ∙ p.value in
       let s = state g j in
       set_one g k P j i (singles last ++ xs) rd (alu_value operator a b) (target_some f d inside) (target_less f d inside) q.at
+      (touches_none g.layout s.pc (access_of i s) (ap (λ e. access_by e i s) (register_row operator)))
       (ap (λ e. linkage_by e (instruction_before s.world.memory s.pc) i) (register_row operator))
       (ap (λ e. performed_by e i s) (register_row operator) ∙ ap (λ u. sets rd (alu_value operator u (reg g j ry)) s) left ∙ ap (λ u. sets rd (alu_value operator a u) s) q.value)
       (λ t w. computed k P j t f (alu_value operator a b) xs d ready.there inside small ready3.based w
       (λ u z. go u (gave_behind g k n j u f d (alu_value operator a b) xs (q.world ∙ p.world) (λ r s o. q.others r s.six ∙ p.others r s.five) z)))))
 
-  by_number : (k : Course) (P : ℕ → Type 0) (n f : ℕ) (file : File) (xs : List Item) (operator : Alu) (d : Place) (x y : Operand Place) (a b : ℕ) (form : Op × ℤ) → Ready g f file n → operand_value places file x ≡ Some (Word a) → IsForm operator b form
+  by_number : (k : Course) (P : ℕ → Type 0) (n f : ℕ) (file : File) (xs : List Noted) (operator : Alu) (d : Place) (x y : Operand Place) (a b : ℕ) (form : Op × ℤ) → Ready g f file n → operand_value places file x ≡ Some (Word a) → IsForm operator b form
       → IsThere g f d → alu_value operator a b < 2 ^ 32 → At g k n (singles (operate_by (frame g f) (Some form) operator d x y) ++ xs) → ((m : ℕ) → Gave g k n m f d (alu_value operator a b) xs → Later P m) → Later P n
   by_number k P n f file xs operator d x y a b form ready e1 is inside small h go =
       let fr = frame g f in
@@ -177,12 +177,13 @@ module _ (g : Given) where
       let ready2 = ready_kept g f n m first_free file first_is_free ready p.world p.others in
       let s = state g m in
       set_one g k P m i (singles last ++ xs) rd (alu_value operator a b) (target_some f d inside) (target_less f d inside) p.at
+      (touches_none g.layout s.pc (access_of i s) (ap (λ e. access_by e i s) is.effect))
       (ap (λ e. linkage_by e (instruction_before s.world.memory s.pc) i) is.effect)
       (ap (λ e. performed_by e i s) is.effect ∙ ap (λ u. sets rd (alu_value operator u (word form.1)) s) p.value ∙ ap (λ u. sets rd (alu_value operator a u) s) is.number)
       (λ t w. computed k P m t f (alu_value operator a b) xs d ready.there inside small ready2.based w
       (λ u z. go u (gave_behind g k n m u f d (alu_value operator a b) xs p.world (λ r s o. p.others r s.five) z))))
 
-  by_form : (k : Course) (P : ℕ → Type 0) (n f : ℕ) (file : File) (xs : List Item) (operator : Alu) (d : Place) (x y : Operand Place) (a b : ℕ) (form : Option (Op × ℤ)) → Ready g f file n → operand_value places file x ≡ Some (Word a) → operand_value places file y ≡ Some (Word b)
+  by_form : (k : Course) (P : ℕ → Type 0) (n f : ℕ) (file : File) (xs : List Noted) (operator : Alu) (d : Place) (x y : Operand Place) (a b : ℕ) (form : Option (Op × ℤ)) → Ready g f file n → operand_value places file x ≡ Some (Word a) → operand_value places file y ≡ Some (Word b)
       → immediate_of operator y ≡ form → IsThere g f d → alu_value operator a b < 2 ^ 32 → At g k n (singles (operate_by (frame g f) form operator d x y) ++ xs) → ((m : ℕ) → Gave g k n m f d (alu_value operator a b) xs → Later P m) → Later P n
   by_form k P n f file xs operator d x y a b None ready e1 e2 is inside small h go = by_register k P n f file xs operator d x y a b ready e1 e2 inside small h go
   by_form k P n f file xs operator d x (Register p) a b (Some form) ready e1 e2 is inside small h go = absurd cc
@@ -190,23 +191,23 @@ module _ (g : Given) where
       let same : c % 2 ^ 32 ≡ b = ap (code g) (some_word (c % 2 ^ 32) (Word b) e2) in
       by_number k P n f file xs operator d x (Constant c) a b form ready e1 (subst (λ w. IsForm operator w form) same (form_is operator (c % 2 ^ 32) form (omega arith) is)) inside small h go
 
-  pub operate_lays : (k : Course) (P : ℕ → Type 0) (n f : ℕ) (file : File) (xs : List Item) (operator : Alu) (d : Place) (x y : Operand Place) (a b : ℕ) → Ready g f file n → operand_value places file x ≡ Some (Word a) → operand_value places file y ≡ Some (Word b)
+  pub operate_lays : (k : Course) (P : ℕ → Type 0) (n f : ℕ) (file : File) (xs : List Noted) (operator : Alu) (d : Place) (x y : Operand Place) (a b : ℕ) → Ready g f file n → operand_value places file x ≡ Some (Word a) → operand_value places file y ≡ Some (Word b)
       → IsThere g f d → alu_value operator a b < 2 ^ 32 → At g k n (singles (operate_by (frame g f) (immediate_of operator y) operator d x y) ++ xs) → ((m : ℕ) → Gave g k n m f d (alu_value operator a b) xs → Later P m) → Later P n
   operate_lays k P n f file xs operator d x y a b ready e1 e2 inside small h go = by_form k P n f file xs operator d x y a b (immediate_of operator y) ready e1 e2 refl inside small h go
 
   -- a byte was written: x10 and x17 alone have changed
-  pub record Exchanged (k : Course) (n m : ℕ) (world : World) (xs : List Item) : Type 0 where
+  pub record Exchanged (k : Course) (n m : ℕ) (world : World) (xs : List Noted) : Type 0 where
     pub at : At g k m xs
     pub world_is : (state g m).world ≡ world
     pub others : (q : ℕ) → q ≢ result → q ≢ service → reg g m q ≡ reg g n q
 
-  pub put_lays : (k : Course) (P : ℕ → Type 0) (n f : ℕ) (file : File) (xs : List Item) (x : Operand Place) (w : ℕ) → Ready g f file n → operand_value places file x ≡ Some (Word w)
+  pub put_lays : (k : Course) (P : ℕ → Type 0) (n f : ℕ) (file : File) (xs : List Noted) (x : Operand Place) (w : ℕ) → Ready g f file n → operand_value places file x ≡ Some (Word w)
       → At g k n (singles (into_code (frame g f) result x ++ addi service 0 (pos 2) ∷ ecall ∷ []) ++ xs)
       → ((m : ℕ) → Exchanged k n m (record (state g n).world { output = (state g n).world.output ++ w % 2 ^ 8 ∷ [] }) xs → Later P m) → Later P n
   put_lays k P n f file xs x w ready e h go =
       let last = addi service 0 (pos 2) ∷ ecall ∷ [] in
       into g k P n f result file (singles last ++ xs) x (Word w) (omega arith) (omega arith) ready e (in_parts g k n (into_code (frame g f) result x) last xs h)
-      (λ m p. add_immediate g k P m (Single ecall ∷ xs) service 0 (pos 2) (omega arith) (omega arith) p.at
+      (λ m p. add_immediate g k P m (single ecall ∷ xs) service 0 (pos 2) (omega arith) (omega arith) p.at
       (λ j q.
       let s = state g j in
       let two : reg g j service ≡ 2 = q.value ∙ omega arith in
@@ -214,7 +215,7 @@ module _ (g : Given) where
       let count = q.at.count in
       let b = reg g j result % 2 ^ 8 in
       let same : s.world ≡ (state g n).world = q.world ∙ p.world in
-      go_on g k P j ecall xs (with_register s.registers result b) (record s.world { output = s.world.output ++ b ∷ [] }) q.at refl (ap (λ u. calls u s) two) (length-written s.registers result b ∙ count)
+      go_on g k P j ecall xs (with_register s.registers result b) (record s.world { output = s.world.output ++ b ∷ [] }) q.at tt refl (ap (λ u. calls u s) two) (length-written s.registers result b ∙ count)
       (λ t a. go t
       (record {
         at = a.at;
@@ -223,21 +224,21 @@ module _ (g : Given) where
       }))))
 
   -- a byte was read into x10
-  pub record Took (k : Course) (n m : ℕ) (xs : List Item) : Type 0 where
+  pub record Took (k : Course) (n m : ℕ) (xs : List Noted) : Type 0 where
     pub at : At g k m xs
     pub world_is : (state g m).world ≡ record (state g n).world { input = drop 1 (state g n).world.input }
     pub value : reg g m result ≡ input_value (state g n).world.input
     pub others : (q : ℕ) → q ≢ result → q ≢ service → reg g m q ≡ reg g n q
 
-  pub take_lays : (k : Course) (P : ℕ → Type 0) (n : ℕ) (xs : List Item) → At g k n (Single (addi service 0 (pos 1)) ∷ Single ecall ∷ xs) → ((m : ℕ) → Took k n m xs → Later P m) → Later P n
+  pub take_lays : (k : Course) (P : ℕ → Type 0) (n : ℕ) (xs : List Noted) → At g k n (single (addi service 0 (pos 1)) ∷ single ecall ∷ xs) → ((m : ℕ) → Took k n m xs → Later P m) → Later P n
   take_lays k P n xs h go =
-      add_immediate g k P n (Single ecall ∷ xs) service 0 (pos 1) (omega arith) (omega arith) h
+      add_immediate g k P n (single ecall ∷ xs) service 0 (pos 1) (omega arith) (omega arith) h
       (λ j q.
       let s = state g j in
       let one : reg g j service ≡ 1 = q.value ∙ omega arith in
       let count = q.at.count in
       let byte = input_value s.world.input in
-      go_on g k P j ecall xs (with_register s.registers result byte) (record s.world { input = drop 1 s.world.input }) q.at refl (ap (λ u. calls u s) one) (length-written s.registers result byte ∙ count)
+      go_on g k P j ecall xs (with_register s.registers result byte) (record s.world { input = drop 1 s.world.input }) q.at tt refl (ap (λ u. calls u s) one) (length-written s.registers result byte ∙ count)
       (λ t a. go t
       (record {
         at = a.at;
