@@ -42,7 +42,7 @@ fn emit_code(
 }
 
 /// The code of a function that stands before its first block.
-fn emit_opening(scope: &Scope<'_>, items: &mut Vec<Item>, block: u32) -> Result<(), Memory>
+pub fn emit_opening(scope: &Scope<'_>, items: &mut Vec<Item>, block: u32) -> Result<(), Memory>
     requires { IsScope scope.now }
     ensures { OnOk result (items.new.items ≡ items.old.items ++ opening_items (memory scope.now) (program scope.now) scope.now.number block) }
 {
@@ -85,7 +85,7 @@ fn block_items(
 }
 
 /// The place of the code behind a block.
-fn place_behind(place: usize, block: &Block) -> Result<usize, Memory>
+pub fn place_behind(place: usize, block: &Block) -> Result<usize, Memory>
     ensures { IfOk result (λ behind. behind ≡ place + suc (length block.now.code.items)) }
 {
     let Some(end) = place.checked_add(block.code.len()) else {

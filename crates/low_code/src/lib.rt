@@ -20,5 +20,8 @@ mod passing;
 mod programs;
 mod scope;
 
+pub use blocks::{Spot, emit_opening, place_behind};
+pub use instrs::{emit_end, emit_instr, emit_return};
 pub use laws::places_are_there;
-pub use programs::items_of;
+pub use programs::{items_of, scope_of};
+pub use scope::Scope;

@@ -40,7 +40,7 @@ fn is_leaf(blocks: &[Block]) -> bool
 }
 
 /// A function of the program, whose number this is.
-fn scope_of<'a>(
+pub fn scope_of<'a>(
     code: &'a LowReg,
     memory: &'a Data,
     number: usize,
