@@ -1,13 +1,13 @@
 -- What the image of a program keeps is what each of its parts does.
-use Rattle.std.proofs.Common.{ℕ, zero, suc, ◌*◌, ◌^◌, ◌<◌, ◌≤◌, List, [], ◌∷◌, length, All, refl, sym, subst, arith}
-use Rattle.std.specs.Prelude.{slice_index_or}
+use Rattle.std.proofs.Common.{ℕ, zero, suc, ◌*◌, ◌^◌, ◌<◌, ◌≤◌, List, [], ◌∷◌, length, All, refl, sym, ap, ◌∙◌, subst, arith}
+use Rattle.std.specs.Prelude.{pos, slice_index_or}
+use Rattle.rv_core.specs.Runs.{setup}
 use Rattle.std.proofs.lemmas.List.Elements.{All-head, All-tail}
-use Rattle.flow_system.specs.Systems.{System, IsSystemOf}
 use Rattle.code_forms.specs.Regions.{functions_size}
+use Rattle.flow_system.specs.Systems.{System, IsSystemOf}
 use Rattle.low_ir.specs.Code.{Low}
 use Rattle.low_ir.specs.Formed.{IsLow}
 use Rattle.low_ir.specs.Places.{Assignment, Placed, Placing, assignment, placed}
-use Rattle.low_ir.specs.Room.{room}
 use Rattle.low_ir.specs.Spacing.{IsAssignment}
 use Rattle.low_items.specs.Frames.{Frame, frame_of, no_frame}
 use Rattle.low_items.specs.Formed.{IsProgram}
@@ -28,7 +28,6 @@ use Rattle.low_simulation.proofs.Simulated.{simulated}
 use Rattle.laid_accesses.proofs.Naming.{named}
 use Rattle.laid_claims.specs.Listed.{Laid, claims_of, functions_of}
 use Rattle.laid_claims.proofs.Claimed.{are_claims}
-use Rattle.laid_claims.proofs.Counts.{claims_few}
 use Rattle.laid_claims.proofs.Listing.{accesses_listed}
 use Rattle.laid_claims.proofs.Marks.{places_apart, places_hold}
 use Rattle.laid_claims.proofs.Ranges.{ranges_hold}
@@ -38,9 +37,15 @@ use Rattle.laid_flows.specs.Flows.{HasFlows}
 use Rattle.laid_flows.proofs.FlowLemmas.{flows_keep_bounds}
 use Rattle.laid_bounds.specs.Bounds.{IsBounded}
 use Rattle.laid_bounds.proofs.BoundLemmas.{laid_can_bound}
+use Rattle.low_marks.proofs.Marks.{marks_counted}
+use Rattle.low_marks.proofs.Places.{marks_kept, places_many}
+use Rattle.laid_sizes.proofs.Counting.{claims_counted}
+use Rattle.laid_sizes.proofs.Filled.{all_filled}
+use Rattle.laid_sizes.proofs.Lying.{all_lie}
+use Rattle.laid_sizes.proofs.Taken.{all_small}
 use Rattle.laid_image.specs.Images.{HasClaims, laid_of}
 use Rattle.laid_image.proofs.Whole.{has_claims}
-use Rattle.laid_law.specs.Kept.{IsLight, KeepsLow}
+use Rattle.laid_law.specs.Kept.{IsLight, KeepsLow, Simulates}
 use Rattle.laid_law.proofs.RoomLemmas.{rooms_kept, turns_same}
 
 saved_from : (fs : List Frame) (f : ℕ) → All IsSaving fs → length (slice_index_or fs f no_frame).saved ≤ 24
@@ -80,23 +85,32 @@ module _ (pl : Placement) (ps : List Placing) (low : Low) (is : IsLow low) (fits
   bounded : IsLight low → IsBounded p
   bounded h = record { turns = turns_same a 0 low.functions h.turns; light = subst (λ n. 4000 * n < 2 ^ 60) (sym (rooms_kept a low).weight) h.light }
 
+  runs : Simulates pl ps low
+  runs table input bytes i v u good =
+      let found = simulated pl p formed sound (placed_keeps ps low) room_in table input bytes i v u (carried a low (all_safe a low fits) input i v u good).done in
+      let n = found.0 in
+      (found.0, record { ends = found.1; passes = λ mark. marks_counted pl p (setup (image_in pl p) table input) v u n found.1 mark ∙ ap pos (marks_kept a low u.trace mark) })
+
   pub keeps : KeepsLow pl ps low
   keeps = record {
     rooms = rooms_kept a low;
     loadable = image_loadable pl p room_in;
-    runs = λ table input bytes i v u good.
-        simulated pl p formed sound (placed_keeps ps low) room_in table input bytes i v u (carried a low (all_safe a low fits) input i v u good).done;
+    runs = runs;
     claims = claimed;
-    few = claims_few l claimed.settled;
+    few = claims_counted pl p claimed.settled;
     loops = are_claims l claimed.settled;
     lines = regions_hold l claimed.settled;
     listed = λ f b j t x there less low e h. accesses_listed l claimed.settled f b j t x there less low e h;
+    filled = λ moves elements. all_filled pl p claimed.settled room_in moves elements;
+    standing = λ mark. places_many mark l;
     marks = λ mark. places_hold l mark claimed.settled;
     apart = λ m n at h k. places_apart l claimed.settled m n at h k;
     ranges = ranges_hold l claimed.settled;
     functions = λ f below. function_movable l claimed.settled f below;
     arrays = λ o x. array_movable l claimed.settled o x;
     room = subst (λ n. functions_size (functions_of l) ≤ 4 * n) (rooms_kept a low).room (chosen_has_room (memory_of pl p) p (rows_in pl p) (record { program = formed; words = words; saved = saved }));
+    lie = all_lie pl p claimed.settled room_in;
+    small = λ moves. all_small pl p claimed.settled words moves;
     flows = λ c s sys unit x loose. flows_keep_bounds c l (image_in pl p) s (flows s sys) unit x loose;
     bounded = λ c s ls sys shaped light. laid_can_bound c l (image_in pl p) s ls (flows s sys) shaped (bounded light);
   }

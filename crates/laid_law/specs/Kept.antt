@@ -1,11 +1,13 @@
 -- What the image of a program in the low form keeps of it, with the claims on it.
-use Rattle.std.specs.Prelude.{◌≡◌, ℕ, suc, ◌+◌, ◌*◌, ◌%◌, ◌^◌, ◌<◌, ◌≤◌, List, length, Some, All, Contains, slice_get, take}
+use Rattle.std.specs.Prelude.{◌≡◌, ℕ, suc, ◌+◌, ◌*◌, ◌%◌, ◌^◌, ◌<◌, ◌≤◌, pos, List, length, Some, All, Contains, slice_get, take}
+use Rattle.frac128.specs.Terms.{int_sum_by}
 use Rattle.rv_core.specs.declared.costs.Costs.{Costs}
 use Rattle.rv_core.specs.Images.{Image, AreLoadable}
 use Rattle.rv_core.specs.Table.{Table, table_of}
-use Rattle.rv_core.specs.Runs.{setup}
+use Rattle.rv_core.specs.Runs.{mrun, setup}
 use Rattle.flow_system.specs.declared.shapes.LoopShape.{LoopShape}
 use Rattle.flow_system.specs.Counts.{Amounts}
+use Rattle.flow_system.specs.KeptRuns.{visit_count}
 use Rattle.flow_system.specs.Loose.{IsLoose}
 use Rattle.flow_system.specs.Systems.{System, IsSystemOf}
 use Rattle.code_items.specs.Items.{total}
@@ -16,7 +18,7 @@ use Rattle.low_ir.specs.Code.{Function, Low, Note, Object}
 use Rattle.low_ir.specs.Effects.{World}
 use Rattle.low_ir.specs.Formed.{IsLow}
 use Rattle.low_ir.specs.Runs.{lrun}
-use Rattle.low_ir.specs.Turns.{IsGood}
+use Rattle.low_ir.specs.Turns.{IsGood, mark_count}
 use Rattle.low_ir.specs.Places.{Placed, Placing, assignment, placed}
 use Rattle.low_ir.specs.Room.{room, weight}
 use Rattle.low_ir.specs.Spacing.{IsAssignment}
@@ -28,13 +30,17 @@ use Rattle.low_sizes.specs.Sizes.{HasSizes, HasWords}
 use Rattle.laid_accesses.specs.Laws.{AreLines}
 use Rattle.laid_accesses.specs.Lines.{Access, access_at}
 use Rattle.laid_accesses.specs.Touches.{Touch}
-use Rattle.laid_claims.specs.Laws.{AreFew, AreLoopClaims, AreRanges, HasPlaces, IsPlaceOf, Rise}
-use Rattle.laid_claims.specs.Listed.{Laid, accesses_of, claims_of, functions_of, placing, regions_of, touches_at}
+use Rattle.laid_claims.specs.Laws.{AreLoopClaims, AreRanges, HasPlaces, IsPlaceOf, Rise}
+use Rattle.laid_claims.specs.Listed.{Laid, accesses_of, claims_of, functions_of, places_of, placing, regions_of, touches_at}
 use Rattle.laid_items.specs.Laws.{IsMovable}
 use Rattle.laid_items.specs.Movables.{array_item}
 use Rattle.laid_flows.specs.Flows.{KeepsBounds}
 use Rattle.laid_shapes.specs.Shapes.{AreShaped}
 use Rattle.laid_bounds.specs.Bounds.{CanTurn}
+use Rattle.low_marks.specs.Laws.{functions_marked}
+use Rattle.laid_sizes.specs.Segments.{AreFilled}
+use Rattle.laid_sizes.specs.Items.{HasElements, MovesItems}
+use Rattle.laid_sizes.specs.Laws.{AreCounted, AreSmall, LieWherePlaced}
 use Rattle.laid_image.specs.Images.{HasClaims, laid_of}
 use Rattle.path_search.specs.Conditions.{CanBound}
 use Rattle.laid_law.specs.Rooms.{KeepsRoom}
@@ -60,9 +66,16 @@ module _ (pl : Placement) (ps : List Placing) (low : Low) where
   abbrev pub laid : Laid
   laid = laid_of pl over
 
-  -- a machine that runs the image has ended where a good run of the program has, with its value, its output and its blocks
+  -- n steps of the machine that runs the image, at these costs and on this input, have ended as a run with this value and world
+  pub record KeepsRun (table : Table) (input : List ℕ) (v : ℕ) (u : World) (n : ℕ) : Type 0 where
+    -- with its value, its output and its blocks, which begin in the same order
+    pub ends : Ends (layout_of pl over) (setup image table input) v u n
+    -- a mark is passed as often as its addresses are visited, all together
+    pub passes : (mark : ℕ) → int_sum_by (visit_count (mrun (setup image table input) n).visits) (places_of laid mark) ≡ pos (mark_count low u.trace mark)
+
+  -- as each good run of the program
   abbrev pub Simulates : Type 0
-  Simulates = (table : Table) (input : List ℕ) → All (λ b. b < 256) input → (i v : ℕ) (u : World) → IsGood low (lrun low input i) v u → (n : ℕ) × Ends (layout_of pl over) (setup image table input) v u n
+  Simulates = (table : Table) (input : List ℕ) → All (λ b. b < 256) input → (i v : ℕ) (u : World) → IsGood low (lrun low input i) v u → (n : ℕ) × KeepsRun table input v u n
 
   -- per unit the counts of a loose flow add up to at most the weight, and those of a mark to at most its reach
   abbrev pub FlowsAreBounded : Type 0
@@ -79,14 +92,17 @@ module _ (pl : Placement) (ps : List Placing) (low : Low) where
     -- no claim is bad, each address that is reached is code, and loops and functions fit the flow system
     pub claims : HasClaims laid image
     -- there are no more exits and lines of regions than instructions, and no more loop claims than loops
-    pub few : AreFew laid
+    pub few : AreCounted pl over
     -- each loop claim has the number and the bounds of a loop
     pub loops : AreLoopClaims laid
     -- each load and store lies in a line that has the regions of what it touches
     pub lines : AreLines (accesses_of laid) (regions_of laid)
     pub listed : IsListed laid
+    -- and where only items are placed, and no array is empty, the image has a segment in each of these regions
+    pub filled : MovesItems pl over → HasElements over → All (AreFilled image.segments) (regions_of laid)
     -- a mark has an address for each block that has it, and no two marks share one
     pub marks : (mark : ℕ) → HasPlaces laid mark
+    pub standing : (mark : ℕ) → length (places_of laid mark) ≡ functions_marked mark over.functions
     pub apart : (m n a : ℕ) → IsPlaceOf laid m a → IsPlaceOf laid n a → m ≡ n
     pub ranges : AreRanges laid
     -- what may be moved has a size in whole words, and addresses in ascending order
@@ -94,6 +110,11 @@ module _ (pl : Placement) (ps : List Placing) (low : Low) where
     pub arrays : (o : ℕ) (x : Object) → ((array_item laid o x).size % 4 ≡ 0) × Rise 0 (array_item laid o x).at
     -- in bytes, four for each instruction
     pub room : functions_size (functions_of laid) ≤ 4 * room low
+    -- functions and arrays lie in the regions of their items, which the placement says
+    pub lie : LieWherePlaced pl over
+    -- segments keep four bytes for each instruction and the bytes of arrays that aren't local, and those in the scratchpad take no more
+    -- than the items that are placed there
+    pub small : MovesItems pl over → AreSmall pl over
     pub flows : FlowsAreBounded
     pub bounded : CanBeBounded
 
