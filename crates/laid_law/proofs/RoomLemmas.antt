@@ -5,7 +5,6 @@ use Rattle.std.proofs.lemmas.List.Elements.{All-cons, All-head, All-nil, All-tai
 use Rattle.std.proofs.lemmas.List.Sums.{sum_by-cons}
 use Rattle.low_ir.specs.Code.{Function, Note, Low}
 use Rattle.low_ir.specs.Places.{Assignment, place_function, place_functions, placed}
-use Rattle.low_ir.specs.Room.{reaches}
 use Rattle.low_items.specs.Functions.{PlacedFunction}
 use Rattle.laid_bounds.specs.Bounds.{CanTurn}
 use Rattle.placed_room.proofs.Rooms.{room_kept}

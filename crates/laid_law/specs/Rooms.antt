@@ -1,7 +1,7 @@
 -- Places leave how large a program is, and how much of it may be executed, as they are.
 use Rattle.std.specs.Prelude.{◌≡◌, ℕ, length, sum_by}
 use Rattle.low_ir.specs.Code.{Function, Low, Note}
-use Rattle.low_ir.specs.Places.{Assignment, Placed, placed}
+use Rattle.low_ir.specs.Places.{Placed}
 use Rattle.low_ir.specs.Room.{reach, room, weight}
 use Rattle.low_items.specs.Functions.{PlacedFunction}
 
@@ -11,6 +11,3 @@ pub record KeepsRoom (p : Placed) (low : Low) : Type 0 where
   pub room : room p ≡ room low
   pub weight : weight p ≡ weight low
   pub reach : (mark : ℕ) → reach p mark ≡ reach low mark
-
-abbrev pub PlacesKeepRoom : Type 0
-PlacesKeepRoom = (a : Assignment) (low : Low) → KeepsRoom (placed a low) low

@@ -6,12 +6,11 @@
 //! arrays lie where the lists say, and in the regions that the placement says; code takes no more than its room, and what
 //! is placed no more than its sizes; loose flows keep the weight and the reaches of the program, and the greatest one can
 //! be searched for. Proved: [`layouts_keep`], a call with an empty body, for each program whose displacements are words and
-//! whose code and data keep to the bounds of `low_sizes`; and [`places_keep_room`], that places leave the room, the weight
-//! and the reaches of a program as they are.
+//! whose code and data keep to the bounds of `low_sizes`.
 //!
 //! The crate joins what others prove, and knows no more than they do.
 #![tactic(auto)]
 
 mod laws;
 
-pub use laws::{layouts_keep, places_keep_room};
+pub use laws::layouts_keep;
