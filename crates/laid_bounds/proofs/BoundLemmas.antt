@@ -1,5 +1,5 @@
 -- A laid program keeps to what a search for the greatest flow rests on.
-use Rattle.std.proofs.Common.{ℕ, zero, suc, ◌+◌, ◌<◌, ◌≤◌, length, Contains, sym, ap, subst, arith}
+use Rattle.std.proofs.Common.{ℕ, zero, suc, ◌+◌, ◌<◌, ◌≤◌, length, sym, ap, subst, arith}
 use Rattle.std.specs.Prelude.{All}
 use Rattle.std.proofs.lemmas.List.Elements.{All-cons, All-nil}
 use Rattle.rv_core.specs.declared.costs.Costs.{Costs}
@@ -22,7 +22,7 @@ use Rattle.laid_shapes.proofs.Fitting.{claims_fit}
 use Rattle.path_places.specs.Reached.{AreFilled}
 use Rattle.path_counts.specs.Laws.{HasBounds}
 use Rattle.laid_bounds.specs.Bounds.{LaidCanBound}
-use Rattle.laid_bounds.proofs.LoopLemmas.{bounds, no_back}
+use Rattle.laid_bounds.proofs.LoopLemmas.{bounds, backs_apart}
 
 module _ (l : Laid) (image : Image) (s : System) (has : HasFlows l image s) where
   abbrev g : Graph
@@ -47,10 +47,12 @@ pub laid_can_bound : (c : Costs) → LaidCanBound (table_of c)
 laid_can_bound c l image s ls has shaped h =
     let claims = has.system.same_claims in
     record {
-      fits = claims_fit l has.settled (length l.program.functions) image s ls has.laid has.system shaped;
-      filled = spans_filled l image s has 0 (suc (length l.program.functions)) (omega arith);
+      fit = record {
+        fits = claims_fit l has.settled (length l.program.functions) image s ls has.laid has.system shaped;
+        apart = backs_apart l image s has ls shaped;
+        filled = spans_filled l image s has 0 (suc (length l.program.functions)) (omega arith);
+      };
       facts = ap (λ (d : Claims). d.facts) claims;
       bounds = subst (λ (d : Claims). All HasBounds d.loops) (sym claims) (bounds l image s has h);
-      backs = λ x among e other. absurd (no_back l image s has ls shaped x (subst (λ (d : Claims). Contains d.loops x) claims among) e);
       loose = λ unit x loose. (flows_keep_bounds c l image s has unit x loose).below h.light;
     }

@@ -24,6 +24,8 @@ use Rattle.laid_claims.specs.Listed.{Laid, claims_of, loops_of, placing}
 use Rattle.laid_claims.proofs.Claimed.{are_claims}
 use Rattle.laid_flows.specs.Flows.{HasFlows}
 use Rattle.laid_shapes.specs.Shapes.{AreShaped}
+use Rattle.loop_fit.specs.Loops.{HeadsOwnLoop}
+use Rattle.path_places.proofs.FunctionLemmas.{is_back_at}
 use Rattle.path_counts.specs.Laws.{HasBounds}
 use Rattle.laid_bounds.specs.Bounds.{CanTurn, IsBounded}
 
@@ -72,6 +74,16 @@ back_claim P (c ∷ cs) (s ∷ ss) a all h e = by_test (s.back == a) refl e (bac
     by_test true t e later = let k = h.0 in (c, All-head P c cs all, sym k.back ∙ same_test s.back a t)
     by_test false t e later = later e
 
+-- a shape is that of a claim
+claim_at : (cs : List LoopClaim) (ss : List LoopShape) (s : LoopShape) → AreShaped cs ss → Contains ss s → (c : LoopClaim) × Contains cs c × (s.header ≡ c.header)
+claim_at cs [] s h (i, lt, e) = absurd (omega (arith, lt))
+claim_at [] (x ∷ ss) s h i = absurd h
+claim_at (c ∷ cs) (x ∷ ss) s h (zero, lt, e) = (c, (zero, omega arith, refl), sym (ap (λ (y : LoopShape). y.header) e) ∙ h.0.header)
+claim_at (c ∷ cs) (x ∷ ss) s h (suc i, lt, e) = later (claim_at cs ss s h.1 (i, omega (arith, lt), e))
+  where
+    later : ((d : LoopClaim) × Contains cs d × (s.header ≡ d.header)) → (d : LoopClaim) × Contains (c ∷ cs) d × (s.header ≡ d.header)
+    later r = (r.0, (suc r.1.0, omega (arith, r.1.1), r.1.2), r.2)
+
 module _ (l : Laid) (image : Image) (s : System) (has : HasFlows l image s) where
   abbrev g : Graph
   g = graph_of l.memory l.program
@@ -109,7 +121,7 @@ module _ (l : Laid) (image : Image) (s : System) (has : HasFlows l image s) wher
       let long_f = is_long g (placing l) code sh laid f m.latch in_f latch_f in
       omega (arith, before, long, same, at, long_f)
 
-  pub no_back : (ls : List LoopShape) → AreShaped (loops_of l) ls → (c : LoopClaim) → Contains (loops_of l) c → is_back ls c.header ≡ true → ⊥
+  no_back : (ls : List LoopShape) → AreShaped (loops_of l) ls → (c : LoopClaim) → Contains (loops_of l) c → is_back ls c.header ≡ true → ⊥
   no_back ls shaped c among e =
       let each = (are_claims l has.settled).each in
       let own = All-contains (IsClaimOf l) (loops_of l) c each among in
@@ -118,6 +130,11 @@ module _ (l : Laid) (image : Image) (s : System) (has : HasFlows l image s) wher
       let header : c.header ≡ start_of (placing l) own.function own.loop.header = ap (λ (x : LoopClaim). x.header) own.is in
       let back : d.0.back ≡ last_of (placing l) other.function other.loop.latch = ap (λ (x : LoopClaim). x.back) other.is in
       apart own.function other.function own.loop other.loop own.there other.there (sym header ∙ sym d.2 ∙ back)
+
+  pub backs_apart : (ls : List LoopShape) → AreShaped (loops_of l) ls → All (λ (k : LoopShape). HeadsOwnLoop ls k.back) ls
+  backs_apart ls shaped = λ i d lt j e below shared.
+      let c = claim_at (loops_of l) ls (slice_index_or ls j e) shaped (j, below, get_or_default ls j (slice_index_or ls j e) e below) in
+      absurd (no_back ls shaped c.0 c.1 (subst (λ a. is_back ls a ≡ true) (sym shared ∙ c.2) (is_back_at ls (slice_index_or ls i d) (i, lt, get_or_default ls i (slice_index_or ls i d) d lt))))
 
   one_bound : IsBounded l.program → (c : LoopClaim) → IsClaimOf l c → HasBounds c
   one_bound h c own =

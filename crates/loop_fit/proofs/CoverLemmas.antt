@@ -9,7 +9,7 @@ use Rattle.flow_system.specs.declared.shapes.Span.{Span}
 use Rattle.flow_system.specs.declared.moves.Move.{Move}
 use Rattle.flow_system.specs.Systems.{System}
 use Rattle.flow_system.specs.Shapes.{IsInSpan, IsInOne, AreApart, AreAllApart, StaysIn, BeginsEarlier}
-use Rattle.loop_fit.specs.Spans.{lies_within, KeepsTo, KeepAt, KeepUpTo, SpansFit}
+use Rattle.loop_fit.specs.Spans.{lies_within, HoldsFirst, KeepsTo, KeepAt, KeepUpTo, SpansFit}
 use Rattle.loop_fit.proofs.PartLemmas.{filter_from, from_filter}
 
 -- a function's range as a test
@@ -189,8 +189,9 @@ to_earlier (p ∷ ps) t a (suc i) d apart lt h (inr e) = any_more (λ p. p.first
 abbrev AllStay : List Span → List Move → Type 0
 AllStay ps ms = All (λ m. All (StaysIn m) ps) ms
 
-pub fit_from : (s : System) (ps : List Span) → AreAllApart ps → All (λ m. IsInOne ps m.at) s.moves → KeepUpTo (length ps) ps s.moves → SpansFit s ps
-fit_from s ps apart covered keep = record {
+pub fit_from : (s : System) (ps : List Span) → All HoldsFirst ps → AreAllApart ps → All (λ m. IsInOne ps m.at) s.moves → KeepUpTo (length ps) ps s.moves → SpansFit s ps
+fit_from s ps filled apart covered keep = record {
+  filled = filled;
   apart = apart;
   covered = covered;
   stays = λ k m lt i p long within. (kept i p long k m lt within).stays;

@@ -17,7 +17,7 @@ use Rattle.flow_system.specs.Moves.{destinations}
 use Rattle.flow_system.specs.Systems.{System, IsSystem}
 use Rattle.flow_system.specs.Indexes.{arrivals_by, arrivals_from, AreArrivals}
 use Rattle.flow_system.specs.Shapes.{AreShapesOf, IsInLoop, IsLoop, EntersAtHeader, onward, onward_by, is_back, GoesUp}
-use Rattle.loop_fit.specs.Loops.{lies_in, goes_alone, arrives_in, EntersBy, HeadersAscend, IsBackOf, GoesBackTo}
+use Rattle.loop_fit.specs.Loops.{lies_in, goes_alone, arrives_in, EntersBy, HeadersAscend, IsBackOf, GoesBackTo, HeadsOwnLoop}
 use Rattle.loop_fit.specs.Nests.{IsFilled}
 use Rattle.flow_lookup.specs.Runs.{those_at}
 use Rattle.loop_fit.proofs.PartLemmas.{filter_from, from_filter, those_from, from_those}
@@ -290,6 +290,13 @@ found_only ls header a p up most point (k, l, lt, is, back) = by_order (order k 
 
 pub found_here : (ls : List LoopShape) (header a p : ℕ) (d : LoopShape) → p < length ls → (get_or ls p d).header ≡ header → (get_or ls p d).back ≡ a → Any (IsBackOf header a) ls
 found_here ls header a p d lt e f = (p, get_or ls p d, lt, get_or_default ls p (get_or ls p d) d lt, (e, f))
+
+-- a header that is an address is the one found there
+pub heads_own : (ls : List LoopShape) (a p : ℕ) → HeadersAscend ls → p ≤ length ls → IsPartitionPoint (λ l. ltb l.header a ≡ true) (λ l. ltb l.header a ≡ false) ls p
+    → (p < length ls → (d : LoopShape) → (get_or ls p d).header ≡ a → (get_or ls p d).back ≡ a) → HeadsOwnLoop ls a
+heads_own ls a p up most point own k d lt e =
+    let f = found_only ls a (get_or ls k d).back p up most point (k, get_or ls k d, lt, get_or_default ls k (get_or ls k d) d lt, (e, refl)) in
+    let g = f.1 d in sym g.1 ∙ own f.0 d g.0
 
 -- back jumps
 

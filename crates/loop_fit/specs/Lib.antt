@@ -1,3 +1,4 @@
 pub mod Nests
 pub mod Loops
 pub mod Spans
+pub mod Fitting

@@ -41,8 +41,13 @@ IsBackOf header a l = (l.header ≡ header) × (l.back ≡ a)
 abbrev pub GoesBackTo : List LoopShape → Move → Type 0
 GoesBackTo ls m = All (λ l. m.at ≡ l.back → destinations m ≡ l.header ∷ []) ls
 
-pub record LoopsFit (s : System) (ls : List LoopShape) : Type 0 where
+-- no loop but one that jumps back from there has the address as its header
+abbrev pub HeadsOwnLoop : List LoopShape → ℕ → Type 0
+HeadsOwnLoop ls a = All (λ l. l.header ≡ a → l.back ≡ a) ls
+
+pub record ShapesFit (s : System) (ls : List LoopShape) : Type 0 where
   pub shapes : AreShapesOf s.claims.loops ls
   pub nested : AreAllNested ls
   pub loops : All (IsLoop s) ls
   pub up : All (GoesUp ls) s.moves
+  pub apart : All (λ l. HeadsOwnLoop ls l.back) ls

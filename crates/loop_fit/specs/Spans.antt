@@ -30,7 +30,12 @@ pub record KeepAt (i : ℕ) (ps : List Span) (ms : List Move) : Type 0 where
 abbrev pub KeepUpTo : ℕ → List Span → List Move → Type 0
 KeepUpTo n ps ms = (i : ℕ) → i < n → KeepAt i ps ms
 
+-- a function holds the address where it begins
+abbrev pub HoldsFirst : Span → Type 0
+HoldsFirst p = p.first < p.end
+
 pub record SpansFit (s : System) (ps : List Span) : Type 0 where
+  pub filled : All HoldsFirst ps
   pub apart : AreAllApart ps
   pub covered : All (λ m. IsInOne ps m.at) s.moves
   pub stays : All (λ m. All (StaysIn m) ps) s.moves

@@ -5,7 +5,7 @@ ghost use Rattle.std.specs.List.Sorted.{IsNonDecreasingBy};
 ghost use Rattle.std.specs.Option.{option_to_list};
 ghost use Rattle.flow_system.specs.Moves.{destinations};
 ghost use Rattle.flow_system.specs.Shapes.{AreShapesOf, IsInLoop, IsLoop, EntersAtHeader, onward, GoesUp};
-ghost use Rattle.loop_fit.specs.Loops.{lies_in, HoldsEnds, goes_alone, arrives_in, EntersBy, IsBackOf, GoesBackTo, HeadersAscend, LoopsFit};
+ghost use Rattle.loop_fit.specs.Loops.{lies_in, HoldsEnds, goes_alone, arrives_in, EntersBy, IsBackOf, GoesBackTo, HeadersAscend, HeadsOwnLoop, ShapesFit};
 
 use crate::nest::nest;
 use flow_lookup::moves_at;
@@ -194,9 +194,38 @@ fn go_up(system: &System, shapes: &[LoopShape]) -> bool
     true
 }
 
+/// Whether no loop but one that jumps back from there has an address as its header.
+fn heads_own_loop(shapes: &[LoopShape], at: u32) -> bool
+    requires { HeadersAscend shapes.now }
+    ensures { (result ≡ true) ↔ HeadsOwnLoop shapes.now at }
+{
+    let place = shapes.partition_point(|shape| shape.header < at);
+    if place == shapes.len() {
+        return true;
+    }
+    if shapes[place].header == at {
+        return shapes[place].back == at;
+    }
+    true
+}
+
+/// Whether no jump back is the header of another loop.
+fn are_apart(system: &System, shapes: &[LoopShape]) -> bool
+    requires { AreShapesOf system.now.claims.loops shapes.now }
+    ensures { (result ≡ true) ↔ All (λ l. HeadsOwnLoop shapes.now l.back) shapes.now }
+{
+    system.is_system();
+    for i in 0..shapes.len() {
+        if !heads_own_loop(shapes, shapes[i].back) {
+            return false;
+        }
+    }
+    true
+}
+
 /// Whether loops fit a system.
 pub fn fit(system: &System, shapes: &[LoopShape]) -> bool
-    ensures { (result ≡ true) ↔ LoopsFit system.now shapes.now }
+    ensures { (result ≡ true) ↔ ShapesFit system.now shapes.now }
 {
     if !are_shapes_of(system.claims().loops(), shapes) {
         return false;
@@ -208,6 +237,9 @@ pub fn fit(system: &System, shapes: &[LoopShape]) -> bool
         return false;
     }
     if !are_loops(system, shapes) {
+        return false;
+    }
+    if !are_apart(system, shapes) {
         return false;
     }
     go_up(system, shapes)

@@ -3,10 +3,22 @@ ghost use Rattle.std.specs.Prelude.{◌≡◌, ◌↔◌, ◌<◌, true, length,
 ghost use Rattle.std.specs.List.{Any};
 ghost use Rattle.flow_system.specs.Systems.{AreAscending};
 ghost use Rattle.flow_system.specs.Shapes.{IsInSpan, IsInOne, AreApart, AreAllApart, onward};
-ghost use Rattle.loop_fit.specs.Spans.{lies_within, AreInOrder, CallsBefore, KeepsTo, KeepAt, KeepUpTo, SpansFit};
+ghost use Rattle.loop_fit.specs.Spans.{lies_within, HoldsFirst, AreInOrder, CallsBefore, KeepsTo, KeepAt, KeepUpTo, SpansFit};
 
 use crate::loops::onward;
 use flow_system::{Move, Span, System};
+
+/// Whether each function holds the address where it begins.
+fn hold_firsts(spans: &[Span]) -> bool
+    ensures { (result ≡ true) ↔ All HoldsFirst spans.now }
+{
+    for i in 0..spans.len() {
+        if spans[i].end <= spans[i].first {
+            return false;
+        }
+    }
+    true
+}
 
 /// Whether two functions have no address in common.
 fn is_apart(a: Span, b: Span) -> bool
@@ -200,6 +212,9 @@ fn are_apart(spans: &[Span], in_order: bool) -> bool
 pub fn fit(system: &System, spans: &[Span]) -> bool
     ensures { (result ≡ true) ↔ SpansFit system.now spans.now }
 {
+    if !hold_firsts(spans) {
+        return false;
+    }
     let in_order = are_in_order(spans);
     if !are_apart(spans, in_order) {
         return false;

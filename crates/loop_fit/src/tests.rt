@@ -25,6 +25,9 @@ const ENTRY: u32 = 8;
 /// Header, back jump, first and last address of a loop.
 type Shape = [u32; 4];
 
+/// Headers and back jumps of the two loops.
+const LOOPS: [(u32, u32); 2] = [(8, 24), (12, 20)];
+
 /// The two loops, and the two functions.
 const NEST: [Shape; 2] = [[8, 24, 8, 24], [12, 20, 12, 20]];
 
@@ -51,17 +54,17 @@ fn image(alloc: Global) -> Result<Image, Memory> {
     Ok(Image::new(ENTRY, segments))
 }
 
-fn claims(alloc: Global) -> Result<Option<Claims>, Memory> {
+fn claims(alloc: Global, given: &[(u32, u32)]) -> Result<Option<Claims>, Memory> {
     let exits = Vec::from_slice(alloc, &[28])?;
     let mut loops = Vec::new(alloc);
-    for (header, back) in [(8, 24), (12, 20)] {
+    for (header, back) in given {
         loops.push(LoopClaim {
             source: 0,
             factor: 1,
             min: 1,
             max: 4,
-            header,
-            back,
+            header: *header,
+            back: *back,
         })?;
     }
     if loops.len() > 1000 {
@@ -96,9 +99,9 @@ fn spans(alloc: Global, given: &[[u32; 2]]) -> Result<Vec<Span>, Memory> {
     Ok(spans)
 }
 
-fn with_system(alloc: Global) -> Result<Option<System>, Memory> {
+fn with_system(alloc: Global, loops: &[(u32, u32)]) -> Result<Option<System>, Memory> {
     let image = image(alloc)?;
-    match claims(alloc)? {
+    match claims(alloc, loops)? {
         Some(claims) => match system(alloc, &image, &claims) {
             Ok(system) => Ok(Some(system)),
             Err(_) => Ok(None),
@@ -107,14 +110,24 @@ fn with_system(alloc: Global) -> Result<Option<System>, Memory> {
     }
 }
 
-/// Whether these loops and functions fit the image's system; none if it has none.
-fn fit(alloc: Global, nest: &[Shape], functions: &[[u32; 2]]) -> Result<Option<bool>, Memory> {
+/// Whether these loops and functions fit the image's system under claims on those loops; none if it has none.
+fn fit_claims(
+    alloc: Global,
+    loops: &[(u32, u32)],
+    nest: &[Shape],
+    functions: &[[u32; 2]],
+) -> Result<Option<bool>, Memory> {
     let shapes = shapes(alloc, nest)?;
     let spans = spans(alloc, functions)?;
-    match with_system(alloc)? {
+    match with_system(alloc, loops)? {
         Some(system) => Ok(Some(loops_fit(&system, &shapes, &spans))),
         None => Ok(None),
     }
+}
+
+/// The same under the claims on the two loops.
+fn fit(alloc: Global, nest: &[Shape], functions: &[[u32; 2]]) -> Result<Option<bool>, Memory> {
+    fit_claims(alloc, &LOOPS, nest, functions)
 }
 
 #[test]
@@ -123,7 +136,7 @@ fn loops_and_functions_fit(rt: HostRuntime) -> Result<(), Fail> {
     assert_eq!(rt; fit(alloc, &NEST, &FUNCTIONS)?, Some(true));
     // A larger range, and functions that aren't there, in any order.
     let larger = [[8, 24, 8, 24], [12, 20, 12, 24]];
-    let more = [[64, 72], [0, 8], [40, 40], [8, 32]];
+    let more = [[64, 72], [0, 8], [40, 44], [8, 32]];
     assert_eq!(rt; fit(alloc, &larger, &more)?, Some(true));
     Ok(())
 }
@@ -160,5 +173,22 @@ fn other_functions_do_not_fit(rt: HostRuntime) -> Result<(), Fail> {
         Some(false)
     );
     assert_eq!(rt; fit(alloc, &NEST, &[[0, 32]])?, Some(false));
+    // One is empty.
+    assert_eq!(rt;
+        fit(alloc, &NEST, &[[0, 8], [40, 40], [8, 32]])?,
+        Some(false)
+    );
+    Ok(())
+}
+
+#[test]
+fn a_back_jump_is_no_other_header(rt: HostRuntime) -> Result<(), Fail> {
+    let alloc = rt.alloc();
+    // A third loop, whose jump back at 32 is never reached: from the exit, and from the first one's jump back.
+    for (header, fits) in [(28, true), (24, false)] {
+        let loops = [(8, 24), (12, 20), (header, 32)];
+        let nest = [[8, 24, 8, 32], [12, 20, 12, 20], [header, 32, header, 32]];
+        assert_eq!(rt; fit_claims(alloc, &loops, &nest, &FUNCTIONS)?, Some(fits));
+    }
     Ok(())
 }

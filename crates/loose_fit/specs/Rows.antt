@@ -1,5 +1,5 @@
 -- Prices over the loops of a system, tested move by move.
-use Rattle.std.specs.Prelude.{◌≡◌, ◌≢◌, ℕ, ◌^◌, ◌<◌, ◌≤◌, ℤ, pos, ◌+ℤ◌, ◌≤ℤ◌, List, length, Option, Some, None, All, slice_index_or}
+use Rattle.std.specs.Prelude.{◌≡◌, ℕ, ◌^◌, ◌<◌, ℤ, pos, ◌+ℤ◌, ◌≤ℤ◌, List, length, Option, Some, None, slice_index_or}
 use Rattle.frac128.specs.Terms.{Terms, coefficient}
 use Rattle.flow_system.specs.declared.claims.LoopClaim.{LoopClaim}
 use Rattle.loop_prices.specs.LoopPrices.{Worths, starts_from}

@@ -8,7 +8,7 @@ ghost use Rattle.loose_fit.specs.Rows.{IsClaimOf};
 use flow_system::LoopClaim;
 
 /// The number of the claim of a header, if there is one. Found by halving.
-pub fn claim_of(loops: &[LoopClaim], header: u32) -> Option<usize>
+fn claim_of(loops: &[LoopClaim], header: u32) -> Option<usize>
     requires { AddressesRise (λ c. c.header) loops.now }
     ensures { MatchOption result (All (λ c. c.header ≢ header) loops.now) (IsClaimOf loops.now header) }
 {

@@ -14,5 +14,4 @@ mod fit;
 mod line;
 mod row;
 
-pub use claim::claim_of;
 pub use fit::values_fit;

@@ -1,5 +1,5 @@
 -- What a search finds is the certificate of the walks.
-use Rattle.std.proofs.Common.{rules, ◌≡◌, ℕ, zero, suc, ◌+◌, ◌*◌, ◌<◌, ◌≤◌, ◌/◌, ◌^◌, ℤ, pos, neg_ℤ, ◌*ℤ◌, ◌≤ℤ◌, ◌<ℤ◌, arith, refl, sym, ap, ◌∙◌, subst, List, [], ◌∷◌, ◌++◌, length, Contains, All, Bool, true, false, cond, Option, Some, None, unsigned_abs, length-append}
+use Rattle.std.proofs.Common.{rules, ◌≡◌, ℕ, zero, suc, ◌*◌, ◌<◌, ◌/◌, ◌^◌, ℤ, pos, neg_ℤ, ◌*ℤ◌, ◌≤ℤ◌, ◌<ℤ◌, arith, refl, sym, ap, ◌∙◌, subst, List, [], ◌∷◌, ◌++◌, length, Contains, All, Bool, true, false, cond, Option, Some, None, unsigned_abs, length-append}
 use lib.IntN.{negsuc}
 use Rattle.std.specs.Prelude.{MatchOption}
 use Rattle.std.specs.Option.{IsSome}
@@ -52,6 +52,7 @@ use Rattle.path_values.proofs.ValueLemmas.{multipliers_of}
 use Rattle.path_values.specs.Laws.{plain_by}
 use Rattle.path_search.specs.Conditions.{CanBound}
 use Rattle.path_search.specs.Kinds.{SaysOne}
+use Rattle.path_search.proofs.ConditionLemmas.{backs_free}
 use Rattle.path_search.specs.Unmarked.{values_in, unmarked_of, AreAddable, marked}
 
 -- ---- the rows of a certificate without multipliers of never claims
@@ -233,14 +234,14 @@ within_all (c ∷ cs) h k = All-cons IsLoopWithin c cs (All-head HasBounds c cs 
 pub conditions_hold : (t : Table) (s : System) (ls : List LoopShape) (ps : List Span) → IsSystem s → AreReached s → CanBound t s ls ps → FetchesCost t → All HasShortBounds s.claims.loops → claim_count s.claims < 2 ^ 32 → IsBoundable t s ls ps
 conditions_hold t s ls ps system reached can fetches short few = record {
   limited = record {
-    whole = record { system = system; fits = can.fits; filled = can.filled; reached = reached };
+    whole = record { system = system; fits = can.fit.fits; filled = can.fit.filled; reached = reached };
     values = can.loose;
     loops = within_all s.claims.loops can.bounds short;
     few = omega (arith, few);
   };
   fetches = fetches;
   short = short;
-  backs = can.backs;
+  backs = backs_free s ls can.fit.fits.shapes can.fit.apart;
   facts = can.facts;
 }
 

@@ -95,6 +95,16 @@ fn are_short(loops: &[LoopClaim])
     }
 }
 
+/// A law: where a search can be made, its numbers keep to what `path_bound` asks.
+pub fn is_boundable(system: &System, shapes: &[LoopShape], spans: &[Span], costs: &Costs)
+    requires reached { AreReached system.now }
+    requires can { CanBound (table_of costs.now) system.now shapes.now spans.now }
+    ensures { IsBoundable (table_of costs.now) system.now shapes.now spans.now }
+{
+    system.is_system();
+    are_short(system.claims().loops());
+}
+
 /// The bound of a system without restrictions: its certificate, and whether it is the greatest value of a flow or there is
 /// no flow.
 ///
@@ -114,8 +124,7 @@ pub fn bound(
     ensures kind { IfOk result (λ b. IsMarked b.kind b.cert.mark) }
     ensures columns { IfOk result (λ b. b.columns ≡ []) }
 {
-    system.is_system();
-    are_short(system.claims().loops());
+    is_boundable(system, shapes, spans, costs);
     let cert = certificate(alloc, system, shapes, spans, costs)?;
     let kind = kind_of(cert.mark);
     Ok(Bounded {

@@ -6,7 +6,8 @@
 //! once for each loop around it. Proved: the certificate is in form and accepted, and it says that its bound is the
 //! greatest value of a flow, which it lists, or that there is none.
 //!
-//! [`can_bound`] tests what such a search rests on.
+//! [`can_bound`] tests what such a search rests on. A law, [`shared_headers_never_turn`], says what it costs that no jump
+//! back may be the header of another loop: no loop that can turn. Another, [`is_boundable`], gives what `path_bound` asks.
 //!
 //! The crate knows nothing of images, of files, and of how claims were found.
 #![tactic(auto)]
@@ -16,5 +17,5 @@ mod conditions;
 mod marking;
 mod unmarked;
 
-pub use bounding::bound;
-pub use conditions::can_bound;
+pub use bounding::{bound, is_boundable};
+pub use conditions::{can_bound, shared_headers_never_turn};

@@ -23,6 +23,6 @@ returns-then-not-cover c = (
 
 pub returns : goal.returns
 returns c = (
-  λ e. fit_from c.args.system.now c.args.spans.now (c.are_apart.ensures.0 (search rules)) (c.cover.ensures.0 (search rules)) (c.keep.ensures.0 e),
+  λ e. fit_from c.args.system.now c.args.spans.now (c.hold_firsts.ensures.0 (search rules)) (c.are_apart.ensures.0 (search rules)) (c.cover.ensures.0 (search rules)) (c.keep.ensures.0 e),
   λ h. c.keep.ensures.1 (keep_from c.args.system.now c.args.spans.now h),
 )

@@ -1,7 +1,6 @@
-use Rattle.std.proofs.Common.{rules, cond, ◌≡◌, ◌∙◌, sym, ap, pos, false, FitsSigned, to_z, of_z}
+use Rattle.std.proofs.Common.{rules, ◌∙◌, sym, FitsSigned}
 use Rattle.std.specs.Int.{w128}
 use Rattle.std.proofs.lemmas.Int.{to_z-of_z}
-use Rattle.std.specs.Prelude.{◌==◌}
 use Rattle.loose_fit.proofs.ClaimLemmas.{from_none, from_back, from_other}
 use Rattle.loose_fit.proofs.claim.starts_from.Goals as goal
 

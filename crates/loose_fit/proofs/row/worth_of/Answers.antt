@@ -1,4 +1,4 @@
-use Rattle.std.proofs.Common.{rules, ◌≡◌, ◌∙◌, ◌<◌, ◌^◌, sym, subst, ℤ, unsigned_abs, FitsSigned, to_z, of_z}
+use Rattle.std.proofs.Common.{rules, ◌∙◌, ◌<◌, ◌^◌, sym, subst, ℤ, unsigned_abs, FitsSigned}
 use Rattle.std.specs.Int.{w128}
 use Rattle.std.proofs.lemmas.Int.{to_z-of_z}
 use Rattle.loose_fit.proofs.FitLemmas.{worth_within, worth_small}

@@ -4,20 +4,14 @@ use Rattle.flow_system.specs.declared.cert.Cert.{Cert}
 use Rattle.flow_system.specs.Certificates.{Accepts, IsInForm}
 use Rattle.path_bound.proofs.BoundLemmas.{all_greatest}
 use Rattle.path_search.specs.Kinds.{SaysOne}
-use Rattle.path_search.proofs.SearchLemmas.{boundable, says_one}
+use Rattle.path_search.proofs.SearchLemmas.{says_one}
 use Rattle.path_search.proofs.bounding.bound.Goals as goal
 
-pub certificate-requires : goal.certificate-requires
-certificate-requires c = boundable (table_of c.args.costs.now) c.args.system.now c.args.shapes.now c.args.spans.now c.is_system.ensures c.requires.reached c.requires.can (record { flash = c.args.costs.now.flash.least; spm = c.args.costs.now.spm.least }) _ _ c.claims.ensures c.loops.ensures.value c.are_short.ensures c.loops.ensures.few
-
 pub kind_of-kind-requires : goal.kind_of-kind-requires
-kind_of-kind-requires c = subst (λ (x : Cert). SaysOne x.mark) (sym c.in_ok-cert.ensures) (says_one (table_of c.args.costs.now) c.args.system.now c.args.shapes.now c.args.spans.now
-    (boundable (table_of c.args.costs.now) c.args.system.now c.args.shapes.now c.args.spans.now c.is_system.ensures c.requires.reached c.requires.can (record { flash = c.args.costs.now.flash.least; spm = c.args.costs.now.spm.least }) _ _ c.claims.ensures c.loops.ensures.value c.are_short.ensures c.loops.ensures.few).limited.whole)
+kind_of-kind-requires c = subst (λ (x : Cert). SaysOne x.mark) (sym c.in_ok-cert.ensures) (says_one (table_of c.args.costs.now) c.args.system.now c.args.shapes.now c.args.spans.now c.is_boundable.ensures.limited.whole)
 
 pub returns-clause-form : goal.returns-clause-form
-returns-clause-form c = subst (IsInForm c.args.system.now.claims) (sym c.in_ok-cert.ensures) (all_greatest (table_of c.args.costs.now) c.args.system.now c.args.shapes.now c.args.spans.now
-    (boundable (table_of c.args.costs.now) c.args.system.now c.args.shapes.now c.args.spans.now c.is_system.ensures c.requires.reached c.requires.can (record { flash = c.args.costs.now.flash.least; spm = c.args.costs.now.spm.least }) _ _ c.claims.ensures c.loops.ensures.value c.are_short.ensures c.loops.ensures.few)).0
+returns-clause-form c = subst (IsInForm c.args.system.now.claims) (sym c.in_ok-cert.ensures) (all_greatest (table_of c.args.costs.now) c.args.system.now c.args.shapes.now c.args.spans.now c.is_boundable.ensures).0
 
 pub returns-clause-accepted : goal.returns-clause-accepted
-returns-clause-accepted c = subst (Accepts (table_of c.args.costs.now) c.args.system.now) (sym c.in_ok-cert.ensures) (all_greatest (table_of c.args.costs.now) c.args.system.now c.args.shapes.now c.args.spans.now
-    (boundable (table_of c.args.costs.now) c.args.system.now c.args.shapes.now c.args.spans.now c.is_system.ensures c.requires.reached c.requires.can (record { flash = c.args.costs.now.flash.least; spm = c.args.costs.now.spm.least }) _ _ c.claims.ensures c.loops.ensures.value c.are_short.ensures c.loops.ensures.few)).1
+returns-clause-accepted c = subst (Accepts (table_of c.args.costs.now) c.args.system.now) (sym c.in_ok-cert.ensures) (all_greatest (table_of c.args.costs.now) c.args.system.now c.args.shapes.now c.args.spans.now c.is_boundable.ensures).1

@@ -1,10 +1,5 @@
-use Rattle.std.proofs.Common.{◌≡◌, ◌∙◌, subst, ℤ, List, Some}
+use Rattle.std.proofs.Common.{◌∙◌}
 use Rattle.rv_core.specs.Table.{table_of}
-use Rattle.flow_system.specs.declared.cert.Cert.{Cert}
-use Rattle.flow_system.specs.Flows.{price}
-use Rattle.path_duals.specs.Duals.{never_multipliers, loop_multipliers}
-use Rattle.path_values.specs.Owed.{owe_at, nevers_by, loops_by}
-use Rattle.path_values.proofs.ValueLemmas.{multipliers_of}
 use Rattle.path_search.specs.Unmarked.{values_in}
 use Rattle.path_search.proofs.SearchLemmas.{some_of, items_of, unmarked_by, plain_is, nevers_found, loops_found}
 use Rattle.path_search.proofs.unmarked.unmarked_cert.Goals as goal
