@@ -7,7 +7,7 @@ use Rattle.rv_core.specs.Table.{Table, table_of}
 use Rattle.rv_core.specs.Runs.{mrun, setup}
 use Rattle.flow_system.specs.declared.shapes.LoopShape.{LoopShape}
 use Rattle.flow_system.specs.Counts.{Amounts}
-use Rattle.flow_system.specs.KeptRuns.{visit_count}
+use Rattle.flow_system.specs.KeptRuns.{KeepsClaims, visit_count}
 use Rattle.flow_system.specs.Loose.{IsLoose}
 use Rattle.flow_system.specs.Systems.{System, IsSystemOf}
 use Rattle.code_items.specs.Items.{total}
@@ -70,6 +70,8 @@ module _ (pl : Placement) (ps : List Placing) (low : Low) where
   pub record KeepsRun (table : Table) (input : List ℕ) (v : ℕ) (u : World) (n : ℕ) : Type 0 where
     -- with its value, its output and its blocks, which begin in the same order
     pub ends : Ends (layout_of pl over) (setup image table input) v u n
+    -- the claims are kept
+    pub claims : (s : System) → IsSystemOf image (claims_of laid) s → KeepsClaims (claims_of laid) (mrun (setup image table input) n)
     -- a mark is passed as often as its addresses are visited, all together
     pub passes : (mark : ℕ) → int_sum_by (visit_count (mrun (setup image table input) n).visits) (places_of laid mark) ≡ pos (mark_count low u.trace mark)
 
