@@ -55,4 +55,4 @@ module _ (pl : Placement) (ps : List Placing) (low : Low) (s : System) (has : Ha
     kept_within n keeps = bounds_runs (image_in pl p) t s c scale accepted flows input n (subst (λ (claims : Claims). KeepsClaims claims (run_of pl p t input n)) (sym sys.same_claims) keeps)
 
     pub in_time : (n : ℕ) × FinishesWithin pl p t input v u c.cycles n
-    in_time = let f = finishes in (f.0, record { finishes = f.1; within = λ accesses. kept_within f.0 (f.1.keeps accesses) })
+    in_time = let f = finishes in (f.0, record { finishes = f.1; within = kept_within f.0 f.1.keeps })

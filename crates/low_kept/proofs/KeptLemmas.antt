@@ -29,6 +29,7 @@ use Rattle.low_frames.specs.Memories.{Placement, memory_of}
 use Rattle.low_image.specs.Images.{image_in, exits_in, FitsImage}
 use Rattle.low_image.proofs.LaidLemmas.{image_loadable}
 use Rattle.low_loaded.specs.Layouts.{layout_of}
+use Rattle.low_regions.proofs.Keeping.{keeps_regions}
 use Rattle.low_visits.proofs.CountLemmas.{ends_at_exit}
 use Rattle.low_visits.proofs.LoopLemmas.{loop_kept}
 use Rattle.laid_accesses.specs.Laws.{IsNamed}
@@ -37,7 +38,7 @@ use Rattle.laid_claims.specs.Listed.{Laid, claims_of, functions_of, loop_claim, 
 use Rattle.laid_claims.proofs.Claimed.{are_claims}
 use Rattle.laid_image.specs.Images.{HasClaims, laid_of}
 use Rattle.laid_image.proofs.Whole.{has_claims}
-use Rattle.low_kept.specs.Laws.{claims_on, run_of, AccessesAreNamed, HasSystem, LoopsKeepTotals}
+use Rattle.low_kept.specs.Laws.{claims_on, run_of, HasSystem, LoopsKeepTotals}
 
 contains_map : {A B : Type 0} (f : A → B) (xs : List A) (x : A) → Contains xs x → Contains (map f xs) (f x)
 contains_map f [] x (n, lt, e) = absurd (omega arith)
@@ -91,5 +92,5 @@ module _ (pl : Placement) (p : Placed) (s : System) (formed : IsProgram p) (soun
   loops_keep : All (KeepsLoop (visit_count run.visits)) (loops_of l)
   loops_keep = All-weaker (IsClaimOf l) (KeepsLoop (visit_count run.visits)) loop_keeps (loops_of l) (are_claims l has.settled).each
 
-  pub claims_kept : AccessesAreNamed pl p run → KeepsClaims (claims_on pl p) run
-  claims_kept accesses = all_kept l run ended loops_keep accesses
+  pub claims_kept : KeepsClaims (claims_on pl p) run
+  claims_kept = all_kept l run ended loops_keep (keeps_regions pl p has.settled (setup (image_in pl p) t input) v u n ends)

@@ -6,7 +6,7 @@ use Rattle.flow_system.specs.declared.cert.Cert.{Cert}
 use Rattle.flow_system.specs.Certificates.{Accepts}
 use Rattle.flow_system.specs.Claims.{Claims}
 use Rattle.flow_system.specs.Systems.{System, IsSystemOf}
-use Rattle.flow_system.specs.KeptRuns.{KeepsLine, KeepsClaims}
+use Rattle.flow_system.specs.KeptRuns.{KeepsClaims}
 use Rattle.low_ir.specs.Code.{Low}
 use Rattle.low_ir.specs.Effects.{World}
 use Rattle.low_ir.specs.Formed.{IsLow}
@@ -23,7 +23,7 @@ use Rattle.low_frames.specs.Memories.{Placement}
 use Rattle.low_image.specs.Images.{image_in, FitsImage}
 use Rattle.low_loaded.specs.Layouts.{layout_of}
 use Rattle.laid_accesses.specs.Laws.{IsNamed}
-use Rattle.laid_claims.specs.Listed.{claims_of, regions_of}
+use Rattle.laid_claims.specs.Listed.{claims_of}
 use Rattle.laid_image.specs.Images.{laid_of}
 
 abbrev pub claims_on : Placement → Placed → Claims
@@ -41,21 +41,17 @@ HasSystem pl p s = IsSystemOf (image_in pl p) (claims_on pl p) s
 abbrev pub LoopsKeepTotals : Placed → World → Type 0
 LoopsKeepTotals p u = (f : ℕ) → f < length p.functions → All (KeepsTotals f u.trace) (function_in p f).loops
 
--- what is visited accesses the regions alone that its lines name
-abbrev pub AccessesAreNamed : Placement → Placed → Run → Type 0
-AccessesAreNamed pl p r = All (λ v. All (KeepsLine v) (regions_of (laid_of pl p))) r.visits
-
 -- where the machine has ended as a run over places
 abbrev pub ImagesKeepClaims : Type 0
 ImagesKeepClaims =
     (pl : Placement) (p : Placed) (s : System) → IsProgram p → InProgram p → IsNamed p → FitsImage pl p → HasSystem pl p s
     → (t : Table) (input : List ℕ) (n v : ℕ) (u : World) → Ends (layout_of pl p) (setup (image_in pl p) t input) v u n → LoopsKeepTotals p u
-    → AccessesAreNamed pl p (run_of pl p t input n) → KeepsClaims (claims_on pl p) (run_of pl p t input n)
+    → KeepsClaims (claims_on pl p) (run_of pl p t input n)
 
 -- the machine ends after n steps as a run over places, and has kept the claims
 pub record Finishes (pl : Placement) (p : Placed) (t : Table) (input : List ℕ) (v : ℕ) (u : World) (n : ℕ) : Type 0 where
   pub ends : Ends (layout_of pl p) (setup (image_in pl p) t input) v u n
-  pub keeps : AccessesAreNamed pl p (run_of pl p t input n) → KeepsClaims (claims_on pl p) (run_of pl p t input n)
+  pub keeps : KeepsClaims (claims_on pl p) (run_of pl p t input n)
 
 -- a program over virtual registers, and places that meet what an assignment has to meet, for which code and data have room
 pub record HasImage (pl : Placement) (ps : List Placing) (low : Low) : Type 0 where
@@ -72,7 +68,7 @@ AssignmentsKeepClaims =
 -- and within the cycles of an accepted certificate
 pub record FinishesWithin (pl : Placement) (p : Placed) (t : Table) (input : List ℕ) (v : ℕ) (u : World) (cycles n : ℕ) : Type 0 where
   pub finishes : Finishes pl p t input v u n
-  pub within : AccessesAreNamed pl p (run_of pl p t input n) → (run_of pl p t input n).state.cycles ≤ cycles
+  pub within : (run_of pl p t input n).state.cycles ≤ cycles
 
 abbrev pub AssignmentsEndInTime : Type 0
 AssignmentsEndInTime =

@@ -1,12 +1,11 @@
 //! Runs of the image of a program keep the claims on it.
 //!
 //! Proved, by calls with empty bodies, for each flow system of the image and the claims: [`images_keep_claims`], that a run of the
-//! machine which has ended as a run over places, whose loops keep their bounds in all, keeps the claims on loops, exits and returns,
-//! and all of them where it accesses the regions alone that are claimed; [`assignments_keep_claims`], that as each good run over
-//! virtual registers the machine ends so; and [`assignments_end_in_time`], that then it takes no more cycles than an accepted
-//! certificate says.
+//! machine which has ended as a run over places, whose loops keep their bounds in all, keeps the claims;
+//! [`assignments_keep_claims`], that as each good run over virtual registers the machine ends so; and [`assignments_end_in_time`],
+//! that then it takes no more cycles than an accepted certificate says.
 //!
-//! The crate knows not how a machine comes to follow a run, nor what an access touches.
+//! The crate knows not how a machine comes to follow a run.
 #![tactic(auto)]
 
 mod laws;
