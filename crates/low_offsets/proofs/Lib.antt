@@ -1,0 +1,4 @@
+pub mod Displaced
+pub mod Values
+pub mod Statements
+pub mod Programs
