@@ -1,5 +1,5 @@
 -- The ranges of the certificate of the walks, by the values of loose flows.
-use Rattle.std.proofs.Common.{◌≡◌, ℕ, zero, suc, ◌+◌, ◌*◌, ◌/◌, ◌^◌, ◌<◌, ◌≤◌, ℤ, pos, neg_ℤ, ◌*ℤ◌, ◌≤ℤ◌, ◌<ℤ◌, arith, refl, sym, ap, ◌∙◌, subst, List, [], ◌∷◌, length, Contains, All, Bool, true, false, cond}
+use Rattle.std.proofs.Common.{◌≡◌, ℕ, zero, suc, ◌+◌, ◌/◌, ◌^◌, ◌<◌, ℤ, pos, neg_ℤ, ◌*ℤ◌, ◌≤ℤ◌, ◌<ℤ◌, arith, refl, sym, ap, ◌∙◌, subst, List, [], ◌∷◌, length, Contains, All, Bool, true, false, cond}
 use lib.IntN.{negsuc}
 use Rattle.std.specs.Prelude.{◌==◌, unsigned_abs}
 use Rattle.std.specs.Int.RustNames.{int_lt}
@@ -43,7 +43,7 @@ use Rattle.cost_ranges.proofs.RangeLemmas.{all_map, costs_ranged}
 use Rattle.path_bound.specs.Laws.{IsBoundable, BoundsAreGreatest}
 
 -- no loose flow has a value, a count or an amount of 2^60 units or more
-abbrev LooseBelow : Table → System → Type 0
+abbrev pub LooseBelow : Table → System → Type 0
 LooseBelow t s = (unit : ℕ) (x : Amounts) → IsLoose s unit x →
     (value t s x <ℤ (pos unit *ℤ pos (2 ^ 60))) × ((a : ℕ) → count x s.moves a <ℤ (pos unit *ℤ pos (2 ^ 60))) × ((m : Move) → Contains s.moves m → amount x m <ℤ (pos unit *ℤ pos (2 ^ 60)))
 
@@ -53,7 +53,7 @@ size_below : (z : ℤ) (k : ℕ) → pos 0 ≤ℤ z → z <ℤ pos k → unsigne
 size_below (pos n) k h lt = omega (arith, ints)
 size_below (negsuc n) k h lt = absurd (omega (arith, ints))
 
-one_unit : (z : ℤ) (k : ℕ) → z <ℤ (pos 1 *ℤ pos k) → z <ℤ pos k
+pub one_unit : (z : ℤ) (k : ℕ) → z <ℤ (pos 1 *ℤ pos k) → z <ℤ pos k
 one_unit z k h = omega (arith, ints)
 
 narrow_pair : (a b : ℤ) (k : ℕ) → pos 0 ≤ℤ a → a <ℤ pos k → b ≡ a → unsigned_abs a + unsigned_abs b < k + k
@@ -68,12 +68,22 @@ whole_below (pos n) lt = let a : n < 2 ^ 60 = omega (arith, ints) in let b = one
 whole_below (negsuc n) lt = omega arith
 
 -- each claim's jump back goes to its header alone
-goes_back : (s : System) (cs : List LoopClaim) (ks : List LoopShape) → AreShapesOf cs ks → All (IsLoop s) ks → All (GoesBack s.moves) cs
+pub goes_back : (s : System) (cs : List LoopClaim) (ks : List LoopShape) → AreShapesOf cs ks → All (IsLoop s) ks → All (GoesBack s.moves) cs
 goes_back s [] ks are h = All-nil (GoesBack s.moves)
 goes_back s (c ∷ cs) [] are h = absurd are
 goes_back s (c ∷ cs) (l ∷ ks) are h = All-cons (GoesBack s.moves) c cs
     (subst (λ a. All (λ m. m.at ≡ c.back → destinations m ≡ a ∷ []) s.moves) are.0 (subst (λ b. All (λ m. m.at ≡ b → destinations m ≡ l.header ∷ []) s.moves) are.1 (All-head (IsLoop s) l ks h).goes_back))
     (goes_back s cs ks are.2 (All-tail (IsLoop s) l ks h))
+
+-- listed amounts below 2^60
+pub amounts_below : (x : Amounts) (ms : List Move) (us : List ℕ) → length us ≡ length ms → AreAmounts x ms us → ((m : Move) → Contains ms m → amount x m <ℤ pos (2 ^ 60)) → All (λ u. u < 2 ^ 60) us
+amounts_below x [] [] long are h = All-nil (λ u. u < 2 ^ 60)
+amounts_below x [] (u ∷ us) long are h = absurd (omega (arith, long))
+amounts_below x (m ∷ ms) [] long are h = absurd (omega (arith, long))
+amounts_below x (m ∷ ms) (u ∷ us) long are h = All-cons (λ u. u < 2 ^ 60) u us (below (h m (zero, omega arith, refl)) are.0) (amounts_below x ms us (omega (arith, long)) are.1 (λ k i. h k (suc i.0, omega (arith, i.1), i.2)))
+  where
+    below : pos (x m.at m.number) <ℤ pos (2 ^ 60) → x m.at m.number ≡ u → u < 2 ^ 60
+    below a b = let c : x m.at m.number < 2 ^ 60 = omega (arith, ints) in omega (arith, c, b)
 
 module _ (t : Table) (s : System) (ls : List LoopShape) (ps : List Span) (is : IsBoundable t s ls ps) where
   whole : IsReachedWhole s ls ps
@@ -82,10 +92,10 @@ module _ (t : Table) (s : System) (ls : List LoopShape) (ps : List Span) (is : I
   numbers : HasNumbers t s ls ps
   numbers = costs_ranged t s ls ps is.limited
 
-  kept_bounds : All HasBounds s.claims.loops
+  pub kept_bounds : All HasBounds s.claims.loops
   kept_bounds = all_map IsLoopWithin HasBounds s.claims.loops (λ c k. k.0) is.limited.loops
 
-  loose_below : LooseBelow t s
+  pub loose_below : LooseBelow t s
   loose_below unit x l = let b = counts_below t s is.fetches whole.system is.limited.values unit x l in (is.limited.values unit x l, b.0, b.1)
 
   abbrev cert : Mark → Cert
@@ -165,20 +175,11 @@ module _ (t : Table) (s : System) (ls : List LoopShape) (ps : List Span) (is : I
       with_part rest true = rest
       with_part rest false = All-cons (λ p. IsSmall p.part) (record { at = m.at; number = m.number; part = pos u }) (parts_of ms us) small rest
 
-  amounts_below : (ms : List Move) (us : List ℕ) → length us ≡ length ms → AreAmounts x ms us → ((m : Move) → Contains ms m → amount x m <ℤ pos (2 ^ 60)) → All (λ u. u < 2 ^ 60) us
-  amounts_below [] [] long are h = All-nil (λ u. u < 2 ^ 60)
-  amounts_below [] (u ∷ us) long are h = absurd (omega (arith, long))
-  amounts_below (m ∷ ms) [] long are h = absurd (omega (arith, long))
-  amounts_below (m ∷ ms) (u ∷ us) long are h = All-cons (λ u. u < 2 ^ 60) u us (below (h m (zero, omega arith, refl)) are.0) (amounts_below ms us (omega (arith, long)) are.1 (λ k i. h k (suc i.0, omega (arith, i.1), i.2)))
-    where
-      below : pos (x m.at m.number) <ℤ pos (2 ^ 60) → x m.at m.number ≡ u → u < 2 ^ 60
-      below a b = let c : x m.at m.number < 2 ^ 60 = omega (arith, ints) in omega (arith, c, b)
-
   -- where there is a flow, each of its amounts is a loose one
   pub flow_small : pos 0 ≤ℤ z → All (λ u. u < 2 ^ 60) (amounts_of s ls ps (costs_of t s))
   flow_small h =
       let long = (goes s ls ps whole (costs_of t s) (neg_ℤ (pos (2 ^ 60))) (open_system h)).long_amounts in
-      amounts_below s.moves (amounts_of s ls ps (costs_of t s)) long (listed_amounts s.moves (amounts_of s ls ps (costs_of t s)) long whole.system.ascending) (λ m im. one_unit (amount x m) (2 ^ 60) ((loose_below 1 x (loose h)).2 m im))
+      amounts_below x s.moves (amounts_of s ls ps (costs_of t s)) long (listed_amounts s.moves (amounts_of s ls ps (costs_of t s)) long whole.system.ascending) (λ m im. one_unit (amount x m) (2 ^ 60) ((loose_below 1 x (loose h)).2 m im))
 
   flow_ranges : pos 0 ≤ℤ z → HasFlowRanges t s (cert Greatest)
   flow_ranges h = record {

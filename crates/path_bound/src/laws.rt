@@ -1,6 +1,7 @@
 // The bound of a system without facts.
 ghost use Rattle.rv_core.specs.Table.{table_of};
 ghost use Rattle.path_bound.specs.Laws.{BoundsAreGreatest};
+ghost use Rattle.path_bound.specs.Priced.{PricedFlowsAreFlows};
 
 use flow_system::{LoopShape, Span, System};
 use rv_core::Costs;
@@ -8,4 +9,9 @@ use rv_core::Costs;
 /// A law: the certificate of the walks is in form and accepted.
 pub fn bounds_are_greatest(system: &System, shapes: &[LoopShape], spans: &[Span], costs: &Costs)
     ensures { BoundsAreGreatest (table_of costs.now) system.now shapes.now spans.now }
+{}
+
+/// A law: at prices of moves that are no more than their costs, what the walks list is a flow of the entry's worth.
+pub fn priced_flows_are_flows(system: &System, shapes: &[LoopShape], spans: &[Span], costs: &Costs)
+    ensures { PricedFlowsAreFlows (table_of costs.now) system.now shapes.now spans.now }
 {}
