@@ -1,0 +1,3 @@
+pub mod NearLemmas
+pub mod AloneLemmas
+pub mod RowLemmas
