@@ -1,0 +1,4 @@
+pub mod ReadLemmas
+pub mod CoverLemmas
+pub mod KeepLemmas
+pub mod StepLemmas
