@@ -39,7 +39,6 @@ use Rattle.laid_bounds.specs.Bounds.{IsBounded}
 use Rattle.laid_bounds.proofs.BoundLemmas.{laid_can_bound}
 use Rattle.low_marks.proofs.Marks.{marks_counted}
 use Rattle.low_marks.proofs.Places.{marks_kept, places_many}
-use Rattle.low_regions.proofs.Keeping.{keeps_regions}
 use Rattle.low_kept.proofs.TotalLemmas.{placed_totals}
 use Rattle.low_kept.proofs.KeptLemmas.{claims_kept}
 use Rattle.laid_sizes.proofs.Counting.{claims_counted}
@@ -94,9 +93,7 @@ module _ (pl : Placement) (ps : List Placing) (low : Low) (is : IsLow low) (fits
       let n = found.0 in
       (found.0, record {
         ends = found.1;
-        claims = λ s sys.
-            claims_kept pl p s formed sound (named a low is) room_in sys table input n v u found.1 (placed_totals a low is input i v u good)
-            (keeps_regions pl p claimed.settled (setup (image_in pl p) table input) v u n found.1);
+        claims = λ s sys. claims_kept pl p s formed sound (named a low is) room_in sys table input n v u found.1 (placed_totals a low is input i v u good);
         passes = λ mark. marks_counted pl p (setup (image_in pl p) table input) v u n found.1 mark ∙ ap pos (marks_kept a low u.trace mark);
       })
 
