@@ -1,6 +1,6 @@
 -- Ranges that pass the tests have all places.
-use Rattle.std.proofs.Common.{◌≡◌, ◌≢◌, ℕ, zero, suc, ◌+◌, ◌<◌, Bool, true, false, List, [], ◌∷◌, length, Option, Some, None, refl, sym, ap, ◌∙◌, subst, inl, inr, arith}
-use Rattle.std.specs.Prelude.{◌⊎◌, ◌||◌, ◌&&◌, not, slice_get}
+use Rattle.std.proofs.Common.{◌≡◌, ℕ, zero, suc, ◌+◌, Bool, true, false, List, [], ◌∷◌, length, Option, Some, None, refl, sym, ap, ◌∙◌, subst, inl, inr, arith}
+use Rattle.std.specs.Prelude.{◌||◌, ◌&&◌, not, slice_get}
 use Rattle.std.proofs.lemmas.Bool.{or_left, or_right, and_parts, and_from}
 use Rattle.low_ir.specs.Code.{Instr, End, Jump, Branch, Return, Block, Function, Note}
 use Rattle.low_ir.specs.Effects.{is_member}

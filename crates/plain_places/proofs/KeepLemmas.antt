@@ -1,14 +1,14 @@
 -- Places that pass the tests are an assignment.
-use Rattle.std.proofs.Common.{◌≡◌, ◌≢◌, ℕ, zero, suc, ◌+◌, ◌<◌, ◌≤◌, Bool, true, false, List, [], ◌∷◌, length, Option, Some, None, refl, sym, ap, ◌∙◌, subst, inl, inr, arith}
-use Rattle.std.specs.Prelude.{◌⊎◌, ◌&&◌, nat_le, nat_lt, slice_get, slice_index_or}
+use Rattle.std.proofs.Common.{◌≡◌, ◌≢◌, ℕ, zero, suc, ◌+◌, ◌<◌, ◌≤◌, Bool, true, false, List, [], ◌∷◌, length, Some, refl, sym, subst, inl, inr, arith}
+use Rattle.std.specs.Prelude.{◌⊎◌, nat_le, nat_lt, slice_get, slice_index_or}
 use Rattle.std.proofs.lemmas.Bool.{and_parts, and_from, ltb-true, ltb-false, leb-true, le-leb}
-use Rattle.low_ir.specs.Code.{Instr, Do, Call, End, Block, Function, Low, Note}
+use Rattle.low_ir.specs.Code.{Instr, Call, End, Block, Function, Low, Note}
 use Rattle.low_ir.specs.Effects.{is_member}
-use Rattle.low_ir.specs.Live.{place_of, IsRest, Spot, InInterval, Together, CallAt}
+use Rattle.low_ir.specs.Live.{place_of, IsRest, Spot, InInterval, Together}
 use Rattle.low_ir.specs.Places.{Placing, place_in, kept_in, assignment}
 use Rattle.low_ir.specs.Spacing.{IsAssignment}
 use Rattle.plain_places.specs.declared.ranges.Range.{Range}
-use Rattle.plain_places.specs.Checks.{is_within, range_in, no_live, RangesCover, overlap, PlacesApart, PlacesInside, kept_by, mask_in, InstrKeeps, CodeKeeps, BlocksKeep, FitsBy, AllFit}
+use Rattle.plain_places.specs.Checks.{is_within, range_in, no_live, RangesCover, overlap, PlacesApart, PlacesInside, kept_by, mask_in, CodeKeeps, BlocksKeep, FitsBy, AllFit}
 use Rattle.plain_places.proofs.ReadLemmas.{unnamed}
 use Rattle.plain_places.proofs.CoverLemmas.{covered}
 

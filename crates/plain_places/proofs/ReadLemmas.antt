@@ -1,12 +1,12 @@
 -- What is read is found.
-use Rattle.std.proofs.Common.{◌≡◌, ◌≢◌, ℕ, Bool, true, false, List, [], ◌∷◌, ◌++◌, Option, Some, None, refl, sym, ap, ◌∙◌, inl, inr, arith, if◌then◌else◌}
-use Rattle.std.specs.Prelude.{◌⊎◌, ◌==◌, ◌||◌, ◌&&◌, not}
+use Rattle.std.proofs.Common.{◌≡◌, ◌≢◌, ℕ, Bool, true, false, List, [], ◌∷◌, ◌++◌, Option, Some, None, refl, sym, ap, inl, inr, arith, if◌then◌else◌}
+use Rattle.std.specs.Prelude.{◌⊎◌, ◌==◌, ◌||◌}
 use Rattle.std.proofs.lemmas.Bool.{or_left, or_right}
-use Rattle.low_ir.specs.Code.{Operand, Register, Constant, Base, Fixed, Through, Address, Plain, Set, Operate, Point, Load, Store, Put, Get, Instr, Do, Call, End, Jump, Branch, Return, Note}
+use Rattle.low_ir.specs.Code.{Operand, Register, Constant, Base, Fixed, Through, Address, Set, Operate, Point, Load, Store, Put, Get, Instr, Do, Call, End, Jump, Branch, Return, Note}
 use Rattle.low_ir.specs.Effects.{is_member, base_reads, offset_reads, address_reads}
 use Rattle.low_ir.specs.Formed.{registers_in, read_by, end_reads}
 use Rattle.low_ir.specs.Live.{Has}
-use Rattle.plain_places.specs.Checks.{is_it, any_is, names, base_is, address_is, plain_reads, reads_it, end_reads_it}
+use Rattle.plain_places.specs.Checks.{is_it, any_is, names, base_is, address_is, reads_it, end_reads_it}
 
 same : (v r : ℕ) → v ≡ r → (r == v) ≡ true
 same v r e = grind (arith, e)

@@ -1,7 +1,6 @@
 -- What is tested of the places of one function.
-use Rattle.std.specs.Prelude.{◌≡◌, ◌≢◌, ℕ, suc, ◌+◌, ◌<◌, ◌==◌, ◌&&◌, ◌||◌, not, Bool, true, false, nat_lt, nat_le, List, [], ◌∷◌, length, Option, Some, None, slice_get, slice_index_or}
-use Rattle.low_ir.specs.declared.places.Place.{Place}
-use Rattle.low_ir.specs.declared.places.Place.TheVariants.{Register as InRegister, Slot}
+use Rattle.std.specs.Prelude.{◌≡◌, ◌≢◌, ℕ, suc, ◌+◌, ◌<◌, ◌==◌, ◌&&◌, ◌||◌, not, Bool, true, false, nat_le, List, [], ◌∷◌, length, Option, Some, None, slice_get, slice_index_or}
+use Rattle.low_ir.specs.declared.places.Place.TheVariants.{Register as InRegister}
 use Rattle.low_ir.specs.Code.{Operand, Register, Constant, Base, Fixed, Through, Address, Plain, Set, Operate, Point, Load, Store, Put, Get, Instr, Do, Call, End, Jump, Branch, Return, Block, Function, Note}
 use Rattle.low_ir.specs.Effects.{is_member}
 use Rattle.low_ir.specs.Formed.{written_by}
