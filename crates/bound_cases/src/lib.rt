@@ -5,11 +5,16 @@
 //! up to three deep, drawn at random, with calls from several places, breaks, addresses that are never reached and loads
 //! that wait.
 //!
+//! For each of them the walks are also made at prices that are no costs: what they list is a flow of the entry's worth, move
+//! by move.
+//!
 //! This crate has no code but its tests.
 #![tactic(auto)]
 
 #[cfg(test)]
 mod nests;
+#[cfg(test)]
+mod priced;
 #[cfg(test)]
 mod reports;
 #[cfg(test)]

@@ -4,6 +4,7 @@ ghost use Rattle.flow_system.specs.Certificates.{IsInForm};
 ghost use Rattle.flow_system.specs.Systems.{IsSystemOf};
 
 use crate::nests::NESTS;
+use crate::priced::lists_flow;
 use crate::reports::REPORTS;
 use code_flow::system;
 use dual_check::{Verdict, check};
@@ -186,7 +187,7 @@ fn is_wanted(system: &System, costs: &Costs, bounded: &Bounded, wanted: Option<u
     }
 }
 
-/// Whether the search finds what is wanted.
+/// Whether the search finds what is wanted, and at other prices a flow where there is one.
 fn finds(
     alloc: Global,
     image: &Image,
@@ -204,7 +205,11 @@ fn finds(
         return Ok(false);
     }
     let bounded = bound(alloc, system, &shapes, &spans, &costs)?;
-    Ok(is_wanted(system, &costs, &bounded, case.wanted))
+    if !is_wanted(system, &costs, &bounded, case.wanted) {
+        return Ok(false);
+    }
+    let is_there = case.wanted.is_some();
+    Ok(lists_flow(alloc, system, &shapes, &spans, &costs, is_there)?)
 }
 
 fn holds(alloc: Global, case: &Case) -> Result<bool, Memory> {
