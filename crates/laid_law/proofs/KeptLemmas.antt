@@ -90,12 +90,14 @@ module _ (pl : Placement) (ps : List Placing) (low : Low) (is : IsLow low) (fits
   runs : Simulates pl ps low
   runs table input bytes i v u good =
       let found = simulated pl p formed sound (placed_keeps ps low) room_in table input bytes i v u (carried a low (all_safe a low fits) input i v u good).done in
-      let n = found.0 in
-      (found.0, record {
-        ends = found.1;
-        claims = λ s sys. claims_kept pl p s formed sound (named a low is) room_in sys table input n v u found.1 (placed_totals a low is input i v u good);
-        passes = λ mark. marks_counted pl p (setup (image_in pl p) table input) v u n found.1 mark ∙ ap pos (marks_kept a low u.trace mark);
-      })
+      let n = found.0 in (
+        found.0,
+        record {
+          ends = found.1;
+          claims = λ s sys. claims_kept pl p s formed sound (named a low is) room_in sys table input n v u found.1 (placed_totals a low is input i v u good);
+          passes = λ mark. marks_counted pl p (setup (image_in pl p) table input) v u n found.1 mark ∙ ap pos (marks_kept a low u.trace mark);
+        },
+      )
 
   pub keeps : KeepsLow pl ps low
   keeps = record {
