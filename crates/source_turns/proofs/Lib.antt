@@ -1,0 +1,6 @@
+pub mod Ordered
+pub mod Loops
+pub mod Carrying
+pub mod Lowering
+pub mod Whole
+pub mod Light
