@@ -1,0 +1,16 @@
+//! Lays a program: its image, the claims on it, and the lists that a search for the greatest flow and a choice of what to
+//! place want.
+//!
+//! `words` shows that displacements are words, `laying` makes the parts, one after the other: the image with its memory and
+//! layout (`low_layout`), what its items touch (`laid_touches`), and by these the claims and the lists. Nothing is laid out
+//! twice. The time is linear in the items, but for the calls and functions for each register.
+//!
+//! Proved: [`lay`] gives what `low_image`, `laid_claims`, `laid_shapes` and `laid_items` define of the program over its
+//! places (`specs/Laid.antt`), wherever code and data keep to the bounds of `low_sizes`, or memory ran out; and the image
+//! and its claims then keep of the program what `laid_law` says in one record.
+#![tactic(auto)]
+
+mod laying;
+mod words;
+
+pub use laying::{Claimed, Laid, Lists, lay};
