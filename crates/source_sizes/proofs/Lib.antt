@@ -1,0 +1,5 @@
+pub mod Arrays
+pub mod Functions
+pub mod Sizes
+pub mod Units
+pub mod Plans
