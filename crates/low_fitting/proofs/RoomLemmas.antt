@@ -1,6 +1,6 @@
 -- The room of functions over places, and what is too much.
 use Rattle.std.proofs.Common.{◌≡◌, ℕ, suc, ◌+◌, ◌^◌, ◌<◌, ◌≤◌, Bool, true, false, List, [], ◌∷◌, length, map, refl, sym, ap, ◌∙◌, arith}
-use Rattle.std.specs.Prelude.{◌*◌, if◌then◌else◌, slice_index_or, sum_by}
+use Rattle.std.specs.Prelude.{◌*◌, if◌then◌else◌, slice_index_or}
 use Rattle.std.proofs.lemmas.List.{length-map}
 use Rattle.std.proofs.lemmas.List.Sums.{sum_by-cons}
 use Rattle.low_ir.specs.declared.places.LowReg.{LowReg}
