@@ -2,6 +2,7 @@
 //!
 //! `size_of` and `bytes_of` say how many bytes items take and `starts_of` where blocks begin; when all are
 //! known, `put_blocks` gives the words of a function, in which each item leads to the address of its target.
+//! `opposite_of` is the condition of a branch that goes where another does not.
 //!
 //! Proved: sizes, starts and words are those of `code_items`, for items whose instructions keep the ranges of
 //! their fields where they stand. `Memory` is free. By [`forms_keep`] a block keeps its promise in any forms.
@@ -20,3 +21,4 @@ pub use blocks::put_blocks;
 pub use laws::forms_keep;
 pub use sizes::{bytes_of, size_of, starts_of};
 pub use targets::target_of;
+pub use words::opposite_of;

@@ -24,7 +24,8 @@ fn branch_of(condition: Condition) -> Op
     }
 }
 
-fn opposite_of(condition: Condition) -> Condition
+/// The condition that holds of two numbers where this one does not.
+pub fn opposite_of(condition: Condition) -> Condition
     ensures { result ≡ opposite condition }
 {
     match condition {
