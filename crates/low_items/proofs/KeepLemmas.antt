@@ -6,6 +6,7 @@ use Rattle.rv_core.specs.declared.op.Op.{Op}
 use Rattle.rv_core.specs.declared.op.Op.TheVariants as ops
 use Rattle.rv_core.specs.declared.row.Alu.{Alu}
 use Rattle.rv_core.specs.declared.row.Alu.TheVariants.{Sum, Difference, ShiftLeft, IsLess, IsLessUnsigned, BitXor, ShiftRight, ShiftRightSigned, BitOr, BitAnd, Product, HighProduct, HighProductMixed, HighProductUnsigned, Quotient, QuotientUnsigned, Remainder, RemainderUnsigned}
+use Rattle.rv_core.specs.declared.row.Condition.{Condition}
 use Rattle.rv_core.specs.Rows.{row_of}
 use Rattle.rv_core.specs.Instructions.{Instruction}
 use Rattle.code_items.specs.declared.item.Item.{Item}
@@ -18,9 +19,9 @@ use Rattle.low_ir.specs.Code.{Operand, Register, Constant, Base, Fixed, Through,
 use Rattle.low_ir.specs.Places.{Placed}
 use Rattle.low_items.specs.Numbers.{result, first_free, second_free, machine_register, is_near, reach_register, reach_code, constant_code, is_short, move_code}
 use Rattle.low_items.specs.Frames.{Frame, Memory, frame_of, slot_at, home_at, object_at}
-use Rattle.low_items.specs.Operands.{place_register, offset_register, load_code, store_code, fetch_code, operand_code, into_code, result_code, put_code, offset_code, far_code, code_to}
+use Rattle.low_items.specs.Operands.{place_register, operand_register, offset_register, load_code, store_code, fetch_code, operand_code, into_code, result_code, put_code, offset_code, far_code, code_to}
 use Rattle.low_items.specs.Emission.{register_op, load_op, store_op, immediate_form, immediate_of, is_direct, kept_among, set_code, operate_by, plain_code, home_code, return_code, store_argument, pass_code, late_code, value_code, before_call, behind_call}
-use Rattle.low_items.specs.Functions.{singles, PlacedBlock, function_in, is_leaf, is_frame_near, frame_code, link_store, link_load, saves, loads, saves_nothing, entry_code, exit_code, at_once, passed_in, instr_items, jump_items, leave_items, end_items, body_items, filled, opening_items, block_items, ends_at}
+use Rattle.low_items.specs.Functions.{singles, PlacedBlock, function_in, is_leaf, is_frame_near, frame_code, link_store, link_load, saves, loads, saves_nothing, entry_code, exit_code, at_once, passed_in, instr_items, jump_items, two_way_items, leave_items, end_items, body_items, filled, opening_items, block_items, ends_at}
 
 -- all of them go on
 abbrev pub AllGoOn : List Instruction → Type 0
@@ -268,6 +269,10 @@ module _ (m : Memory) (p : Placed) (f : ℕ) (follows calls : List ℕ) (b : ℕ
   jump_keep true n e h = let same : n ≡ suc b = grind (arith, nat_tests) in subst (Contains follows) same h
   jump_keep false n e h = (h, refl)
 
+  two_way_keep : (next : Bool) (c : Condition) (u v taken other : ℕ) → (taken == suc b) ≡ next → Contains follows taken → Contains follows other → Keeps follows calls b (two_way_items m p f next b c u v taken other)
+  two_way_keep true c u v taken other e h k = (k, jump_keep true taken e h)
+  two_way_keep false c u v taken other e h k = (h, jump_keep (other == suc b) other refl k)
+
   filled_keep : (xs : List Item) → Keeps follows calls b xs → Keeps follows calls b (filled m p f xs)
   filled_keep [] h = (refl, h)
   filled_keep (x ∷ xs) h = h
@@ -284,7 +289,7 @@ module _ (m : Memory) (p : Placed) (f : ℕ) (follows calls : List ℕ) (b : ℕ
   end_keep (Jump n) h = jump_keep (n == suc b) n refl (h n (0, omega arith, refl))
   end_keep (Branch c x y taken other) h =
       singles_keep _ _ (both (operand_code (frame_of m f) first_free x) _ (operand_on (frame_of m f) first_free x) (operand_on (frame_of m f) second_free y))
-      (h taken (0, omega arith, refl), jump_keep (other == suc b) other refl (h other (1, omega arith, refl)))
+      (two_way_keep (taken == suc b) c (operand_register (frame_of m f) first_free x) (operand_register (frame_of m f) second_free y) taken other refl (h taken (0, omega arith, refl)) (h other (1, omega arith, refl)))
   end_keep (Return x) h =
       singles_keep (into_code (frame_of m f) result x) _ (into_on (frame_of m f) result x)
       (leave_keep (at_once m p f) (λ e. h (length (function_in p f).blocks) (by_leaves (at_once m p f) e)))

@@ -3,8 +3,8 @@ use Rattle.std.proofs.Common.{◌≡◌, ℕ, suc, ◌+◌, ◌*◌, ◌≤◌, 
 use Rattle.std.specs.Prelude.{◌==◌, nat_lt, if◌then◌else◌}
 use Rattle.std.proofs.lemmas.Bool.Decides.{nat_tests}
 use Rattle.std.proofs.lemmas.List.{length-take}
+use Rattle.rv_core.specs.declared.row.Condition.{Condition}
 use Rattle.rv_core.specs.Instructions.{Instruction}
-use Rattle.code_items.specs.declared.item.Form.TheVariants.{Far}
 use Rattle.code_items.specs.declared.item.Item.{Item}
 use Rattle.code_items.specs.declared.item.Item.TheVariants as items
 use Rattle.code_items.specs.Items.{total}
@@ -18,7 +18,7 @@ use Rattle.low_items.specs.Numbers.{result, first_free, second_free}
 use Rattle.low_items.specs.Frames.{Frame, Memory, frame_of}
 use Rattle.low_items.specs.Operands.{operand_register, operand_code, into_code}
 use Rattle.low_items.specs.Emission.{plain_code, kept_among, home_code, return_code, pass_code, late_code, value_code, before_call, behind_call}
-use Rattle.low_items.specs.Functions.{singles, function_in, is_leaf, exit_code, at_once, passed_in, instr_items, jump_items, leave_items, end_items}
+use Rattle.low_items.specs.Functions.{singles, function_in, is_leaf, exit_code, at_once, passed_in, instr_items, jump_items, two_way_items, leave_items, end_items}
 use Rattle.low_items.specs.Laws.{AreWords}
 use Rattle.low_items.proofs.SizeLemmas.{plain_few, operand_few, into_few, home_few, return_few, pass_few, late_few, value_few}
 
@@ -74,6 +74,10 @@ module _ (m : Memory) (p : Placed) (f : ℕ) where
   jump_total true n = omega arith
   jump_total false n = omega arith
 
+  two_way_total : (next : Bool) (b : ℕ) (c : Condition) (u v taken other : ℕ) → total (two_way_items m p f next b c u v taken other) ≤ 20
+  two_way_total true b c u v taken other = omega arith
+  two_way_total false b c u v taken other = let j = jump_total (other == suc b) other in omega arith
+
   leave_total : (o : Bool) (b : ℕ) → at_once m p f ≡ o → total (leave_items m p f o b) ≤ 8
   leave_total true b e =
       let few : length (exit_code (is_leaf (function_in p f)) (frame_of m f)) < 2 = less (length (exit_code (is_leaf (function_in p f)) (frame_of m f))) e in
@@ -91,8 +95,10 @@ module _ (m : Memory) (p : Placed) (f : ℕ) where
       let q = operand_few fr first_free x in
       let r = operand_few fr second_free y in
       let both = length-append (operand_code fr first_free x) (operand_code fr second_free y) in
-      let j = jump_total (other == suc b) other in
-      let e = singles_total (operand_code fr first_free x ++ operand_code fr second_free y) (items.Branch Far c (operand_register fr first_free x) (operand_register fr second_free y) taken ∷ jump_items m p f (other == suc b) other) in
+      let u = operand_register fr first_free x in
+      let v = operand_register fr second_free y in
+      let j = two_way_total (taken == suc b) b c u v taken other in
+      let e = singles_total (operand_code fr first_free x ++ operand_code fr second_free y) (two_way_items m p f (taken == suc b) b c u v taken other) in
       omega arith
   end_total b (Return x) =
       let n = into_few (frame_of m f) result x in

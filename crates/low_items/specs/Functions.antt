@@ -1,9 +1,11 @@
 -- The items of blocks, functions and programs over places, and the graph that they promise.
 use Rattle.std.specs.Prelude.{ℕ, zero, suc, ◌+◌, ◌-◌, ◌*◌, ◌==◌, ◌&&◌, ℤ, pos, ◌-ℤ◌, Bool, true, false, nat_lt, if◌then◌else◌, List, [], ◌∷◌, ◌++◌, map, length, take, Option, Some, None, slice_get, slice_index_or}
+use Rattle.rv_core.specs.declared.row.Condition.{Condition}
 use Rattle.rv_core.specs.Instructions.{Instruction, addi}
 use Rattle.code_items.specs.declared.item.Form.TheVariants.{Far}
 use Rattle.code_items.specs.declared.item.Item.{Item}
 use Rattle.code_items.specs.declared.item.Item.TheVariants as items
+use Rattle.code_items.specs.Items.{opposite}
 use Rattle.code_items.specs.Placings.{Blocks}
 use Rattle.laid_code.specs.Graphs.{Graph}
 use Rattle.laid_code.specs.Graphs as graphs
@@ -123,6 +125,11 @@ module _ (m : Memory) (p : Placed) (f : ℕ) where
   jump_items true n = []
   jump_items false n = items.Jump true n ∷ []
 
+  -- a branch to one of two blocks: where the next one is taken, the opposite branch alone leads to the other
+  abbrev pub two_way_items : Bool → ℕ → Condition → ℕ → ℕ → ℕ → ℕ → List Item
+  two_way_items true b condition x y taken other = items.Branch Far (opposite condition) x y other ∷ []
+  two_way_items false b condition x y taken other = items.Branch Far condition x y taken ∷ jump_items (other == suc b) other
+
   abbrev pub leave_items : Bool → ℕ → List Item
   leave_items true b = singles (exit_code (is_leaf own_function) own_frame) ++ items.Return ∷ []
   leave_items false b = let last = length own_function.blocks in jump_items (last == suc b) last
@@ -131,7 +138,7 @@ module _ (m : Memory) (p : Placed) (f : ℕ) where
   end_items b (Jump n) = jump_items (n == suc b) n
   end_items b (Branch condition x y taken other) =
       singles (operand_code own_frame first_free x ++ operand_code own_frame second_free y)
-      ++ (items.Branch Far condition (operand_register own_frame first_free x) (operand_register own_frame second_free y) taken ∷ jump_items (other == suc b) other)
+      ++ two_way_items (taken == suc b) b condition (operand_register own_frame first_free x) (operand_register own_frame second_free y) taken other
   end_items b (Return x) = singles (into_code own_frame result x) ++ leave_items at_once b
 
   abbrev pub body_items : ℕ → List (Instr Place (List ℕ)) → End Place → List Item

@@ -11,6 +11,9 @@
 //! returns; a call saves those that it keeps and passes arguments in. An argument goes straight into the
 //! callee's register where no later one reads that, and else through a word of the callee's frame.
 //!
+//! No block jumps to the one behind it: where a branch would be taken to that one, the opposite branch leads to
+//! the other.
+//!
 //! Proved, each by a call with an empty body: [`graphs_are_shaped`], that the graph is reducible and calls go
 //! to lower numbers; [`items_keep`], that each block's items keep to it; [`latches_jump`], that a loop's latch
 //! is its one jump back; [`items_have_room`], that no instruction, call or end of a block takes more than its
