@@ -4,11 +4,12 @@ use Rattle.std.specs.Prelude.{slice_index_or, nat_lt, nat_le}
 use Rattle.std.proofs.lemmas.Bool.{and_parts, lt-ltb}
 use Rattle.std.proofs.lemmas.Bool.Decides.{nat_tests}
 use Rattle.std.proofs.lemmas.List.Elements.{All-append, All-cons, All-head, All-nil, All-tail, All-take}
+use Rattle.rv_core.specs.declared.row.Condition.{Condition}
 use Rattle.rv_core.specs.Instructions.{Instruction, in_row, is_within, addi}
 use Rattle.code_items.specs.declared.item.Form.TheVariants.{Far}
 use Rattle.code_items.specs.declared.item.Item.{Item}
 use Rattle.code_items.specs.declared.item.Item.TheVariants as items
-use Rattle.code_items.specs.Items.{in_rows}
+use Rattle.code_items.specs.Items.{opposite, in_rows}
 use Rattle.code_forms.specs.Sound.{IsSound, AreSound, BlocksSound, FunctionsSound}
 use Rattle.code_forms.proofs.FitLemmas.{rows-append}
 use Rattle.low_ir.specs.declared.places.Place.{Place}
@@ -18,7 +19,7 @@ use Rattle.low_items.specs.Numbers.{ram, link, base, base_address, result, servi
 use Rattle.low_items.specs.Frames.{Frame, Memory, no_frame, frame_of, position, return_at, saved_at}
 use Rattle.low_items.specs.Operands.{operand_register, operand_code, into_code}
 use Rattle.low_items.specs.Emission.{plain_code, before_call, behind_call}
-use Rattle.low_items.specs.Functions.{singles, PlacedBlock, PlacedFunction, no_function, function_in, is_leaf, is_frame_near, frame_code, frame_register, frame_offset, link_store, link_load, saves, loads, saves_nothing, entry_code, exit_code, own_frame, own_function, at_once, passed_in, instr_items, jump_items, leave_items, end_items, body_items, filled, opening_items, block_items, blocks_from, leaving_blocks, function_items, start_items, functions_from, program_items}
+use Rattle.low_items.specs.Functions.{singles, PlacedBlock, PlacedFunction, no_function, function_in, is_leaf, is_frame_near, frame_code, frame_register, frame_offset, link_store, link_load, saves, loads, saves_nothing, entry_code, exit_code, own_frame, own_function, at_once, passed_in, instr_items, jump_items, two_way_items, leave_items, end_items, body_items, filled, opening_items, block_items, blocks_from, leaving_blocks, function_items, start_items, functions_from, program_items}
 use Rattle.low_sound.specs.Ranges.{IsRegister, InInstr, InEnd, InBlock, InFunction, InProgram, IsSaving, AreSaving}
 use Rattle.low_sound.proofs.Words.{alone, before, rows_if, addi_row, load_row, store_row, upper_row, lower_in, near_in}
 use Rattle.low_sound.proofs.Operands.{machine_small, operand_small, operand_rows, into_rows}
@@ -144,6 +145,11 @@ module _ (m : Memory) (p : Placed) (f : ℕ) (program : InProgram p) (saving : A
   jump_sound true n = All-nil IsSound
   jump_sound false n = one_sound (items.Jump true n) tt
 
+  two_way_sound : (next : Bool) (b : ℕ) (condition : Condition) (x y taken other : ℕ) → x < 32 → y < 32 → AreSound (two_way_items m p f next b condition x y taken other)
+  two_way_sound true b condition x y taken other h k = one_sound (items.Branch Far (opposite condition) x y other) (h, k)
+  two_way_sound false b condition x y taken other h k =
+      All-cons IsSound (items.Branch Far condition x y taken) (jump_items m p f (other == suc b) other) (h, k) (jump_sound (other == suc b) other)
+
   leave_sound : (b : Bool) (n : ℕ) → AreSound (leave_items m p f b n)
   leave_sound true n = All-append IsSound (singles (exit_code (is_leaf (own_function m p f)) (own_frame m p f))) (items.Return ∷ []) (singles_sound (exit_code (is_leaf (own_function m p f)) (own_frame m p f)) (exit_rows (is_leaf (own_function m p f)) (own_frame m p f) frame_saves)) (one_sound items.Return tt)
   leave_sound false n = let last = length (own_function m p f).blocks in jump_sound (last == suc n) last
@@ -153,10 +159,11 @@ module _ (m : Memory) (p : Placed) (f : ℕ) (program : InProgram p) (saving : A
   end_sound b (Branch condition x y taken other) h =
       let fr = own_frame m p f in
       let is = operand_code fr first_free x ++ operand_code fr second_free y in
-      let branch = items.Branch Far condition (operand_register fr first_free x) (operand_register fr second_free y) taken in
-      All-append IsSound (singles is) (branch ∷ jump_items m p f (other == suc b) other)
+      let left = operand_register fr first_free x in
+      let right = operand_register fr second_free y in
+      All-append IsSound (singles is) (two_way_items m p f (taken == suc b) b condition left right taken other)
       (singles_sound is (rows-append (operand_code fr first_free x) (operand_code fr second_free y) (operand_rows fr first_free x (omega arith)) (operand_rows fr second_free y (omega arith))))
-      (All-cons IsSound branch (jump_items m p f (other == suc b) other) (operand_small fr first_free x (omega arith) h.0, operand_small fr second_free y (omega arith) h.1) (jump_sound (other == suc b) other))
+      (two_way_sound (taken == suc b) b condition left right taken other (operand_small fr first_free x (omega arith) h.0) (operand_small fr second_free y (omega arith) h.1))
   end_sound b (Return x) h =
       let fr = own_frame m p f in
       All-append IsSound (singles (into_code fr result x)) (leave_items m p f (at_once m p f) b) (singles_sound (into_code fr result x) (into_rows fr result x (omega arith) h)) (leave_sound (at_once m p f) b)
