@@ -4,6 +4,7 @@ use Rattle.std.specs.Prelude.{◌==◌, ◌&&◌, not, All, if◌then◌else◌,
 use Rattle.std.proofs.lemmas.Bool.Decides.{nat_tests}
 use Rattle.std.proofs.lemmas.List.{append-nil}
 use Rattle.std.proofs.lemmas.List.Elements.{All-cons, All-nil}
+use Rattle.rv_core.specs.declared.row.Condition.{Condition}
 use Rattle.rv_core.specs.Instructions.{Instruction}
 use Rattle.flow_system.specs.Claims.{exit_flaws, is_above, is_aligned}
 use Rattle.code_items.specs.declared.item.Item.{Item}
@@ -24,9 +25,9 @@ use Rattle.low_ir.specs.declared.places.Place.{Place}
 use Rattle.low_ir.specs.Code.{Instr, Do, Call, End, Jump, Branch, Return}
 use Rattle.low_items.specs.Frames.{Memory, frame_of}
 use Rattle.low_items.specs.Emission.{before_call, behind_call, plain_code}
-use Rattle.low_items.specs.Operands.{into_code, operand_code}
+use Rattle.low_items.specs.Operands.{into_code, operand_code, operand_register}
 use Rattle.low_items.specs.Numbers.{first_free, result, second_free}
-use Rattle.low_items.specs.Functions.{PlacedBlock, at_once, blocks_from, body_items, end_items, entry_code, exit_code, filled, function_items, instr_items, is_leaf, jump_items, leave_items, leaving_blocks, opening_items, own_frame, own_function, passed_in, program_items, singles}
+use Rattle.low_items.specs.Functions.{PlacedBlock, at_once, blocks_from, body_items, end_items, entry_code, exit_code, filled, function_items, instr_items, is_leaf, jump_items, leave_items, leaving_blocks, opening_items, own_frame, own_function, passed_in, program_items, singles, two_way_items}
 use Rattle.low_items.proofs.ItemLemmas.{of_function}
 use Rattle.low_ir.specs.Places.{Placed}
 use Rattle.laid_claims.specs.Laws.{IsSettled}
@@ -89,6 +90,10 @@ module _ (m : Memory) (p : Placed) (f : ℕ) where
   jump_quiet true n = tt
   jump_quiet false n = (refl, tt)
 
+  two_way_quiet : (next : Bool) (b : ℕ) (condition : Condition) (x y taken other : ℕ) → Quiet (two_way_items m p f next b condition x y taken other)
+  two_way_quiet true b condition x y taken other = (refl, tt)
+  two_way_quiet false b condition x y taken other = (refl, jump_quiet (other == suc b) other)
+
   leave_quiet : (leaves : Bool) (b : ℕ) → Quiet (leave_items m p f leaves b)
   leave_quiet true b = quiet_append (singles (exit_code (is_leaf (own_function m p f)) (own_frame m p f))) (items.Return ∷ []) (singles_quiet (exit_code (is_leaf (own_function m p f)) (own_frame m p f))) (refl, tt)
   leave_quiet false b = let last = length (own_function m p f).blocks in jump_quiet (last == suc b) last
@@ -97,7 +102,9 @@ module _ (m : Memory) (p : Placed) (f : ℕ) where
   end_quiet b (Jump n) = jump_quiet (n == suc b) n
   end_quiet b (Branch condition x y taken other) =
       let code = operand_code (own_frame m p f) first_free x ++ operand_code (own_frame m p f) second_free y in
-      quiet_append (singles code) _ (singles_quiet code) (refl, jump_quiet (other == suc b) other)
+      let left = operand_register (own_frame m p f) first_free x in
+      let right = operand_register (own_frame m p f) second_free y in
+      quiet_append (singles code) _ (singles_quiet code) (two_way_quiet (taken == suc b) b condition left right taken other)
   end_quiet b (Return x) = quiet_append (singles (into_code (own_frame m p f) result x)) _ (singles_quiet (into_code (own_frame m p f) result x)) (leave_quiet (at_once m p f) b)
 
   instr_quiet : (i : Instr Place (List ℕ)) (rest : List Item) → Quiet rest → Quiet (instr_items m p f i rest)
