@@ -3,8 +3,8 @@ use Rattle.std.proofs.Common.{◌≡◌, ℕ, zero, suc, ◌+◌, ◌*◌, ◌�
 use Rattle.std.specs.Prelude.{◌==◌, if◌then◌else◌, sum_by}
 use Rattle.std.proofs.lemmas.List.Elements.{All-head, All-tail}
 use Rattle.std.proofs.lemmas.List.Sums.{sum_by-cons}
+use Rattle.rv_core.specs.declared.row.Condition.{Condition}
 use Rattle.rv_core.specs.Instructions.{Instruction}
-use Rattle.code_items.specs.declared.item.Form.TheVariants.{Far}
 use Rattle.code_items.specs.declared.item.Item.{Item}
 use Rattle.code_items.specs.declared.item.Item.TheVariants as items
 use Rattle.code_items.specs.Items.{total}
@@ -16,7 +16,7 @@ use Rattle.low_items.specs.Numbers.{result, first_free, second_free}
 use Rattle.low_items.specs.Frames.{Frame, Memory, frame_of}
 use Rattle.low_items.specs.Operands.{operand_register, operand_code, into_code}
 use Rattle.low_items.specs.Emission.{plain_code, before_call, behind_call}
-use Rattle.low_items.specs.Functions.{singles, PlacedBlock, function_in, is_leaf, is_frame_near, frame_code, link_store, link_load, saves, loads, saves_nothing, entry_code, exit_code, at_once, passed_in, instr_items, jump_items, leave_items, end_items, body_items, filled, opening_items, block_items}
+use Rattle.low_items.specs.Functions.{singles, PlacedBlock, function_in, is_leaf, is_frame_near, frame_code, link_store, link_load, saves, loads, saves_nothing, entry_code, exit_code, at_once, passed_in, instr_items, jump_items, two_way_items, leave_items, end_items, body_items, filled, opening_items, block_items}
 use Rattle.low_items.specs.Laws.{AreWords}
 use Rattle.low_items.proofs.RoomLemmas.{instr_total, end_total}
 use Rattle.low_prices.proofs.LongLemmas.{AreLong, calls_in}
@@ -99,13 +99,19 @@ module _ (m : Memory) (p : Placed) (f : ℕ) where
   jump_long true n = tt
   jump_long false n = (refl, tt)
 
+  two_way_long : (next : Bool) (b : ℕ) (c : Condition) (u v taken other : ℕ) → AreLong (two_way_items m p f next b c u v taken other)
+  two_way_long true b c u v taken other = (refl, tt)
+  two_way_long false b c u v taken other = (refl, jump_long (other == suc b) other)
+
   leave_long : (o : Bool) (b : ℕ) → AreLong (leave_items m p f o b)
   leave_long true b = singles_long (exit_code (is_leaf (function_in p f)) (frame_of m f)) (items.Return ∷ []) (tt, tt)
   leave_long false b = jump_long (length (function_in p f).blocks == suc b) (length (function_in p f).blocks)
 
   end_long : (b : ℕ) (end : End Place) → AreLong (end_items m p f b end)
   end_long b (Jump n) = jump_long (n == suc b) n
-  end_long b (Branch c x y taken other) = singles_long (operand_code (frame_of m f) first_free x ++ operand_code (frame_of m f) second_free y) _ (refl, jump_long (other == suc b) other)
+  end_long b (Branch c x y taken other) =
+      let fr = frame_of m f in
+      singles_long (operand_code fr first_free x ++ operand_code fr second_free y) _ (two_way_long (taken == suc b) b c (operand_register fr first_free x) (operand_register fr second_free y) taken other)
   end_long b (Return x) = singles_long (into_code (frame_of m f) result x) _ (leave_long (at_once m p f) b)
 
   body_long : (b : ℕ) (is : List (Instr Place (List ℕ))) (end : End Place) → AreLong (body_items m p f b is end)
@@ -138,6 +144,10 @@ module _ (m : Memory) (p : Placed) (f : ℕ) where
     jump_calls true n = refl
     jump_calls false n = refl
 
+    two_way_calls : (next : Bool) (b : ℕ) (c : Condition) (u v taken other : ℕ) → calls_in worth (two_way_items m p f next b c u v taken other) ≡ 0
+    two_way_calls true b c u v taken other = refl
+    two_way_calls false b c u v taken other = let j = jump_calls (other == suc b) other in omega arith
+
     leave_calls : (o : Bool) (b : ℕ) → calls_in worth (leave_items m p f o b) ≡ 0
     leave_calls true b = singles_call worth (exit_code (is_leaf (function_in p f)) (frame_of m f)) (items.Return ∷ [])
     leave_calls false b = jump_calls (length (function_in p f).blocks == suc b) (length (function_in p f).blocks)
@@ -149,8 +159,9 @@ module _ (m : Memory) (p : Placed) (f : ℕ) where
     end_calls b (Jump n) = jump_calls (n == suc b) n
     end_calls b (Branch c x y taken other) =
         let fr = frame_of m f in
-        let j = jump_calls (other == suc b) other in
-        let e = singles_call worth (operand_code fr first_free x ++ operand_code fr second_free y) (items.Branch Far c (operand_register fr first_free x) (operand_register fr second_free y) taken ∷ jump_items m p f (other == suc b) other) in omega arith
+        let u = operand_register fr first_free x in
+        let v = operand_register fr second_free y in
+        singles_call worth (operand_code fr first_free x ++ operand_code fr second_free y) (two_way_items m p f (taken == suc b) b c u v taken other) ∙ two_way_calls (taken == suc b) b c u v taken other
     end_calls b (Return x) = singles_call worth (into_code (frame_of m f) result x) (leave_items m p f (at_once m p f) b) ∙ leave_calls (at_once m p f) b
 
     body_calls : (b : ℕ) (is : List (Instr Place (List ℕ))) (end : End Place) → calls_in worth (body_items m p f b is end) ≡ called worth is
