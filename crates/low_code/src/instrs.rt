@@ -13,6 +13,7 @@ use super::calls::emit_call;
 use super::passing::passing_of;
 use super::scope::Scope;
 use code_items::{Form, Item};
+use code_writing::opposite_of;
 use low_emission::{
     FIRST_FREE, PlacedOperand, PlacedPlain, RESULT, SECOND_FREE, emit_exit, emit_into,
     emit_operand, emit_plain, operand_register, place_address, place_of, place_operand,
@@ -201,6 +202,9 @@ pub fn emit_end(
         } => {
             let left = place_operand(scope.places, left);
             let right = place_operand(scope.places, right);
+            if taken == block + 1 {
+                return emit_branch(scope, items, opposite_of(condition), (left, right), other);
+            }
             emit_branch(scope, items, condition, (left, right), taken)?;
             emit_jump(items, other == block + 1, other)
         }
