@@ -36,11 +36,11 @@ branch_row AtLeast = refl
 branch_row LessUnsigned = refl
 branch_row AtLeastUnsigned = refl
 
-not_not : (a b : Bool) → not a ≡ b → a ≡ not b
+pub not_not : (a b : Bool) → not a ≡ b → a ≡ not b
 not_not true b e = ap not e
 not_not false b e = ap not e
 
-opposite_holds : (c : Condition) (x y : ℕ) (b : Bool) → holds c x y ≡ b → holds (opposite c) x y ≡ not b
+pub opposite_holds : (c : Condition) (x y : ℕ) (b : Bool) → holds c x y ≡ b → holds (opposite c) x y ≡ not b
 unfolding holds
 opposite_holds Equal x y b e = ap not e
 opposite_holds NotEqual x y b e = not_not (x == y) b e
