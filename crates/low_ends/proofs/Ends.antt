@@ -1,6 +1,6 @@
 -- Jumps and branches at the ends of blocks.
-use Rattle.std.proofs.Common.{◌≡◌, ◌≢◌, ⊎_elim, ℕ, zero, suc, ◌<◌, Bool, true, false, [], ◌∷◌, ◌++◌, length, map, Contains, Option, Some, None, refl, sym, ap, ◌∙◌, subst, arith}
-use Rattle.std.specs.Prelude.{◌==◌, if◌then◌else◌, slice_get}
+use Rattle.std.proofs.Common.{◌≡◌, ◌≢◌, ⊎_elim, ℕ, zero, suc, ◌<◌, Bool, true, false, [], ◌++◌, length, map, Contains, Option, Some, None, refl, sym, ap, ◌∙◌, subst, arith}
+use Rattle.std.specs.Prelude.{◌==◌, not, if◌then◌else◌, slice_get}
 use Rattle.std.proofs.lemmas.Bool.Decides.{nat_tests}
 use Rattle.std.proofs.lemmas.List.{append-nil}
 use Rattle.std.proofs.lemmas.Option.{get_or_from_slice_get, slice_get_within}
@@ -11,7 +11,7 @@ use Rattle.rv_core.specs.Arithmetic.{holds}
 use Rattle.rv_core.specs.Machine as machine
 use Rattle.rv_core.specs.Memory.{read_from}
 use Rattle.code_items.specs.declared.item.Form.TheVariants.{Far}
-use Rattle.code_items.specs.declared.item.Item.TheVariants as items
+use Rattle.code_items.specs.Items.{opposite}
 use Rattle.code_steps.specs.Steps.{Later}
 use Rattle.code_steps.proofs.LaterLemmas.{now}
 use Rattle.laid_code.specs.Graphs as graphs
@@ -24,7 +24,7 @@ use Rattle.low_ir.specs.Runs.{operand_value, block_in, enter, went_to, branches,
 use Rattle.low_ir.specs.Places.{places}
 use Rattle.low_items.specs.Numbers.{first_free, second_free}
 use Rattle.low_items.specs.Operands.{operand_register, operand_code}
-use Rattle.low_items.specs.Functions.{PlacedBlock, PlacedFunction, no_function, function_in, at_once, block_count, ends_at, ends_by, graph_of, jump_items}
+use Rattle.low_items.specs.Functions.{PlacedBlock, PlacedFunction, no_function, function_in, at_once, block_count, ends_at, ends_by, graph_of, two_way_items, jump_items}
 use Rattle.low_items.proofs.GraphLemmas.{shaped}
 use Rattle.low_relation.specs.Noted.{noted, singles, noted_body}
 use Rattle.low_relation.specs.Positions.{Course}
@@ -39,7 +39,7 @@ use Rattle.low_follow.proofs.Plains.{Runs, Going_at, ready_of, body, course_in}
 use Rattle.low_follow.proofs.Arrays.{holds_led}
 use Rattle.low_jumps.proofs.Standing.{Stood}
 use Rattle.low_jumps.proofs.Jumps.{jump_lays}
-use Rattle.low_jumps.proofs.Branches.{branch_lays}
+use Rattle.low_jumps.proofs.Branches.{not_not, opposite_holds, branch_lays}
 use Rattle.low_jumps.proofs.Arrivals.{block_below, arrive}
 
 module _ (g : Given) where
@@ -138,6 +138,33 @@ module _ (g : Given) where
       let last = length (function_in g.layout.program f).blocks in
       subst (λ o. Contains (ends_by once last o) t) (sym h.inside.has) (subst (λ x. Contains (ends_at once last x) t) (sym (h.inside.ends ∙ e)) c)
 
+  -- the blocks to which two_way_items lead
+  two_ways : (r : PlacedRunning) (n m : ℕ) (c : Condition) (x y u v taken other : ℕ) (h : Going_at g r n) (next : Bool) → (taken == suc h.block) ≡ next → (taken ≡ zero → ⊥) → (other ≡ zero → ⊥)
+      → At g (course_in g r r.world h.block h.returns) m (map noted (two_way_items g.layout.memory g.layout.program r.top.func next h.block c x y taken other)) → reg g m x ≡ u → reg g m y ≡ v
+      → ((q : ℕ) → IsSteady q → reg g m q ≡ reg g n q) → (state g m).world ≡ (state g n).world → Later (Runs g (branches g.layout.program r (Some (if holds c u v then taken else other)))) m
+  two_ways r n m c x y u v taken other h true is some some_other at left right registers world =
+      let l = g.layout in
+      let f = r.top.func in
+      let b = holds c u v in
+      branch_lays g (course_in g r r.world h.block h.returns) (Runs g (branches l.program r (Some (if b then taken else other)))) m other Far (opposite c) x y u v [] (not b) at left right (opposite_holds c u v b refl)
+      (λ failing i z.
+      subst (λ w. Later (Runs g (branches l.program r (Some (if w then taken else other)))) i) (sym (not_not b true failing))
+      (enters_any r n i other h some_other (block_in (slice_get l.program.functions f) other) refl (λ there. z.stood) (λ q s. z.registers q s.seven ∙ registers q s) (z.world ∙ world)))
+      (λ holding i z.
+      subst (λ w. Later (Runs g (branches l.program r (Some (if w then taken else other)))) i) (sym (not_not b false holding))
+      (jump_by r n i taken h true is some z.at (λ q s. z.registers q s.seven ∙ registers q s) (z.world ∙ world)))
+  two_ways r n m c x y u v taken other h false is some some_other at left right registers world =
+      let l = g.layout in
+      let f = r.top.func in
+      let b = holds c u v in
+      branch_lays g (course_in g r r.world h.block h.returns) (Runs g (branches l.program r (Some (if b then taken else other)))) m taken Far c x y u v (map noted (jump_items l.memory l.program f (other == suc h.block) other)) b at left right refl
+      (λ holding i z.
+      subst (λ w. Later (Runs g (branches l.program r (Some (if w then taken else other)))) i) (sym holding)
+      (enters_any r n i taken h some (block_in (slice_get l.program.functions f) taken) refl (λ there. z.stood) (λ q s. z.registers q s.seven ∙ registers q s) (z.world ∙ world)))
+      (λ failing i z.
+      subst (λ w. Later (Runs g (branches l.program r (Some (if w then taken else other)))) i) (sym failing)
+      (jump_by r n i other h (other == suc h.block) refl some_other z.at (λ q s. z.registers q s.seven ∙ registers q s) (z.world ∙ world)))
+
   pub jump_follows : (r : PlacedRunning) (n t : ℕ) (h : Going_at g r n) → r.top.code ≡ [] → r.top.end ≡ Jump t → Later (Runs g (went_to g.layout.program r t)) n
   jump_follows r n t h code_is end_is =
       let at = subst (λ e. At g (course_in g r r.world h.block h.returns) n (noted_body g.layout.memory g.layout.program r.top.func h.block [] e)) end_is (subst (λ c. At g (course_in g r r.world h.block h.returns) n (body g r h.block c)) code_is h.at) in
@@ -156,26 +183,20 @@ module _ (g : Given) where
       let k = course_in g r r.world h.block h.returns in
       let rx = operand_register fr first_free x in
       let ry = operand_register fr second_free y in
-      let jump = jump_items l.memory l.program f (other == suc h.block) other in
-      let rest = map noted jump in
-      let behind = noted (items.Branch Far c rx ry taken) ∷ rest in
+      let ways = two_way_items l.memory l.program f (taken == suc h.block) h.block c rx ry taken other in
+      let behind = map noted ways in
       let goal = Runs g (branches l.program r (Some (if holds c u v then taken else other))) in
       let ready = ready_of g r n h in
       let branch = operand_code fr first_free x ++ operand_code fr second_free y in
       let at = subst (λ e. At g k n (noted_body l.memory l.program f h.block [] e)) end_is (subst (λ z. At g k n (body g r h.block z)) code_is h.at) in
-      let start = subst (λ z. At g k n z) (noted_code branch (items.Branch Far c rx ry taken ∷ jump)) at in
+      let start = subst (λ z. At g k n z) (noted_code branch ways) at in
       operand g k goal n f first_free r.top.store (singles (operand_code fr second_free y) ++ behind) x (Word u) first_is_free ready e1 (in_parts g k n (operand_code fr first_free x) (operand_code fr second_free y) behind start)
       (λ m a.
       let ready2 = ready_kept g f n m first_free r.top.store first_is_free ready a.world a.others in
       operand g k goal m f second_free r.top.store behind y (Word v) second_is_free ready2 e2 a.at
       (λ j b.
       let left : reg g j rx ≡ u = b.others rx (operand_apart g f n r.top.store x (Word u) ready e1) ∙ a.value in
-      branch_lays g k goal j taken Far c rx ry u v rest (holds c u v) b.at left b.value refl
-      (λ holding i z.
-      subst (λ w. Later (Runs g (branches l.program r (Some (if w then taken else other)))) i) (sym holding)
-      (enters_any r n i taken h (leads_on r n taken h (followed r n taken h (Branch c x y taken other) end_is (0, omega arith, refl))) (block_in (slice_get l.program.functions f) taken) refl (λ there. z.stood)
-      (λ q s. z.registers q s.seven ∙ b.others q s.six ∙ a.others q s.five) (z.world ∙ b.world ∙ a.world)))
-      (λ failing i z.
-      subst (λ w. Later (Runs g (branches l.program r (Some (if w then taken else other)))) i) (sym failing)
-      (jump_by r n i other h (other == suc h.block) refl (leads_on r n other h (followed r n other h (Branch c x y taken other) end_is (1, omega arith, refl))) z.at
-      (λ q s. z.registers q s.seven ∙ b.others q s.six ∙ a.others q s.five) (z.world ∙ b.world ∙ a.world)))))
+      two_ways r n j c rx ry u v taken other h (taken == suc h.block) refl
+      (leads_on r n taken h (followed r n taken h (Branch c x y taken other) end_is (0, omega arith, refl)))
+      (leads_on r n other h (followed r n other h (Branch c x y taken other) end_is (1, omega arith, refl)))
+      b.at left b.value (λ q s. b.others q s.six ∙ a.others q s.five) (b.world ∙ a.world)))
