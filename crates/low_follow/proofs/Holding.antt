@@ -100,7 +100,7 @@ place_written t u (Slot q) x e = by_test (nat_lt q (length t.slots)) refl e
 pub strict : (a b : ℕ) → a ≢ b → (a < b) ⊎ (b < a)
 strict a b n = ⊎_elim (λ h. ⊎_elim (λ k. let x = h.1 in let y = k.1 in absurd (n (omega arith))) (λ k. let y = k.1 in inl (omega arith)) (leb_tells b a)) (λ h. let x = h.1 in inr (omega arith)) (leb_tells a b)
 
-same_place : (p q : Place) → (p ≡ q) ⊎ (p ≢ q)
+pub same_place : (p q : Place) → (p ≡ q) ⊎ (p ≢ q)
 same_place (InRegister q) (InRegister r) = ⊎_elim (λ (e : q ≡ r). inl (ap InRegister e)) (λ (n : q ≢ r). inr (λ e. n cc)) (cases_eq q r)
 same_place (InRegister q) (Slot k) = inr (λ e. cc)
 same_place (Slot k) (InRegister q) = inr (λ e. cc)
