@@ -1,8 +1,7 @@
 -- An activation that waited goes on.
-use Rattle.std.proofs.Common.{◌≡◌, ◌≢◌, ◌⊎◌, ⊎_elim, inl, ℕ, zero, suc, ◌+◌, ◌^◌, ◌<◌, ◌≤◌, Bool, true, false, List, [], ◌∷◌, ◌++◌, length, Contains, Option, Some, None, refl, sym, ap, ◌∙◌, subst, arith, length-append}
-use Rattle.std.specs.Prelude.{◌==◌, if◌then◌else◌, slice_index}
+use Rattle.std.proofs.Common.{◌≡◌, inl, ℕ, ◌+◌, ◌^◌, ◌<◌, Bool, true, false, List, ◌∷◌, ◌++◌, length, Contains, Option, Some, None, refl, sym, ap, ◌∙◌, subst, arith}
+use Rattle.std.specs.Prelude.{slice_index}
 use Rattle.std.specs.Option.{option_to_list}
-use Rattle.std.proofs.lemmas.Bool.Decides.{nat_tests}
 use Rattle.rv_core.specs.declared.row.Width.{Width}
 use Rattle.rv_core.specs.declared.row.Width.TheVariants.{Word as Whole}
 use Rattle.rv_core.specs.Memory.{read_from}
@@ -12,14 +11,14 @@ use Rattle.code_steps.proofs.LaterLemmas.{now}
 use Rattle.low_ir.specs.declared.places.Place.{Place}
 use Rattle.low_ir.specs.declared.places.Place.TheVariants.{Register as InRegister, Slot}
 use Rattle.low_ir.specs.declared.run.Value.TheVariants.{Word}
-use Rattle.low_ir.specs.Code.{Operand, Instr, Do, Call}
+use Rattle.low_ir.specs.Code.{Operand, Call}
 use Rattle.low_ir.specs.Effects.{is_member}
 use Rattle.low_ir.specs.Runs.{goes_on, write_to}
 use Rattle.low_ir.specs.Places.{File, places}
-use Rattle.low_items.specs.Numbers.{base, base_address, link, result, machine_register}
+use Rattle.low_items.specs.Numbers.{base, base_address, result, machine_register}
 use Rattle.low_items.specs.Frames.{slot_at, saved_at, home_at, return_at}
 use Rattle.low_items.specs.Emission.{registers_among, kept_among, return_code, value_code, behind_call}
-use Rattle.low_items.specs.Functions.{PlacedBlock, function_in, is_leaf, callees_in, all_callees, callees_of}
+use Rattle.low_items.specs.Functions.{PlacedBlock, function_in, is_leaf}
 use Rattle.low_relation.specs.Noted.{Noted, singles, noted_body}
 use Rattle.low_relation.specs.Plans.{parameters_of, writes_of, block_writes, function_writes, SavesAt}
 use Rattle.low_relation.specs.Positions.{Course}
@@ -27,68 +26,21 @@ use Rattle.low_relation.specs.Views.{View, view_of, Shows}
 use Rattle.low_relation.specs.Waiting.{IsIn, PlacedWaiting, Rests, AreWaiting, IsLinked}
 use Rattle.low_relation.specs.Following.{PlacedRunning, Holds, Exchanges, Goes}
 use Rattle.low_steps.proofs.Given.{Given, run_of, state, reg, read, At}
-use Rattle.low_steps.proofs.Places.{value_is, steady_is, machine_register-same, lt_or}
+use Rattle.low_steps.proofs.Places.{value_is, steady_is, machine_register-same}
 use Rattle.low_steps.proofs.Operands.{frame, code, in_parts}
 use Rattle.low_steps.proofs.Operands as operands
 use Rattle.low_follow.proofs.Apart.{waits_kept, arrays_kept}
 use Rattle.low_follow.proofs.Elements.{member_contains}
 use Rattle.low_follow.proofs.Holding.{in_flat_map, got_contains, holds_kept, written_there}
 use Rattle.low_follow.proofs.Plains.{Runs}
-use Rattle.low_saves.proofs.Homes.{member_head, member_cases, member_tail, Unhomed, unhomes_run}
+use Rattle.low_saves.proofs.Homes.{Unhomed, unhomes_run}
+use Rattle.low_saves.proofs.Members.{kept_member, kept_parameter, among_append, calls_some, link_apart}
 use Rattle.low_jumps.proofs.Standing.{to_run}
 use Rattle.low_entries.proofs.Entries.{Left}
-
--- members of registers and of those that are kept
-kept_member : (ps : List Place) (note : List ℕ) (q : ℕ) → is_member (registers_among ps) q ≡ true → is_member note q ≡ true → is_member (kept_among ps note) q ≡ true
-kept_member [] note q m k = cc
-kept_member (Slot j ∷ ps) note q m k = kept_member ps note q m k
-kept_member (InRegister r ∷ ps) note q m k =
-    ⊎_elim
-    (λ (same : r ≡ q). at_head (is_member note r) (ap (is_member note) same ∙ k) (subst (λ x. is_member (r ∷ kept_among ps note) x ≡ true) same (member_head r (kept_among ps note))))
-    (λ (rest : is_member (registers_among ps) q ≡ true). behind (is_member note r) (kept_member ps note q rest k))
-    (member_cases r q (registers_among ps) m)
-  where
-    at_head : (b : Bool) → b ≡ true → is_member (r ∷ kept_among ps note) q ≡ true → is_member (if b then (r ∷ kept_among ps note) else kept_among ps note) q ≡ true
-    at_head true e h = h
-    at_head false e h = cc
-
-    behind : (b : Bool) → is_member (kept_among ps note) q ≡ true → is_member (if b then (r ∷ kept_among ps note) else kept_among ps note) q ≡ true
-    behind true h = member_tail r q (kept_among ps note) h
-    behind false h = h
-
-kept_parameter : (ps : List Place) (note : List ℕ) (q : ℕ) → is_member (kept_among ps note) q ≡ true → is_member (registers_among ps) q ≡ true
-kept_parameter [] note q m = m
-kept_parameter (Slot j ∷ ps) note q m = kept_parameter ps note q m
-kept_parameter (InRegister r ∷ ps) note q m = by_note (is_member note r) m (λ h. kept_parameter ps note q h)
-  where
-    by_note : (b : Bool) → is_member (if b then (r ∷ kept_among ps note) else kept_among ps note) q ≡ true → (is_member (kept_among ps note) q ≡ true → is_member (registers_among ps) q ≡ true) → is_member (r ∷ registers_among ps) q ≡ true
-    by_note true h go = ⊎_elim (λ (same : r ≡ q). subst (λ x. is_member (r ∷ registers_among ps) x ≡ true) same (member_head r (registers_among ps))) (λ (rest : is_member (kept_among ps note) q ≡ true). member_tail r q (registers_among ps) (go rest)) (member_cases r q (kept_among ps note) h)
-    by_note false h go = member_tail r q (registers_among ps) (go h)
-
--- the registers of parameters are among those that a call writes
-among_append : (ps qs : List Place) (q : ℕ) → Contains (registers_among qs) q → Contains (registers_among (ps ++ qs)) q
-among_append [] qs q h = h
-among_append (InRegister r ∷ ps) qs q h = let t = among_append ps qs q h in (suc t.0, omega (arith, t.1), t.2)
-among_append (Slot j ∷ ps) qs q h = among_append ps qs q h
 
 among_first : (d : Place) (qs : List Place) (q : ℕ) → d ≡ InRegister q → Contains (registers_among (d ∷ qs)) q
 among_first (InRegister r) qs q e = let same : r ≡ q = cc in (0, omega arith, same)
 among_first (Slot j) qs q e = absurd cc
-
--- who calls is no leaf
-in_callees : (is : List (Instr Place (List ℕ))) (d : Option Place) (f : ℕ) (args : List (Operand Place)) (note : List ℕ) → Contains is (Call d f args note) → 0 < length (callees_in is)
-in_callees [] d f args note (k, less, e) = absurd (omega arith)
-in_callees (Do i ∷ is) d f args note (zero, less, e) = absurd cc
-in_callees (Do i ∷ is) d f args note (suc k, less, e) = in_callees is d f args note (k, omega arith, e)
-in_callees (Call c h xs n ∷ is) d f args note x = omega arith
-
-in_all : (bs : List PlacedBlock) (b : PlacedBlock) → Contains bs b → 0 < length (callees_in b.code) → 0 < length (all_callees bs)
-in_all [] b (k, less, e) some = absurd (omega arith)
-in_all (x ∷ bs) b (zero, less, e) some = let sum = length-append (callees_in x.code) (all_callees bs) in let first = subst (λ (y : PlacedBlock). 0 < length (callees_in y.code)) (sym e) some in omega arith
-in_all (x ∷ bs) b (suc k, less, e) some = let sum = length-append (callees_in x.code) (all_callees bs) in let rest = in_all bs b (k, omega arith, e) some in omega arith
-
-zero_test : (n : ℕ) → 0 < n → (n == 0) ≡ false
-zero_test n h = grind (arith, nat_tests)
 
 module _ (g : Given) where
   -- what a run shows of the activation that goes on
@@ -124,13 +76,6 @@ module _ (g : Given) where
         at = a.at;
       }))
 
-  link_apart : (q : ℕ) → machine_register q ≢ link
-  link_apart q e =
-      ⊎_elim
-      (λ (less : q < 24). (value_is q less).link_not e)
-      (λ (more : 24 ≤ q). let far : machine_register q ≡ q + 8 = grind (arith, nat_tests) in omega (arith, e))
-      (lt_or q 24)
-
   -- what a register that others need holds, once the function has left
   promised : (r : PlacedRunning) (n m at : ℕ) (ats returns : List ℕ) (h : Holds g.layout r (view_of (state g n)) returns) → Left g n m r.top.func at r.world.trace ats → (q : ℕ) → is_member (g.layout.needs r.top.func) q ≡ true → h.after q < 2 ^ 32 → reg g m (machine_register q) ≡ h.after q
   promised r n m at ats returns h left q need less = by_saved (is_member (frame g r.top.func).saved q) refl
@@ -157,8 +102,7 @@ module _ (g : Given) where
   not_leaf w f v after at rests =
       let p = g.layout.program in
       let inside = rests.inside in
-      zero_test (length (callees_of (function_in p w.frame.func)))
-      (in_all (function_in p w.frame.func).blocks inside.block (got_contains (function_in p w.frame.func).blocks rests.block inside.block inside.has) (in_callees inside.block.code w.into f rests.args rests.note rests.call))
+      calls_some (function_in p w.frame.func).blocks rests.block inside.block w.into f rests.args rests.note inside.has rests.call
 
   saves_at : (w : PlacedWaiting) (f : ℕ) (v : View) (after : ℕ → ℕ) (at : ℕ) (rests : Rests g.layout w f v after at) → SavesAt g.layout.program g.layout.memory g.layout.needs w.frame.func f rests.note
   saves_at w f v after at rests =
