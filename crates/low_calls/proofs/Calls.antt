@@ -32,7 +32,7 @@ use Rattle.low_follow.proofs.Plains.{Going_at, ready_of, course_in, code_at, bod
 use Rattle.low_saves.proofs.Homes.{home_word, NoHome, Homed, homes_run, Unhomed, unhomes_run}
 use Rattle.low_jumps.proofs.Calls.{Called, call_lays}
 use Rattle.low_jumps.proofs.Arrivals.{Entered, block_course, at_block, enter_filled}
-use Rattle.low_calls.proofs.Members.{link_apart}
+use Rattle.low_saves.proofs.Members.{link_apart}
 use Rattle.low_calls.proofs.Late.{late_registers, late_is, late_parameter, told}
 use Rattle.low_calls.proofs.Passing.{IsPassed, Awaits, IsOutside, Between, Passed, pass_runs}
 use Rattle.low_calls.proofs.Stores.{empty_file, empty_reads, empty_room, all_taken}

@@ -39,7 +39,7 @@ use Rattle.low_saves.proofs.Homes.{NoHome, home_word}
 use Rattle.low_saves.proofs.Saved.{saved_word}
 use Rattle.low_jumps.proofs.Arrivals.{block_course}
 use Rattle.low_entries.proofs.Entries.{Opened, opens}
-use Rattle.low_calls.proofs.Members.{kept_member, among_append, calls_some}
+use Rattle.low_saves.proofs.Members.{kept_member, among_append, calls_some}
 use Rattle.low_calls.proofs.Passing.{IsOutside}
 use Rattle.low_calls.proofs.Stores.{empty_file, kept_value, kept_room}
 use Rattle.low_calls.proofs.Calls.{behind, Begins, frame_outside, no_home_outside, call_runs}

@@ -1,4 +1,3 @@
-pub mod Members
 pub mod Late
 pub mod Passing
 pub mod Stores

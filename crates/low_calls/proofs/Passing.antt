@@ -27,11 +27,10 @@ use Rattle.low_steps.proofs.Given.{Given, state, reg, read, At}
 use Rattle.low_steps.proofs.Places.{value_is, steady_is, machine_register-same, IsFrameWord, slot_word}
 use Rattle.low_steps.proofs.Operands.{frame, code, in_parts, into, Ready, IsOther, slot_inside}
 use Rattle.low_follow.proofs.Apart.{position-below}
-use Rattle.low_follow.proofs.Holding.{Written, place_written, strict, written_there}
+use Rattle.low_follow.proofs.Holding.{same_place, Written, place_written, strict, written_there}
 use Rattle.low_follow.proofs.Plains.{operand-small}
 use Rattle.low_saves.proofs.Homes.{member_head, member_tail, member_cases, position-same, home_word}
 use Rattle.low_passing.proofs.Arguments.{unset, operand-unset, reads-rest, ready_unset, Put, store_runs}
-use Rattle.low_calls.proofs.Members.{same_place}
 use Rattle.low_calls.proofs.Late.{AreTold}
 
 -- operands that don't read a register have the same values without it
