@@ -1,6 +1,6 @@
 -- What may be moved into the scratchpad: the code of a function, or an array that isn't local.
-use Rattle.std.specs.Prelude.{ℕ, zero, suc, ◌+◌, ◌*◌, ◌/◌, ◌%◌, ◌^◌, ◌==◌, ◌&&◌, Bool, true, false, List, [], ◌∷◌, ◌++◌, length, slice_index_or, if◌then◌else◌}
-use Rattle.std.specs.List.{flat_map}
+use Rattle.std.specs.Prelude.{ℕ, zero, suc, ◌+◌, ◌*◌, ◌/◌, ◌%◌, ◌^◌, ◌==◌, ◌&&◌, Bool, true, false, List, [], ◌∷◌, ◌++◌, length, map, slice_index_or, if◌then◌else◌}
+use Rattle.std.specs.List.{flat_map, range_with_len}
 use Rattle.rv_core.specs.declared.regions.Region.{Region}
 use Rattle.rv_core.specs.declared.regions.Region.TheVariants.{Flash, Spm}
 use Rattle.code_items.specs.declared.item.Item.{Item}
@@ -8,6 +8,8 @@ use Rattle.code_items.specs.Items.{size, total}
 use Rattle.code_items.specs.Placings.{Blocks, base_of, blocks_of, blocks_size}
 use Rattle.code_forms.specs.Shorter.{blocks_longest}
 use Rattle.placed_code.specs.Written.{in_scratchpad}
+use Rattle.low_ir.specs.declared.object.Storage.{Storage}
+use Rattle.low_ir.specs.declared.object.Storage.TheVariants.{Constant, Global, Local}
 use Rattle.low_ir.specs.declared.places.Place.{Place}
 use Rattle.low_ir.specs.Code.{Base, Fixed, Through, Point, Load, Store, Instr, Do, Object}
 use Rattle.low_ir.specs.Kinds.{kind_bytes}
@@ -103,3 +105,21 @@ array_item l o x = record {
   region = l.regions o;
   at = flat_map (only_in l o) (by_address l);
 }
+
+-- a local array is no item
+abbrev pub is_local : Storage → Bool
+is_local Constant = false
+is_local Global = false
+is_local Local = true
+
+abbrev pub unless : Bool → Movable → List Movable
+unless true m = []
+unless false m = m ∷ []
+
+-- the arrays from number o on
+abbrev pub arrays_from : Laid → ℕ → List Object → List Movable
+arrays_from l o [] = []
+arrays_from l o (x ∷ xs) = unless (is_local x.storage) (array_item l o x) ++ arrays_from l (suc o) xs
+
+abbrev pub movables_of : Laid → List Movable
+movables_of l = map (function_item l) (range_with_len 0 (length l.program.functions)) ++ arrays_from l 0 l.program.objects

@@ -1,8 +1,8 @@
 //! What may be moved into the scratchpad: the code of a function, or an array that isn't local.
 //!
-//! `specs/` has their numbers, sizes, regions, and the addresses at which they are fetched or accessed (`Movables`), and
-//! what is promised of them (`Laws`). A function's size is that of its items in their longest forms, where every array is
-//! far: it doesn't depend on what was moved, and is at least what the function takes.
+//! `specs/` has their numbers, sizes, regions, and the addresses at which they are fetched or accessed, the list of all
+//! that a program has (`Movables`), and what is promised of them (`Laws`). A function's size is that of its items in their
+//! longest forms, where every array is far: it doesn't depend on what was moved, and is at least what the function takes.
 //!
 //! Proved: [`sizes_are_kept`], [`functions_are_movable`] and [`arrays_are_movable`], the contracts of functions without a
 //! body.
