@@ -10,9 +10,8 @@ use Rattle.low_frames.specs.Frames.{frames_of}
 use Rattle.low_frames.specs.Memories.{Placement, memory_of}
 use Rattle.laid_claims.specs.Listed.{Laid}
 use Rattle.laid_image.specs.Images.{laid_of}
-use Rattle.laid_items.specs.Movables.{Movable, array_item, array_size, function_item, function_size}
+use Rattle.laid_items.specs.Movables.{Movable, array_item, array_size, arrays_from, function_item, function_size, is_local, movables_of, unless}
 use Rattle.laid_items.proofs.Sizes.{sizes_kept}
-use Rattle.laid_sizes.specs.Items.{arrays_from, is_local, movables_of, unless}
 use Rattle.laid_sizes.specs.Laws.{sized}
 
 abbrev all_functions : Laid → List Movable

@@ -27,10 +27,10 @@ use Rattle.laid_claims.specs.Laws.{IsSettled}
 use Rattle.laid_claims.specs.Listed.{Laid, functions_of, placing}
 use Rattle.laid_claims.proofs.Blocks.{count}
 use Rattle.laid_image.specs.Images.{laid_of}
-use Rattle.laid_items.specs.Movables.{Movable, array_item, array_size, code_region, function_item}
+use Rattle.laid_items.specs.Movables.{Movable, array_item, array_size, arrays_from, code_region, function_item, is_local, movables_of, unless}
 use Rattle.laid_items.proofs.Movables.{function_movable}
 use Rattle.laid_sizes.specs.Segments.{taken_in}
-use Rattle.laid_sizes.specs.Items.{MovesItems, array_region, arrays_from, is_local, movables_of, scratchpad_size, unless}
+use Rattle.laid_sizes.specs.Items.{MovesItems, array_region, scratchpad_size}
 use Rattle.laid_sizes.specs.Laws.{AreSmall}
 use Rattle.laid_sizes.proofs.Counting.{instructions_few, scratchpad_row}
 use Rattle.laid_sizes.proofs.Kept.{kept_few, room_is}

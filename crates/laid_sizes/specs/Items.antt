@@ -1,6 +1,5 @@
--- The items of a laid program, placements of items, and what they take.
-use Rattle.std.specs.Prelude.{◌≡◌, ◌≢◌, ℕ, suc, ◌+◌, ◌<◌, Bool, true, false, List, [], ◌∷◌, ◌++◌, length, map, Some, slice_get, slice_index_or, if◌then◌else◌}
-use Rattle.std.specs.List.{range_with_len}
+-- Placements of items, and what they take.
+use Rattle.std.specs.Prelude.{◌≡◌, ◌≢◌, ℕ, ◌+◌, ◌<◌, Bool, true, false, List, [], ◌∷◌, length, Some, slice_get, slice_index_or, if◌then◌else◌}
 use Rattle.rv_core.specs.declared.regions.Region.{Region}
 use Rattle.rv_core.specs.declared.regions.Region.TheVariants.{Flash, Spm, Ram}
 use Rattle.placed_code.specs.Written.{flash_words, scratchpad_words}
@@ -11,8 +10,7 @@ use Rattle.low_ir.specs.Places.{Placed}
 use Rattle.low_frames.specs.Memories.{Placement}
 use Rattle.low_image.specs.Images.{formed_in, rows_in}
 use Rattle.laid_accesses.specs.Lines.{same_region}
-use Rattle.laid_claims.specs.Listed.{Laid}
-use Rattle.laid_items.specs.Movables.{Movable, array_item, array_size, function_item}
+use Rattle.laid_items.specs.Movables.{Movable, array_size}
 
 -- the start code is no item, and a local array is none
 pub record MovesItems (pl : Placement) (p : Placed) : Type 0 where
@@ -37,25 +35,7 @@ abbrev pub globals_size : List Object → ℕ
 globals_size [] = 0
 globals_size (x ∷ xs) = unless_local x.storage (array_size x) + globals_size xs
 
--- the items: functions, and arrays that aren't local
-abbrev pub is_local : Storage → Bool
-is_local Fixed' = false
-is_local Global = false
-is_local Local = true
-
-abbrev pub unless : Bool → Movable → List Movable
-unless true m = []
-unless false m = m ∷ []
-
--- the arrays from number o on
-abbrev pub arrays_from : Laid → ℕ → List Object → List Movable
-arrays_from l o [] = []
-arrays_from l o (x ∷ xs) = unless (is_local x.storage) (array_item l o x) ++ arrays_from l (suc o) xs
-
-abbrev pub movables_of : Laid → List Movable
-movables_of l = map (function_item l) (range_with_len 0 (length l.program.functions)) ++ arrays_from l 0 l.program.objects
-
--- what those in the scratchpad take together
+-- what items in the scratchpad take together
 abbrev pub scratchpad_size : List Movable → ℕ
 scratchpad_size [] = 0
 scratchpad_size (m ∷ ms) = (if same_region Spm m.region then m.size else 0) + scratchpad_size ms

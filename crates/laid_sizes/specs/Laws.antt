@@ -14,9 +14,9 @@ use Rattle.low_sizes.specs.Sizes.{HasWords}
 use Rattle.laid_claims.specs.Laws.{IsSettled}
 use Rattle.laid_claims.specs.Listed.{claims_of, placing, regions_of}
 use Rattle.laid_image.specs.Images.{laid_of}
-use Rattle.laid_items.specs.Movables.{Movable, array_item, code_region, function_item}
+use Rattle.laid_items.specs.Movables.{Movable, array_item, code_region, function_item, movables_of}
 use Rattle.laid_sizes.specs.Segments.{AreFilled, bytes_kept, taken_in}
-use Rattle.laid_sizes.specs.Items.{HasElements, MovesItems, array_region, globals_size, instructions_in, movables_of, scratchpad_size}
+use Rattle.laid_sizes.specs.Items.{HasElements, MovesItems, array_region, globals_size, instructions_in, scratchpad_size}
 
 -- the image has a segment that isn't empty in each region that a line names
 abbrev pub RegionsAreFilled : Type 0
