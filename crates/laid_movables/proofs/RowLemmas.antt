@@ -18,7 +18,7 @@ use Rattle.low_items.specs.Frames.{Memory}
 use Rattle.low_items.specs.Functions as low
 use Rattle.low_items.proofs.ItemLemmas.{of_function}
 use Rattle.laid_claims.specs.Listed.{Laid, by_address, placing}
-use Rattle.laid_items.specs.Movables.{Movable, array_item, array_size, code_region, function_item, near_blocks, only_in, words_at}
+use Rattle.laid_items.specs.Movables.{Movable, array_item, array_size, arrays_from, code_region, function_item, is_local, movables_of, near_blocks, only_in, unless, words_at}
 use Rattle.laid_lists.specs.declared.laying.Laying.{Laying}
 use Rattle.laid_lists.specs.declared.marks.Marked.{Marked}
 use Rattle.laid_lists.specs.Lists.{IsOf}
@@ -26,7 +26,7 @@ use Rattle.laid_lists.specs.Marks.{places_among}
 use Rattle.laid_lists.specs.Places.{base_in, blocks_in}
 use Rattle.laid_lists.proofs.Listing.{base_same, blocks_same}
 use Rattle.laid_places.specs.Places.{sorted}
-use Rattle.laid_movables.specs.Listed.{array_in, arrays_from, arrays_in, function_in, is_local, lists_below, low_blocks, movables_of, size_in, unless}
+use Rattle.laid_movables.specs.Listed.{array_in, arrays_in, function_in, lists_below, low_blocks, size_in}
 use Rattle.laid_movables.specs.Near.{blocks_near}
 use Rattle.laid_movables.proofs.NearLemmas.{near_at}
 

@@ -1,15 +1,13 @@
 -- What may be moved of a laid program: its functions, and its arrays that aren't local.
-use Rattle.std.specs.Prelude.{ℕ, suc, ◌+◌, ◌*◌, ◌/◌, Bool, true, false, List, [], ◌∷◌, ◌++◌, length, map, slice_index_or}
+use Rattle.std.specs.Prelude.{ℕ, suc, ◌+◌, ◌*◌, ◌/◌, true, false, List, [], ◌∷◌, ◌++◌, map, slice_index_or}
 use Rattle.std.specs.List.{flat_map, range_with_len}
 use Rattle.rv_core.specs.declared.regions.Region.{Region}
 use Rattle.code_items.specs.Placings.{blocks_size}
 use Rattle.code_forms.specs.Shorter.{blocks_longest}
-use Rattle.low_ir.specs.declared.object.Storage.{Storage}
-use Rattle.low_ir.specs.declared.object.Storage.TheVariants.{Constant, Global, Local}
 use Rattle.low_ir.specs.Code.{Block, Function, Object, Note}
 use Rattle.low_ir.specs.Programs.{low_of}
 use Rattle.low_items.specs.Frames.{Memory}
-use Rattle.laid_items.specs.Movables.{Movable, array_item, array_size, code_region, function_item, only_in, words_at}
+use Rattle.laid_items.specs.Movables.{Movable, array_size, code_region, is_local, only_in, unless, words_at}
 use Rattle.laid_claims.specs.Listed.{Laid, by_address}
 use Rattle.laid_lists.specs.declared.laying.Laying.{Laying}
 use Rattle.laid_lists.specs.Places.{base_in, blocks_in}
@@ -19,28 +17,11 @@ use Rattle.laid_movables.specs.Near.{blocks_near}
 abbrev pub movable_of : items.LaidItem → Movable
 movable_of i = record { id = i.id; size = i.size; code = i.code; region = i.region; at = i.at }
 
-abbrev pub is_local : Storage → Bool
-is_local Constant = false
-is_local Global = false
-is_local Local = true
-
-abbrev pub unless : Bool → Movable → List Movable
-unless true x = []
-unless false x = x ∷ []
-
--- the arrays from number o on
-abbrev pub arrays_from : Laid → ℕ → List Object → List Movable
-arrays_from l o [] = []
-arrays_from l o (x ∷ xs) = unless (is_local x.storage) (array_item l o x) ++ arrays_from l (suc o) xs
-
-abbrev pub movables_of : Laid → List Movable
-movables_of l = map (function_item l) (range_with_len 0 (length l.program.functions)) ++ arrays_from l 0 l.program.objects
-
 -- the addresses of the accesses that touch an array alone, of the arrays below n
 abbrev pub lists_below : Laid → ℕ → List (List ℕ)
 lists_below l n = map (λ o. flat_map (only_in l o) (by_address l)) (range_with_len 0 n)
 
--- the same by the layout
+-- functions by the layout
 
 abbrev pub no_low_function : Function ℕ Note
 no_low_function = record { parameters = []; size = 0; loops = []; blocks = [] }

@@ -1,9 +1,9 @@
 // The items of arrays.
 ghost use Rattle.std.specs.Prelude.{◌≡◌, ◌++◌, [], map, slice_index_or, IfOk};
 ghost use Rattle.low_ir.specs.View.{object_of};
-ghost use Rattle.laid_items.specs.Movables.{array_size};
+ghost use Rattle.laid_items.specs.Movables.{array_size, is_local, unless};
 ghost use Rattle.laid_claiming.specs.Sights.{region_in};
-ghost use Rattle.laid_movables.specs.Listed.{array_in, arrays_in, is_local, movable_of, unless};
+ghost use Rattle.laid_movables.specs.Listed.{array_in, arrays_in, movable_of};
 
 use super::item::LaidItem;
 use super::numbers::{add, count};

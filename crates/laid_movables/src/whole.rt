@@ -5,7 +5,8 @@ ghost use Rattle.laid_lists.specs.Lists.{IsOf};
 ghost use Rattle.laid_lists.specs.Places.{IsRoomy};
 ghost use Rattle.laid_touches.specs.Named.{AreTouches};
 ghost use Rattle.laid_claiming.specs.Whole.{IsWhole};
-ghost use Rattle.laid_movables.specs.Listed.{lists_below, movable_of, movables_of};
+ghost use Rattle.laid_items.specs.Movables.{movables_of};
+ghost use Rattle.laid_movables.specs.Listed.{lists_below, movable_of};
 
 use super::alone::accesses;
 use super::arrays::{Arrays, put_arrays};
