@@ -8,8 +8,9 @@ use Rattle.low_image.specs.Images.{image_in}
 use Rattle.laid_claims.specs.Listed as listed
 use Rattle.laid_claims.specs.Listed.{claims_of, code_ranges, placing}
 use Rattle.laid_shapes.specs.Shapes.{AreShaped}
+use Rattle.laid_items.specs.Movables.{movables_of}
 use Rattle.laid_lists.specs.Lists.{range_of}
-use Rattle.laid_movables.specs.Listed.{movable_of, movables_of}
+use Rattle.laid_movables.specs.Listed.{movable_of}
 use Rattle.laid_places.specs.Places.{places_below}
 use Rattle.laid_image.specs.Images.{laid_of}
 use Rattle.low_lay.specs.declared.laying.Claimed.{Claimed}
