@@ -1,4 +1,4 @@
-"""The program of the crate high_try, proved and built first where that isn't done yet."""
+"""The program of a crate for tests, proved and built first where that isn't done yet."""
 import os
 import subprocess
 import time
@@ -6,7 +6,6 @@ from pathlib import Path
 from subprocess import DEVNULL, STDOUT
 
 ROOT = Path(__file__).resolve().parent.parent.parent
-CRATE = ROOT / "crates/high_try"
 
 
 def is_current(program):
@@ -18,17 +17,18 @@ def is_current(program):
     return all(it.stat().st_mtime <= program.stat().st_mtime for it in sources)
 
 
-def built():
+def built(name="high_try"):
     """Its path."""
-    program, log = CRATE / "out/high_try", CRATE / "out/build.log"
+    crate = ROOT / "crates" / name
+    program, log = crate / "out" / name, crate / "out/build.log"
     if not is_current(program):
         started = time.time()
         log.parent.mkdir(exist_ok=True)
         program.unlink(missing_ok=True)
         with open(log, "wb") as told:
-            subprocess.run(["rt", "run"], cwd=CRATE, stdin=DEVNULL, stdout=told, stderr=STDOUT)
+            subprocess.run(["rt", "run"], cwd=crate, stdin=DEVNULL, stdout=told, stderr=STDOUT)
         if not program.is_file():
-            raise SystemExit(f"There is no high_try to run: {log} says why.\n0 passed, 1 failed")
+            raise SystemExit(f"There is no {name} to run: {log} says why.\n0 passed, 1 failed")
         # So that a source which changed during the build is newer than the program.
         os.utime(program, (started, started))
     return program
