@@ -1,6 +1,6 @@
 -- A search can be made and a run keeps the claims, whatever loops are called.
 use Rattle.std.proofs.Common.{◌≡◌, ℕ, ℤ, List, [], ◌∷◌, map, sym, subst}
-use Rattle.std.proofs.lemmas.List.Elements.{All-map}
+use Rattle.std.proofs.lemmas.List.Elements.{All-map, All-weaker}
 use Rattle.rv_core.specs.Runs.{Run}
 use Rattle.rv_core.specs.Table.{Table}
 use Rattle.flow_system.specs.declared.claims.LoopClaim.{LoopClaim}
@@ -12,7 +12,6 @@ use Rattle.flow_system.specs.KeptRuns.{KeepsClaims, visit_count}
 use Rattle.flow_system.specs.Loose.{IsLoose, KeepsTurns}
 use Rattle.flow_system.specs.Shapes.{AreShapesOf, Fits, IsLoop}
 use Rattle.flow_system.specs.Systems.{System}
-use Rattle.cost_ranges.proofs.RangeLemmas.{all_map}
 use Rattle.path_counts.specs.Laws.{HasBounds}
 use Rattle.path_search.specs.Conditions.{CanBound}
 use Rattle.high_pass.specs.Listing.{LoopEntry}
@@ -36,7 +35,7 @@ module _ (es : List LoopEntry) where
     finished = h.finished;
     counts = record {
       nevers = h.counts.nevers;
-      loops = let n = visit_count r.visits in All-map (KeepsLoop n) (by_entries es) c.loops (all_map (KeepsLoop n) (λ x. KeepsLoop n (by_entries es x)) c.loops (keeps_loop n) h.counts.loops);
+      loops = let n = visit_count r.visits in All-map (KeepsLoop n) (by_entries es) c.loops (All-weaker (KeepsLoop n) (λ x. KeepsLoop n (by_entries es x)) (keeps_loop n) c.loops h.counts.loops);
       facts = h.counts.facts;
     };
     accesses = h.accesses;
@@ -53,7 +52,7 @@ module _ (es : List LoopEntry) where
     fits_named ls ps h = record {
       shapes = shapes_named c.loops ls h.shapes;
       nested = h.nested;
-      loops = all_map (IsLoop (under c s)) (IsLoop (under (named es c) s)) ls loop_under h.loops;
+      loops = All-weaker (IsLoop (under c s)) (IsLoop (under (named es c) s)) loop_under ls h.loops;
       up = h.up;
       apart = h.apart;
       covered = h.covered;

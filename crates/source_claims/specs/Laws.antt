@@ -3,8 +3,10 @@ use Rattle.std.specs.Prelude.{◌≡◌, ℕ, List}
 use Rattle.rv_core.specs.Images.{Image}
 use Rattle.rv_core.specs.Runs.{Run}
 use Rattle.rv_core.specs.Table.{Table}
+use Rattle.flow_system.specs.declared.cert.Cert.{Cert}
 use Rattle.flow_system.specs.declared.shapes.LoopShape.{LoopShape}
 use Rattle.flow_system.specs.declared.shapes.Span.{Span}
+use Rattle.flow_system.specs.Certificates.{Accepts}
 use Rattle.flow_system.specs.Claims.{Claims}
 use Rattle.flow_system.specs.KeptRuns.{KeepsClaims}
 use Rattle.flow_system.specs.Systems.{IsFirstBad, IsFirstNoCode, IsSystemOf, System}
@@ -28,6 +30,10 @@ FaultsAreSame =
 -- a search can be made as well
 abbrev pub BoundsAreSame : Type 0
 BoundsAreSame = (es : List LoopEntry) (t : Table) (c : Claims) (s : System) (ls : List LoopShape) (ps : List Span) → s.claims ≡ named es c → CanBound t (under c s) ls ps → CanBound t s ls ps
+
+-- a certificate is accepted as well
+abbrev pub CertificatesAreSame : Type 0
+CertificatesAreSame = (es : List LoopEntry) (t : Table) (c : Claims) (s : System) (cert : Cert) → s.claims ≡ named es c → Accepts t s cert → Accepts t (under c s) cert
 
 -- a run keeps them as well
 abbrev pub RunsKeepSame : Type 0

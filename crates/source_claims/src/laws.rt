@@ -1,5 +1,5 @@
 // The laws of names.
-ghost use Rattle.source_claims.specs.Laws.{BoundsAreSame, FaultsAreSame, RunsKeepSame, SystemsAreSame};
+ghost use Rattle.source_claims.specs.Laws.{BoundsAreSame, CertificatesAreSame, FaultsAreSame, RunsKeepSame, SystemsAreSame};
 
 /// An image has the same system under claims by the loops of the source.
 pub fn systems_are_same()
@@ -14,6 +14,11 @@ pub fn faults_are_same()
 /// A search can be made in it as well.
 pub fn bounds_are_same()
     ensures { BoundsAreSame }
+{}
+
+/// A certificate is accepted as well.
+pub fn certificates_are_same()
+    ensures { CertificatesAreSame }
 {}
 
 /// A run keeps the claims as well.
