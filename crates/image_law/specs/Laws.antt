@@ -24,7 +24,8 @@ use Rattle.laid_claims.specs.Listed.{places_of}
 use Rattle.laid_image.specs.Images.{laid_of}
 use Rattle.low_program.specs.Kept.{IsWhole}
 use Rattle.low_law.specs.Programs.{KeepsProgram}
-use Rattle.low_kept.specs.Laws.{claims_on, run_of, HasImage, HasSystem}
+use Rattle.low_kept.specs.Laws.{claims_on, run_of, HasSystem}
+use Rattle.laid_law.specs.Kept.{KeepsLow}
 
 -- how often a run of the machine passed a mark: the visits of all its addresses
 abbrev pub passed : Placement → Placed → Run → ℕ → ℤ
@@ -44,11 +45,11 @@ pub record EndsWithin (c : Listing) (shown : Shown) (pl : Placement) (p : Placed
   pub keeps : KeepsClaims (claims_on pl p) (run_of pl p t input n)
   pub within : (run_of pl p t input n).state.cycles ≤ cycles
 
--- a program in the high form and its low program, which has an image, and a flow system of that with an accepted certificate
+-- a program in the high form and its low program, whose image keeps it, and a flow system of that with an accepted certificate
 pub record IsCompiled (p : Program) (q : Low) (pl : Placement) (ps : List Placing) (s : System) (t : Table) (c : Cert) : Type 0 where
   pub whole : IsWhole p
-  pub keeps : KeepsProgram p q
-  pub image : HasImage pl ps q
+  pub keeps_program : KeepsProgram p q
+  pub keeps_low : KeepsLow pl ps q
   pub system : HasSystem pl (placed (assignment ps) q) s
   pub scale : 0 < c.scale
   pub accepted : Accepts t s c
