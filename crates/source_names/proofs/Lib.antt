@@ -1,0 +1,4 @@
+pub mod Trees
+pub mod Markers
+pub mod Sites
+pub mod Counted
