@@ -1,0 +1,11 @@
+pub mod Names
+pub mod Places
+pub mod Copies
+pub mod Orders
+pub mod Values
+pub mod Ranges
+pub mod Laid
+pub mod Reports
+pub mod Openings
+pub mod Fitting
+pub mod Holding
