@@ -1,0 +1,10 @@
+pub mod Lists
+pub mod Loading
+pub mod Lined
+pub mod Unplaced
+pub mod Images
+pub mod Copies
+pub mod Naming
+pub mod Loops
+pub mod Shares
+pub mod Told
