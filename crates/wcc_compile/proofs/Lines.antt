@@ -1,0 +1,28 @@
+-- Each function and each marker of a source has its copies.
+use Rattle.std.proofs.Common.{◌≡◌, ℕ, ◌++◌, List, length, map, sym, ap, ◌∙◌, arith, length-append}
+use Rattle.std.specs.List.{range_with_len}
+use Rattle.std.proofs.lemmas.List.{length-map}
+use Rattle.std.proofs.lemmas.List.FromFn.{length-range_with_len}
+use Rattle.c_facts.specs.FlowFacts.{function_name, name_id}
+use Rattle.c_facts.specs.declared.facts.Facts.{Facts}
+use Rattle.c_front.specs.Fronts.{IsSource}
+use Rattle.c_typed.specs.Tree.{Program}
+use Rattle.high_carried.specs.Sources.{source_marks}
+use Rattle.high_checked.proofs.Sources.{checked}
+use Rattle.high_pass.specs.Listing.{mark_entry}
+use Rattle.high_planned.proofs.Facts.{says}
+use Rattle.high_program.specs.Kept.{same_mark}
+use Rattle.source_image.specs.declared.stages.Made.{Made}
+use Rattle.source_image.specs.Made.{IsMade}
+
+pub as_many : (source : List ℕ) (names : List (List ℕ)) (program : Program) (facts : Facts) (m : Made) → IsSource source names program facts → IsMade names program facts m → length m.copies.marks.items ≡ length (facts.functions ++ facts.markers)
+as_many source names program facts m is made =
+    let are = (checked source names program facts is).facts_are in
+    let said = says program names facts.ranks are.derived facts are.whole in
+    let functions : length facts.functions ≡ length program.functions =
+    ap (λ (x : Facts). length x.functions) said.facts_are ∙ length-map (map function_name program.functions) name_id ∙ length-map program.functions function_name in
+    let n = source_marks program facts in
+    let marks : length m.copies.marks.items ≡ n =
+    sym (length-map m.copies.marks.items mark_entry) ∙ ap (λ l. length l.marks) made.listed ∙ length-map (range_with_len 0 n) same_mark ∙ length-range_with_len 0 n in
+    let both = length-append facts.functions facts.markers in
+    omega (arith, functions, marks, both)

@@ -1,0 +1,34 @@
+-- The report that is put together.
+use Rattle.std.proofs.Common.{refl, sym, subst}
+use Rattle.rv_core.specs.Table.{Table}
+use Rattle.flow_system.specs.Certificates.{IsInForm}
+use Rattle.flow_system.specs.Systems.{IsSystemOf}
+use Rattle.c_front.specs.declared.reading.Source.{Source}
+use Rattle.report_text.specs.Forms.{IsReport}
+use Rattle.source_image.specs.declared.stages.Made.{Made}
+use Rattle.made_reports.specs.Laws.{ReportedAreReports}
+use Rattle.wcc_compile.specs.declared.finding.Found.{Found}
+use Rattle.wcc_compile.specs.declared.telling.Told.{Told}
+use Rattle.wcc_compile.specs.Found.{HasBound, IsTold, joined_report}
+use Rattle.wcc_compile.specs.Sources.{IsMadeOf, IsReportOn, names_of, tree_of}
+
+module _ (t : Table) (s : Source) (m : Made) (told : Told) (found : Found) (is_told : IsTold s m told) (has : HasBound t s m found) where
+  pub is_reported : IsReportOn t s m (joined_report told found)
+  is_reported =
+      let own = subst (λ l. IsSystemOf m.laid.image l has.system) (sym is_told.claims) has.is_system in
+      record {
+        version = refl;
+        lines = is_told.lines;
+        claims = is_told.claims;
+        columns = has.bound.columns;
+        system = has.system;
+        is_system = own;
+        form = subst (λ l. IsInForm l found.bounded.cert) own.same_claims has.bound.form;
+        accepted = has.bound.accepted;
+        marked = has.bound.marked;
+        shared = has.bound.shared;
+      }
+
+  -- and it has the form of one
+  pub is_report : ReportedAreReports → IsMadeOf s m → IsReport (joined_report told found)
+  is_report law made = law made.text (names_of s) (tree_of s) s.facts m t (joined_report told found) made.is_source made.is_made is_reported

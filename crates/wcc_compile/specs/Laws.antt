@@ -1,0 +1,26 @@
+-- What is reported of a source is what `compile` promises.
+use Rattle.std.specs.Prelude.{◌≡◌, ℕ, List, []}
+use Rattle.rv_core.specs.Table.{Table}
+use Rattle.elf_image.specs.Loading.{IsLoadable, image_of}
+use Rattle.elf_image.specs.Text.{text_of}
+use Rattle.report_laws.specs.Typed.{IsTyped}
+use Rattle.report_text.specs.Lines.{report_text}
+use Rattle.report_text.specs.Reports.{Report}
+use Rattle.source_report.specs.Compiled.{IsCompiled}
+use Rattle.c_facts.specs.declared.facts.Facts.{Facts}
+use Rattle.c_front.specs.Fronts.{IsSource}
+use Rattle.c_typed.specs.Tree.{Program}
+use Rattle.source_image.specs.declared.stages.Made.{Made}
+use Rattle.source_image.specs.Made.{IsMade}
+use Rattle.made_reports.specs.Reported.{IsReported}
+
+-- the text of an image loads as that image
+pub record LoadsAsItself (m : Made) : Type 0 where
+  pub loadable : IsLoadable (text_of m.laid.image)
+  pub same : image_of (text_of m.laid.image) ≡ m.laid.image
+
+-- where the source has no restrictions, and image and report have the ranges of their types
+abbrev pub ReportedAreCompiled : Type 0
+ReportedAreCompiled =
+    (source : List ℕ) (names : List (List ℕ)) (program : Program) (facts : Facts) (m : Made) (t : Table) (r : Report) → facts.restrictions ≡ [] → IsSource source names program facts → IsMade names program facts m → IsReported t names facts m r → LoadsAsItself m → IsTyped r
+    → IsCompiled t source (text_of m.laid.image) (report_text r) r

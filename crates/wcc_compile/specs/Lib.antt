@@ -1,0 +1,3 @@
+pub mod Sources
+pub mod Found
+pub mod Laws

@@ -1,0 +1,25 @@
+//! From the bytes of a source to its image and the report on it.
+//!
+//! [`compile`] is the list of its stages: the source, its image, the claims by the loops of the source, the flow system, its
+//! bound, the report.
+//!
+//! Proved: what [`compile`] answers is what `source_report` promises (`IsCompiled`): on every input on which the run of the
+//! source is defined and keeps its annotations the image prints and returns what the source does, within the cycles of the
+//! report; the report tells the facts of the source, and the checker accepts it with the image. `Form` is answered exactly
+//! where the source has a restriction, and `Front` with the cause for which it has no program with facts; memory alone is
+//! left open.
+//!
+//! The crate knows no files and no status, and no stage from within.
+#![tactic(auto)]
+
+mod built;
+mod compiling;
+mod finding;
+mod laws;
+mod reporting;
+mod telling;
+
+pub use built::Built;
+pub use compiling::{Options, compile};
+pub use laws::reported_are_compiled;
+pub use source_image::Refusal;
