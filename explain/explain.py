@@ -10,13 +10,15 @@ import sys
 from pathlib import Path
 
 TEXTS = Path(__file__).resolve().parent / "texts.txt"
-COMMANDS = ("compile", "run", "eval", "check", "report")
+COMMANDS = ("compile", "run", "eval", "check", "report", "make")
 # Lines of these kinds end with a byte place in the source, unless they speak of another file.
 PLACED = ("refused", "undefined", "broken")
 ELSEWHERE = ("image-", "report-", "table-")
 FROM_SOURCE = ("compile", "eval")
 # The options of commands, each with the greatest number that it takes, or None where it takes a file's name.
-OPTIONS = {"run": {"--limit": 1 << 62, "--table": None}, "check": {"--table": None}}
+OPTIONS = {"compile": {"--table": None}, "run": {"--limit": 1 << 62, "--table": None}, "check": {"--table": None}}
+# The greatest number that `make` takes as its first word, from 1 on.
+MOST_MADE = 100
 MOST_SOURCE = 1048576
 WIDEST = 100
 
@@ -201,6 +203,10 @@ def wrong_words(called, given):
     placed, named, wrong = parted(OPTIONS.get(command, {}), given)
     if wrong:
         return f"wcc: `{command}` {wrong}. It is called so:"
+    if names[0] == "N":
+        number, placed, names = "".join(placed[:1]), placed[1:], names[1:]
+        if not (re.fullmatch(r"\+?[0-9]+", number) and 1 <= int(number[-99:]) <= MOST_MADE):
+            return f"wcc: `{command}` begins with a number from 1 to {MOST_MADE}. It is called so:"
     if len(placed) != len(names):
         return f"wcc: `{command}` takes {number_of(len(names))} and was given {len(placed)}. It is called so:"
     twice = [it for it in placed + named if (placed + named).count(it) > 1]

@@ -1,11 +1,12 @@
 """Runs `eval` on a source: by the evaluator, or by a built wcc. Both answer the line, the exit status and the output.
 
-The output is None where no file was written.
+The output is None where no file was written. A built wcc also compiles a source, checks the report, and runs the image.
 """
 import os
 import resource
 import subprocess
 import tempfile
+from collections import namedtuple
 from pathlib import Path
 
 from evaluator import answer
@@ -14,6 +15,8 @@ SECONDS = 120
 # The deepest legal chain of calls must be evaluated within it.
 STACK = 8 * 1024 * 1024
 PLAIN = {**os.environ, "WCC_PLAIN": "1"}
+# What a call of wcc answers.
+Answer = namedtuple("Answer", "line status output")
 STATUSES = {"value": 0, "refused": 1, "limit": 3, "undefined": 8, "broken": 8}
 
 
@@ -26,21 +29,45 @@ def limit_stack():
     resource.setrlimit(resource.RLIMIT_STACK, (STACK, resource.getrlimit(resource.RLIMIT_STACK)[1]))
 
 
-def by_program(path):
-    """`PATH eval` on files in a fresh folder, with a stack of 8 MiB, without the words for people on standard error."""
+def built(path):
+    """The path of a program; ./wcc builds it first where that is needed, which takes its time."""
     path = str(Path(path).resolve())
-    # ./wcc builds the program where that is needed, which takes its time.
     subprocess.run([path], stdin=subprocess.DEVNULL, stdout=subprocess.DEVNULL, env=PLAIN)
+    return path
+
+
+def call(path, room, *words):
+    """One call in a folder, with a stack of 8 MiB, without the words for people on standard error."""
+    (room / "a.out").unlink(missing_ok=True)
+    ran = subprocess.run([path, *words], cwd=room, stdout=subprocess.PIPE, env=PLAIN, timeout=SECONDS, preexec_fn=limit_stack)
+    output = (room / "a.out").read_bytes() if (room / "a.out").is_file() else None
+    return Answer(ran.stdout.decode("latin-1").removesuffix("\n"), ran.returncode, output)
+
+
+def in_fresh_folder(source, data, calls):
+    with tempfile.TemporaryDirectory() as folder:
+        room = Path(folder)
+        (room / "a.c").write_bytes(source)
+        (room / "a.in").write_bytes(data)
+        return calls(room)
+
+
+def by_program(path):
+    """`PATH eval` on a source and an input."""
+    path = built(path)
 
     def run(source, data=b""):
-        with tempfile.TemporaryDirectory() as folder:
-            room = Path(folder)
-            (room / "a.c").write_bytes(source)
-            (room / "a.in").write_bytes(data)
-            ran = subprocess.run([path, "eval", "a.c", "a.in", "a.out"], cwd=room, stdout=subprocess.PIPE,
-                                 env=PLAIN, timeout=SECONDS, preexec_fn=limit_stack)
-            output = (room / "a.out").read_bytes() if (room / "a.out").is_file() else None
-        return ran.stdout.decode("latin-1").removesuffix("\n"), ran.returncode, output
+        return tuple(in_fresh_folder(source, data, lambda room: call(path, room, "eval", "a.c", "a.in", "a.out")))
+    return run
+
+
+def by_compiler(path):
+    """What `PATH compile` answers on a source, and behind it `check` and `run`, by the names of the commands."""
+    path = built(path)
+    calls = (("compile", "a.c", "a.elf", "a.txt"), ("check", "a.elf", "a.txt"), ("run", "a.elf", "a.in", "a.out"))
+
+    def run(source, data=b""):
+        return in_fresh_folder(source, data, lambda room: {words[0]: call(path, room, *words) for words in calls})
     return run
 
 

@@ -9,7 +9,8 @@ use Rattle.source_laws.proofs.Sources as laws
 use Rattle.command_words.specs.Requests.{EvalRequest}
 use Rattle.wcc_commands.specs.Words.{Eval}
 use Rattle.wcc_commands.specs.Outputs.{Outputs}
-use Rattle.wcc_commands.specs.Evaluating.{refusal_status, run_outputs, IsRun, MakesRun, RefusesProgram, Evaluates, IsRejected}
+use Rattle.wcc_commands.specs.Sources.{refusal_status, RefusesProgram}
+use Rattle.wcc_commands.specs.Evaluating.{run_outputs, IsRun, MakesRun, Evaluates, IsRejected}
 use Rattle.wcc_commands.specs.Promises.{CanOnly, CanEnd}
 
 one_run : (source input : List ℕ) (run other : SourceRun) → IsRun source input run → IsRun source input other → run ≡ other
@@ -27,7 +28,7 @@ one_made asked source input run made h m = m.made_is ∙ ap (run_outputs asked) 
 not_refused : (source input : List ℕ) (run : SourceRun) (s : Status) → length source ≤ 1048576 → IsRun source input run → RefusesProgram source s → ⊥
 not_refused source input run s short h r = laws.not_both source h.spelled h.program h.facts r.refusal short h.is_source r.refused
 
-one_status : (source : List ℕ) (s t : Status) → length source ≤ 1048576 → RefusesProgram source s → RefusesProgram source t → s ≡ t
+pub one_status : (source : List ℕ) (s t : Status) → length source ≤ 1048576 → RefusesProgram source s → RefusesProgram source t → s ≡ t
 one_status source s t short r q = r.status_is ∙ ap refusal_status (laws.one_refusal source r.refusal q.refusal short r.refused q.refused) ∙ sym q.status_is
 
 run_only : (asked : EvalRequest) (source input : List ℕ) (run : SourceRun) → Evaluates source input run → CanOnly (Eval asked) (source ∷ input ∷ []) (run_outputs asked run).status

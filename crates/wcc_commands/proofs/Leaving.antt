@@ -1,14 +1,12 @@
--- What a plain source and an exiting image leave open.
-use Rattle.std.proofs.Common.{◌≡◌, ℕ, List, [], ◌∷◌, Option, Some, None, ◌∙◌, ap, sym, subst, ⊎_elim, arith}
+-- What an exiting image leaves open.
+use Rattle.std.proofs.Common.{◌≡◌, ℕ, List, [], ◌∷◌, Option, Some, None, ap, subst, ⊎_elim}
 use Rattle.std.specs.Prelude.{IsSomeAnd}
-use Rattle.wcc_base.specs.Outside.{Files, StoreState, bytes_of}
-use Rattle.wcc_base.specs.declared.status.Status.{Status}
+use Rattle.wcc_base.specs.Outside.{Files, StoreState}
 use Rattle.wcc_base.specs.declared.status.Status.TheVariants as status
 use Rattle.elf_image.proofs.FaultLemmas.{is_image}
 use Rattle.rv_core.specs.Table.{Table}
-use Rattle.command_words.specs.Requests.{CompileRequest, RunRequest}
-use Rattle.wcc_commands.specs.Words.{Compile, Run}
-use Rattle.wcc_commands.specs.Plain.{IsPlainSource}
+use Rattle.command_words.specs.Requests.{RunRequest}
+use Rattle.wcc_commands.specs.Words.{Run}
 use Rattle.wcc_commands.specs.Outputs.{Outputs}
 use Rattle.wcc_commands.specs.Gathering.{Fit, contents_of}
 use Rattle.wcc_commands.proofs.Charges.{same_costs, no_table_fault}
@@ -18,16 +16,6 @@ use Rattle.wcc_commands.specs.Promises.{CanOnly, CanEnd}
 
 status_of : (made other : Outputs) → made ≡ other → made.status ≡ other.status
 status_of made other e = ap (λ (o : Outputs). o.status) e
-
-plain_only : (asked : CompileRequest) (source : List ℕ) → IsPlainSource source → CanOnly (Compile asked) (source ∷ []) status.Done
-plain_only asked source p = record {
-  refuses = λ t r. absurd (r.cause p.0 p.1 p.2);
-  makes = λ made m. status_of made _ m.made_is;
-}
-
-pub plain_ends : (asked : CompileRequest) (files : Option Files) (old : StoreState) → old.files ≡ files → IsSomeAnd files (λ fs. IsPlainSource (bytes_of fs asked.source)) → CanEnd (Some (Compile asked)) old status.Done
-plain_ends asked None old e p = absurd p
-plain_ends asked (Some fs) old e p = rw e ((omega (arith, p.2.short), tt), plain_only asked (bytes_of fs asked.source) p)
 
 exit_made : (asked : RunRequest) (image input : List ℕ) (c d : Table) (made : Outputs) → c ≡ d → CanExit (job_of asked c image input) → MakesOutput asked.output (job_of asked d image input) made → made.status ≡ status.Done
 exit_made asked image input c d made e can m =

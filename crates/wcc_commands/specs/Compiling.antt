@@ -1,46 +1,58 @@
--- What `compile` makes of a source: an image that does what the source does, and a report of the cycles that it takes.
-use Rattle.std.specs.Prelude.{◌≡◌, ℕ, ◌%◌, ℤ, pos, List, [], ◌∷◌, map}
+-- What `compile` makes of a source: an image that does what the source does, and a report whose cycles bound its runs.
+use Rattle.std.specs.Prelude.{◌≡◌, ◌≤◌, ◌^◌, ℕ, List, [], ◌∷◌}
 use Rattle.wcc_base.specs.declared.status.Status.{Status}
 use Rattle.wcc_base.specs.declared.status.Status.TheVariants as status
-use Rattle.rv_core.specs.Images.{Image}
-use Rattle.rv_core.specs.Runs.{setup}
-use Rattle.rv_core.specs.Exits.{Exits, finish}
-use Rattle.rv_core.specs.Table.{default_table}
-use Rattle.elf_image.specs.Text.{text_of}
+use Rattle.rv_core.specs.Table.{Table}
+use Rattle.c_facts.specs.declared.facts.Facts.{Facts}
+use Rattle.c_typed.specs.Tree.{Program}
+use Rattle.c_front.specs.Fronts.{IsSource}
+use Rattle.report_text.specs.Reports.{Report}
+use Rattle.source_image.specs.declared.refusal.Refusal.{Refusal}
+use Rattle.source_image.specs.declared.refusal.Refusal.TheVariants.{Front, Form, Memory}
+use Rattle.source_image.specs.Refusals.{IsRestricted}
+use Rattle.source_report.specs.Compiled.{IsCompiled}
 use Rattle.command_words.specs.Requests.{CompileRequest}
-use Rattle.wcc_commands.specs.Plain.{IsPlain, IsNotPlain}
+use Rattle.wcc_commands.specs.declared.compile.Texts.{Texts}
 use Rattle.wcc_commands.specs.Lines.{cycles_line}
 use Rattle.wcc_commands.specs.Outputs.{Outputs}
+use Rattle.wcc_commands.specs.Sources.{refusal_status, RefusesProgram}
 
--- for any input, the machine exits with this output and value after exactly so many cycles, with the default costs
-abbrev pub Runs : Image → List ℕ → ℤ → ℕ → Type 0
-Runs image output value cycles = (input : List ℕ) → Exits (setup image default_table input) (finish output value cycles)
+-- a source that has a restriction is of a form that isn't compiled yet; any other refusal is that of a source that has no program with facts
+abbrev pub RefusesCompile : List ℕ → Status → Type 0
+RefusesCompile source status.Form = IsRestricted source
+RefusesCompile source s = RefusesProgram source s
 
--- the text is that of an image that puts the numbers of the source's calls modulo 256, and returns its number, in so many cycles
-pub record Compiled (source text : List ℕ) (cycles : ℕ) : Type 0 where
-  pub calls : List ℕ
-  pub value : ℕ
-  pub image : Image
-  pub plain : IsPlain source calls value
-  pub text_is : text ≡ text_of image
-  pub runs : Runs image (map (λ n. n % 256) calls) (pos value) cycles
+abbrev pub compile_status : Refusal → Status
+compile_status (Front refusal) = refusal_status refusal
+compile_status Form = status.Form
+compile_status Memory = status.Memory
 
--- the source isn't plain
-pub record RefusesSource (source : List ℕ) (s : Status) : Type 0 where
-  pub cause : IsNotPlain source
-  pub status_is : s ≡ status.Form
+-- with these costs, the image and the report keep what is promised of the source, and the line says the bound and its kind
+pub record Compiles (costs : Table) (source : List ℕ) (t : Texts) : Type 0 where
+  pub report : Report
+  pub compiled : IsCompiled costs source t.image t.report report
+  pub unrestricted : ¬ IsRestricted source
+  -- no run that keeps within the bound ends at a limit of cycles
+  pub small : report.cert.cycles ≤ 2 ^ 62
+  pub line_is : t.line ≡ cycles_line report.cert.cycles report.kind
 
--- the image, then the report, which holds the printed line
-abbrev pub compiled_outputs : CompileRequest → List ℕ → ℕ → Outputs
-compiled_outputs asked text cycles = record {
+-- the image, then the report
+abbrev pub compiled_outputs : CompileRequest → Texts → Outputs
+compiled_outputs asked t = record {
   status = status.Done;
-  files = (asked.image, text) ∷ (asked.report, cycles_line cycles) ∷ [];
-  lines = cycles_line cycles;
+  files = (asked.image, t.image) ∷ (asked.report, t.report) ∷ [];
+  lines = t.line;
 }
 
--- the image does what the source does, in the cycles of the line
-pub record MakesImage (asked : CompileRequest) (source : List ℕ) (made : Outputs) : Type 0 where
-  pub text : List ℕ
-  pub cycles : ℕ
-  pub compiled : Compiled source text cycles
-  pub made_is : made ≡ compiled_outputs asked text cycles
+pub record MakesImage (asked : CompileRequest) (costs : Table) (source : List ℕ) (made : Outputs) : Type 0 where
+  pub texts : Texts
+  pub compiles : Compiles costs source texts
+  pub made_is : made ≡ compiled_outputs asked texts
+
+-- the source has a program with facts, and no restriction among them
+pub record IsUnrestricted (source : List ℕ) : Type 0 where
+  pub names : List (List ℕ)
+  pub program : Program
+  pub facts : Facts
+  pub is_source : IsSource source names program facts
+  pub unrestricted : facts.restrictions ≡ []

@@ -2,9 +2,10 @@ pub mod Words
 pub mod Lines
 pub mod StatusLines
 pub mod Outputs
-pub mod Plain
+pub mod Sources
 pub mod Compiling
 pub mod Running
+pub mod Numbered
 pub mod Evaluating
 pub mod Reporting
 pub mod Checking
@@ -15,7 +16,4 @@ pub mod Finishing
 pub mod Ends
 pub mod Promises
 pub mod Asked
-pub mod Straight
-pub mod Reader
 pub mod Files
-pub mod Artifacts

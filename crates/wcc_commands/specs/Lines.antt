@@ -2,6 +2,8 @@
 use Rattle.std.specs.Prelude.{ℕ, ℤ, ◌/◌, ◌%◌, List, [], ◌∷◌, Bool, true, false, ◌++◌, codes}
 use Rattle.std.specs.Fmt.{decimal, signed_decimal}
 use Rattle.std.specs.Char.{digit_char}
+use Rattle.path_enum.specs.declared.bounded.Kind.{Kind}
+use Rattle.report_check.specs.Summaries.{kind_word}
 use Rattle.rv_sim.specs.declared.ending.Ending.{Ending}
 use Rattle.rv_sim.specs.declared.ending.Ending.TheVariants.{Exit, Trap, CycleLimit, OutputFull}
 use Rattle.wcc_commands.specs.declared.lines.Part.{Part}
@@ -30,8 +32,8 @@ row [] = []
 row (t ∷ ts) = t ++ row ts
 
 -- the line of a bound
-abbrev pub cycles_line : ℕ → List ℕ
-cycles_line n = row (codes "cycles " ∷ decimal n ∷ codes "\n" ∷ [])
+abbrev pub cycles_line : ℕ → Kind → List ℕ
+cycles_line n kind = row (codes "cycles " ∷ decimal n ∷ codes " " ∷ kind_word kind ∷ codes "\n" ∷ [])
 
 -- the word behind a bound that a flow reaches
 abbrev pub greatest_text : Bool → List ℕ
@@ -45,6 +47,14 @@ yes_line cycles greatest = row (codes "yes " ∷ decimal cycles ∷ greatest_tex
 -- the line of an exit
 abbrev pub exit_line : ℤ → ℕ → List ℕ
 exit_line value cycles = row (codes "exit " ∷ signed_decimal value ∷ codes " cycles " ∷ decimal cycles ∷ codes "\n" ∷ [])
+
+-- the line of a source that was made, of so many bytes
+abbrev pub made_line : ℕ → List ℕ
+made_line bytes = row (codes "made " ∷ decimal bytes ∷ codes " bytes\n" ∷ [])
+
+-- the line of the run of its image, which exited with this value and put so many bytes
+abbrev pub ran_line : ℕ → ℤ → ℕ → List ℕ
+ran_line cycles value bytes = row (codes "ran " ∷ decimal cycles ∷ codes " exit " ∷ signed_decimal value ∷ codes " bytes " ∷ decimal bytes ∷ codes "\n" ∷ [])
 
 -- the line of a source's run that is done: the value of main, and how many bytes were put
 abbrev pub value_line : ℤ → ℕ → List ℕ

@@ -1,5 +1,5 @@
 -- The costs of a command: those of the table that it names, or the default ones.
-use Rattle.std.specs.Prelude.{◌≡◌, ◌⊎◌, ℕ, List, [], ◌∷◌, Option, Some, None}
+use Rattle.std.specs.Prelude.{◌≡◌, ◌⊎◌, ℕ, List, [], ◌∷◌, ◌++◌, drop, Option, Some, None}
 use Rattle.wcc_base.specs.declared.limits.Bound.TheVariants as bound
 use Rattle.wcc_base.specs.declared.status.Status.{Status}
 use Rattle.wcc_base.specs.declared.status.Status.TheVariants as status
@@ -40,16 +40,12 @@ RefusesTables (table ∷ rest) s = RefusesTable table s
 abbrev pub RefusesWith : List (List ℕ) → (Table → Type 0) → Status → Type 0
 RefusesWith tables Refusal s = RefusesTables tables s ⊎ ((costs : Table) × AreCosts tables costs × Refusal costs)
 
--- the contents are those of two files, behind which a table stands where one is named, and these are the costs
-pub record Charged (contents : List (List ℕ)) (first second : List ℕ) (costs : Table) : Type 0 where
+-- the contents are those of the files, behind which a table stands where one is named, and these are the costs
+pub record Charged (contents files : List (List ℕ)) (costs : Table) : Type 0 where
   pub tables : List (List ℕ)
-  pub contents_are : contents ≡ first ∷ second ∷ tables
+  pub contents_are : contents ≡ files ++ tables
   pub are_costs : AreCosts tables costs
 
--- behind two files a table stands that is refused
-pub record IsUncharged (contents : List (List ℕ)) (s : Status) : Type 0 where
-  pub first : List ℕ
-  pub second : List ℕ
-  pub tables : List (List ℕ)
-  pub contents_are : contents ≡ first ∷ second ∷ tables
-  pub refused : RefusesTables tables s
+-- behind so many files a table stands that is refused
+abbrev pub IsUncharged : (count : ℕ) → List (List ℕ) → Status → Type 0
+IsUncharged count contents s = RefusesTables (drop count contents) s

@@ -15,7 +15,7 @@ use crate::make::Made;
 use crate::printing::text_of;
 use crate::report::fault_of;
 use crate::run::fault_of_image;
-use crate::tables::charged;
+use crate::tables::charged_two;
 use command_words::CheckRequest;
 use dual_check::Row;
 use report_check::{Cause, Checked, check_report};
@@ -121,7 +121,7 @@ pub fn make_yes<'a>(
     ensures { MatchResult result (λ m. IsEnd m.status × Makes (Check (check_request asked.entry)) contents.items (outputs_of m))
         (λ s. (s ≡ status.Memory) ⊎ (IsRefusal s × Refuses (Check (check_request asked.entry)) contents.items s)) }
 {
-    match charged(alloc, asked.table, contents) {
+    match charged_two(alloc, asked.table, contents) {
         Ok((image, report, costs)) => yes_with(alloc, image, report, costs),
         Err(status) => Err(status),
     }

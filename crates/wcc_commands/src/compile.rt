@@ -1,61 +1,138 @@
-// The command `compile SOURCE IMAGE REPORT`.
-ghost use Rattle.std.specs.Prelude.{◌≡◌, ◌⊎◌, IfOk, MatchResult};
+// The command `compile SOURCE IMAGE REPORT [--table FILE]`.
+ghost use Rattle.std.specs.Prelude.{◌≡◌, ◌⊎◌, length, IfOk, MatchResult};
 ghost use Rattle.wcc_base.specs.declared.status.Status.TheVariants as status;
+ghost use Rattle.rv_core.specs.Table.{table_of};
+ghost use Rattle.elf_image.specs.Text.{text_of as image_text};
+ghost use Rattle.report_text.specs.Lines.{report_text};
 ghost use Rattle.command_words.specs.Held.{compile_request};
+ghost use Rattle.wcc_commands.specs.Words.{Compile};
+ghost use Rattle.wcc_commands.specs.Commands.{wanted_of, Refuses, Makes};
 ghost use Rattle.wcc_commands.specs.Ends.{IsEnd, IsRefusal};
-ghost use Rattle.wcc_commands.specs.Compiling.{RefusesSource, MakesImage, compiled_outputs};
+ghost use Rattle.wcc_commands.specs.Lines.{cycles_line};
+ghost use Rattle.wcc_commands.specs.Compiling.{RefusesCompile, compile_status, Compiles, compiled_outputs, MakesImage};
 ghost use Rattle.wcc_commands.specs.Outputs.{outputs_of};
 
-use crate::artifact::{Artifact, compile};
 use crate::lines::cycles_line;
 use crate::make::{Made, Output};
 use crate::printing::text_of;
+use crate::sources::refusal_status;
+use crate::tables::charged_one;
 use command_words::CompileRequest;
+use rv_core::Costs;
 use std::alloc::Global;
 use wcc_base::{Items, Memory, Status};
+use wcc_compile::{Built, Options, Refusal};
+
+/// An image and a report, as the bytes of files, and the line of the bound.
+#[derive(Drop)]
+pub struct Texts {
+    pub image: Items<u8>,
+    pub report: Items<u8>,
+    pub line: Items<u8>,
+}
+
+// What is built, as bytes.
+fn texts_of(alloc: Global, built: &Built) -> Result<Texts, Memory>
+    ensures image { IfOk result (λ t. t.image ≡ image_text built.now.image) }
+    ensures report { IfOk result (λ t. t.report ≡ report_text built.now.report) }
+    ensures line { IfOk result (λ t. t.line ≡ cycles_line built.now.report.cert.cycles built.now.report.kind) }
+{
+    let line = cycles_line(built.report.cert.cycles, built.report.kind);
+    let line = text_of(alloc, &line)?;
+    let image = elf_image::write(alloc, &built.image)?;
+    let report = report_text::write(alloc, &built.report)?;
+    Ok(Texts {
+        image: Items::new(image),
+        report: Items::new(report),
+        line: Items::new(line),
+    })
+}
+
+// The status of a source that isn't compiled.
+fn status_of(refusal: Refusal) -> Status
+    ensures { result ≡ compile_status refusal }
+{
+    match refusal {
+        Refusal::Front(refusal) => refusal_status(refusal),
+        Refusal::Form => Status::Form,
+        Refusal::Memory => Status::Memory,
+    }
+}
+
+/// Compiles the source with these costs.
+pub fn compiled(alloc: Global, source: &[u8], costs: Costs) -> Result<Texts, Status>
+    ensures { MatchResult result (Compiles (table_of costs) source.now)
+        (λ s. (s ≡ status.Memory) ⊎ (IsRefusal s × RefusesCompile source.now s)) }
+{
+    match wcc_compile::compile(alloc, source, &Options { costs }) {
+        Ok(built) => {
+            let texts = texts_of(alloc, &built);
+            drop(built);
+            match texts {
+                Ok(texts) => Ok(texts),
+                Err(_) => Err(Status::Memory),
+            }
+        }
+        Err(refusal) => Err(status_of(refusal)),
+    }
+}
 
 // The image and the report, in this order.
-fn outputs<'a>(
-    alloc: Global,
-    asked: CompileRequest<'a>,
-    artifact: Artifact,
-) -> Result<Made<'a>, Memory>
-    ensures { IfOk result (λ m. outputs_of m ≡ compiled_outputs (compile_request asked.entry) artifact.image.items artifact.cycles) }
+fn outputs<'a>(alloc: Global, asked: CompileRequest<'a>, texts: Texts) -> Result<Made<'a>, Memory>
+    ensures { IfOk result (λ m. outputs_of m ≡ compiled_outputs (compile_request asked.entry) texts) }
 {
-    let line = cycles_line(artifact.cycles);
-    let report = text_of(alloc, &line)?;
-    let lines = text_of(alloc, &line)?;
+    let Texts {
+        image,
+        report,
+        line,
+    } = texts;
     let mut files = Vec::new(alloc);
     files.push(Output {
         name: asked.image,
-        bytes: Items::new(artifact.image),
+        bytes: image,
     })?;
     files.push(Output {
         name: asked.report,
-        bytes: Items::new(report),
+        bytes: report,
     })?;
     Ok(Made {
         status: Status::Done,
         files,
-        lines: Items::new(lines),
+        lines: line,
     })
 }
 
-/// Compiles the source into the image and the report.
-pub fn make_compiled<'a>(
+// Compiles the source into the image and the report with these costs.
+fn compile_with<'a>(
     alloc: Global,
     asked: CompileRequest<'a>,
     source: Items<u8>,
+    costs: Costs,
 ) -> Result<Made<'a>, Status>
-    ensures { MatchResult result (λ m. IsEnd m.status × MakesImage (compile_request asked.entry) source (outputs_of m))
-        (λ s. (s ≡ status.Memory) ⊎ (IsRefusal s × RefusesSource source s)) }
+    ensures { MatchResult result (λ m. IsEnd m.status × MakesImage (compile_request asked.entry) (table_of costs) source (outputs_of m))
+        (λ s. (s ≡ status.Memory) ⊎ (IsRefusal s × RefusesCompile source s)) }
 {
-    match compile(alloc, source.as_slice()) {
-        Ok(Some(artifact)) => match outputs(alloc, asked, artifact) {
+    match compiled(alloc, source.as_slice(), costs) {
+        Ok(texts) => match outputs(alloc, asked, texts) {
             Ok(made) => Ok(made),
             Err(_) => Err(Status::Memory),
         },
-        Ok(None) => Err(Status::Form),
-        Err(_) => Err(Status::Memory),
+        Err(status) => Err(status),
+    }
+}
+
+/// Compiles the source into the image and the report, with the costs of the table where one is named.
+pub fn make_compiled<'a>(
+    alloc: Global,
+    asked: CompileRequest<'a>,
+    contents: Vec<Items<u8>>,
+) -> Result<Made<'a>, Status>
+    requires { length contents.items ≡ length (wanted_of (Compile (compile_request asked))) }
+    ensures { MatchResult result (λ m. IsEnd m.status × Makes (Compile (compile_request asked.entry)) contents.items (outputs_of m))
+        (λ s. (s ≡ status.Memory) ⊎ (IsRefusal s × Refuses (Compile (compile_request asked.entry)) contents.items s)) }
+{
+    match charged_one(alloc, asked.table, contents) {
+        Ok((source, costs)) => compile_with(alloc, asked, source, costs),
+        Err(status) => Err(status),
     }
 }

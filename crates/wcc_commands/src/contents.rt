@@ -3,6 +3,14 @@ ghost use Rattle.std.specs.Prelude.{◌≡◌, [], ◌∷◌, length};
 
 use wcc_base::Items;
 
+/// There is no file.
+pub fn none(contents: Vec<Items<u8>>)
+    requires { length contents.items ≡ 0 }
+    ensures { contents.items ≡ [] }
+{
+    drop(contents);
+}
+
 /// The one file's contents.
 pub fn one(contents: Vec<Items<u8>>) -> Items<u8>
     requires { length contents.items ≡ 1 }

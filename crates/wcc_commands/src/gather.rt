@@ -70,8 +70,27 @@ fn read_each<S: Store>(
     Ok(contents)
 }
 
-// Reads two files, and behind them the table of costs where one is named.
+// Reads a file, and behind it the table of costs where one is named.
 fn read_charged<S: Store>(
+    alloc: Global,
+    store: &mut S,
+    file: Wanted,
+    table: Option<&str>,
+) -> Result<Vec<Items<u8>>, Status>
+    ensures files { MatchResult result
+        (λ contents. Gathered (wanted file.entry ∷ wanted_table (table_name table.entry)) (S.state store.old).files contents.items)
+        (λ s. NotGathered (wanted file.entry ∷ wanted_table (table_name table.entry)) (S.state store.old) (S.state store.new) s) }
+    ensures count { IfOk result (λ contents. length contents.items ≡ 1 + length (wanted_table (table_name table.entry))) }
+    ensures reads { OnlyRead (S.state store.old) (S.state store.new) }
+{
+    match table {
+        Some(table) => read_each(alloc, store, &[file, want(table, Bound::Table)]),
+        None => read_each(alloc, store, &[file]),
+    }
+}
+
+// The same of two files.
+fn read_two_charged<S: Store>(
     alloc: Global,
     store: &mut S,
     files: (Wanted, Wanted),
@@ -103,8 +122,11 @@ pub fn gather<S: Store>(
     ensures reads { OnlyRead (S.state store.old) (S.state store.new) }
 {
     match command {
-        Command::Compile(asked) => read_each(alloc, store, &[want(asked.source, Bound::Source)]),
-        Command::Check(asked) => read_charged(
+        Command::Compile(asked) => {
+            let source = want(asked.source, Bound::Source);
+            read_charged(alloc, store, source, asked.table)
+        }
+        Command::Check(asked) => read_two_charged(
             alloc,
             store,
             (
@@ -113,7 +135,7 @@ pub fn gather<S: Store>(
             ),
             asked.table,
         ),
-        Command::Run(asked) => read_charged(
+        Command::Run(asked) => read_two_charged(
             alloc,
             store,
             (
@@ -131,5 +153,6 @@ pub fn gather<S: Store>(
             ],
         ),
         Command::Report(asked) => read_each(alloc, store, &[want(asked.report, Bound::Report)]),
+        Command::Make(_) => read_each(alloc, store, &[]),
     }
 }

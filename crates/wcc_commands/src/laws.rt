@@ -1,22 +1,33 @@
 // Where the relations of a command leave one status only.
-ghost use Rattle.std.specs.Prelude.{◌≡◌, ℕ, List, IsSomeAnd, Some};
+ghost use Rattle.std.specs.Prelude.{◌≡◌, ◌≤◌, ℕ, List, [], IsSome, IsSomeAnd, Some};
 ghost use Rattle.wcc_base.specs.Outside.{StoreState, bytes_of};
 ghost use Rattle.wcc_base.specs.declared.status.Status.TheVariants as status;
+ghost use Rattle.rv_core.specs.Table.{Table};
+ghost use Rattle.numbered_source.specs.Text.{numbered_text};
+ghost use Rattle.report_check.specs.Checks.{IsAccepted};
+ghost use Rattle.source_image.specs.Refusals.{IsRestricted};
 ghost use Rattle.c_semantics.specs.declared.source_run.SourceRun.{SourceRun};
 ghost use Rattle.wcc_base.specs.declared.status.Status.{Status};
-ghost use Rattle.command_words.specs.Requests.{CompileRequest, CheckRequest, RunRequest, EvalRequest, ReportRequest};
-ghost use Rattle.wcc_commands.specs.Words.{Compile, Check, Run, Eval, Report};
+ghost use Rattle.command_words.specs.Requests.{CompileRequest, CheckRequest, RunRequest, EvalRequest, ReportRequest, MakeRequest};
+ghost use Rattle.wcc_commands.specs.Words.{Compile, Check, Run, Eval, Report, Make};
 ghost use Rattle.wcc_commands.specs.Evaluating.{run_outputs, IsRun, MakesRun, Evaluates, IsRejected};
 ghost use Rattle.wcc_commands.specs.Outputs.{Outputs};
-ghost use Rattle.wcc_commands.specs.Plain.{IsPlainSource};
+ghost use Rattle.wcc_commands.specs.Sources.{RefusesProgram};
+ghost use Rattle.wcc_commands.specs.declared.compile.Texts.{Texts};
+ghost use Rattle.wcc_commands.specs.Compiling.{Compiles, IsUnrestricted};
+ghost use Rattle.wcc_commands.specs.Numbered.{IsKept};
 ghost use Rattle.wcc_commands.specs.Gathering.{Fit, contents_of};
-ghost use Rattle.wcc_commands.specs.Commands.{wanted_of, CanAccept, CanExitRun};
+ghost use Rattle.wcc_commands.specs.Commands.{wanted_of, IsOfSource, CanAccept, CanExitRun};
 ghost use Rattle.wcc_commands.specs.Reporting.{CanSummarize};
 ghost use Rattle.wcc_commands.specs.Promises.{CanEnd};
 
-/// A plain source can only be compiled.
-pub fn plain_source_is_done()
-    ensures { (asked : CompileRequest) (old : StoreState) → IsSomeAnd old.files (λ fs. IsPlainSource (bytes_of fs asked.source)) → CanEnd (Some (Compile asked)) old status.Done }
+/// A source has a program without restrictions, one with a restriction, or none, and `compile` can
+/// only end as it does, with the costs of a table that isn't refused. What it writes holds.
+pub fn compilation_is_done()
+    ensures unrestricted { (asked : CompileRequest) (old : StoreState) → IsSomeAnd old.files (λ fs. Fit (wanted_of (Compile asked)) fs × IsOfSource IsUnrestricted (contents_of (wanted_of (Compile asked)) fs)) → CanEnd (Some (Compile asked)) old status.Done }
+    ensures restricted { (asked : CompileRequest) (old : StoreState) → IsSomeAnd old.files (λ fs. Fit (wanted_of (Compile asked)) fs × IsOfSource IsRestricted (contents_of (wanted_of (Compile asked)) fs)) → CanEnd (Some (Compile asked)) old status.Form }
+    ensures refused { (asked : CompileRequest) (old : StoreState) (s : Status) → IsSomeAnd old.files (λ fs. Fit (wanted_of (Compile asked)) fs × IsOfSource (λ source. RefusesProgram source s) (contents_of (wanted_of (Compile asked)) fs)) → CanEnd (Some (Compile asked)) old s }
+    ensures holds { (costs : Table) (source : List ℕ) (t : Texts) → Compiles costs source t → IsAccepted costs t.image t.report }
 {}
 
 /// A report that holds of an image, with the costs of a table that isn't refused, can only be found to hold.
@@ -40,4 +51,9 @@ pub fn evaluation_is_done()
 /// The text of a report can only be summarized.
 pub fn summary_is_done()
     ensures { (asked : ReportRequest) (old : StoreState) → IsSomeAnd old.files (λ fs. CanSummarize (bytes_of fs asked.report)) → CanEnd (Some (Report asked)) old status.Done }
+{}
+
+/// A number whose source is kept on the empty input can only be made.
+pub fn numbered_is_done()
+    ensures { (asked : MakeRequest) (old : StoreState) → IsSome old.files → asked.number ≤ 100 → IsKept (numbered_text asked.number) [] → CanEnd (Some (Make asked)) old status.Done }
 {}

@@ -9,7 +9,6 @@
 //! contents (`specs/Commands`); that some leave one status only are laws.
 #![tactic(auto)]
 
-mod artifact;
 mod check;
 mod compile;
 mod contents;
@@ -20,18 +19,19 @@ mod gather;
 mod laws;
 mod lines;
 mod make;
+mod numbered;
 mod performing;
-mod plain;
 mod printing;
 mod report;
 mod run;
+mod sources;
 mod status_lines;
-mod straight;
 mod tables;
 mod words;
 
 pub use laws::{
-    accepted_is_done, evaluation_is_done, exit_is_done, plain_source_is_done, summary_is_done,
+    accepted_is_done, compilation_is_done, evaluation_is_done, exit_is_done, numbered_is_done,
+    summary_is_done,
 };
 pub use performing::perform;
 pub use status_lines::report_status;

@@ -2,8 +2,10 @@
 ghost use Rattle.std.specs.Prelude.{◌≡◌, ◌<◌, [], ◌∷◌, codes, IfOk};
 ghost use Rattle.std.specs.Fmt.{decimal};
 ghost use Rattle.std.specs.Char.{digit_char};
-ghost use Rattle.wcc_commands.specs.Lines.{address_text, all_shown, row, cycles_line, greatest_text, yes_line, exit_line, value_line, undefined_line, broken_line, run_line};
+ghost use Rattle.report_check.specs.Summaries.{kind_word};
+ghost use Rattle.wcc_commands.specs.Lines.{address_text, all_shown, row, cycles_line, greatest_text, yes_line, exit_line, made_line, ran_line, value_line, undefined_line, broken_line, run_line};
 
+use path_enum::Kind;
 use rv_sim::Ending;
 use std::alloc::Global;
 use wcc_base::Memory;
@@ -46,13 +48,27 @@ pub fn address(at: u32) -> [u8; 8]
     ]
 }
 
+// The word of a kind.
+fn kind_word(kind: Kind) -> &'static str
+    ensures { result.now ≡ kind_word kind }
+{
+    match kind {
+        Kind::Greatest => "greatest",
+        Kind::Empty => "empty",
+        Kind::Wide { .. } => "wide",
+        Kind::Spent { .. } => "spent",
+    }
+}
+
 /// The line of a bound.
-pub fn cycles_line<'a>(cycles: u32) -> [Part<'a>; 3]
-    ensures { all_shown result ≡ cycles_line cycles }
+pub fn cycles_line<'a>(cycles: u64, kind: Kind) -> [Part<'a>; 5]
+    ensures { all_shown result ≡ cycles_line cycles kind }
 {
     [
         Part::Word("cycles "),
-        Part::Number(u64::from(cycles)),
+        Part::Number(cycles),
+        Part::Word(" "),
+        Part::Word(kind_word(kind)),
         Part::Word("\n"),
     ]
 }
@@ -72,6 +88,32 @@ pub fn yes_line<'a>(cycles: u64, greatest: bool) -> [Part<'a>; 4]
         Part::Word("yes "),
         Part::Number(cycles),
         Part::Word(greatest_word(greatest)),
+        Part::Word("\n"),
+    ]
+}
+
+/// The line of a source that was made.
+pub fn made_line<'a>(bytes: u64) -> [Part<'a>; 3]
+    ensures { all_shown result ≡ made_line bytes }
+{
+    [
+        Part::Word("made "),
+        Part::Number(bytes),
+        Part::Word(" bytes\n"),
+    ]
+}
+
+/// The line of the run of its image.
+pub fn ran_line<'a>(cycles: u64, value: i32, bytes: u64) -> [Part<'a>; 7]
+    ensures { all_shown result ≡ ran_line cycles value bytes }
+{
+    [
+        Part::Word("ran "),
+        Part::Number(cycles),
+        Part::Word(" exit "),
+        Part::Signed(value),
+        Part::Word(" bytes "),
+        Part::Number(bytes),
         Part::Word("\n"),
     ]
 }

@@ -8,8 +8,9 @@ ghost use Rattle.wcc_commands.specs.Outputs.{outputs_of};
 
 use crate::check::make_yes;
 use crate::compile::make_compiled;
-use crate::contents::{one, two};
+use crate::contents::{none, one, two};
 use crate::evaluate::make_evaluated;
+use crate::numbered::make_numbered;
 use crate::report::make_summary;
 use crate::run::make_run;
 use crate::words::Command;
@@ -47,10 +48,14 @@ pub fn make<'a>(
         (λ s. (s ≡ status.Memory) ⊎ (IsRefusal s × Refuses (command_of command.entry) contents.items s)) }
 {
     match command {
-        Command::Compile(asked) => make_compiled(alloc, asked, one(contents)),
+        Command::Compile(asked) => make_compiled(alloc, asked, contents),
         Command::Check(asked) => make_yes(alloc, asked, contents),
         Command::Run(asked) => make_run(alloc, asked, contents),
         Command::Eval(asked) => make_evaluated(alloc, asked, two(contents)),
         Command::Report(_) => make_summary(alloc, one(contents)),
+        Command::Make(asked) => {
+            none(contents);
+            make_numbered(alloc, asked)
+        }
     }
 }

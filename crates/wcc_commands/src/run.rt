@@ -13,7 +13,7 @@ ghost use Rattle.wcc_commands.specs.Outputs.{outputs_of};
 use crate::lines::run_line;
 use crate::make::{Made, Output};
 use crate::printing::text_of;
-use crate::tables::charged;
+use crate::tables::charged_two;
 use command_words::RunRequest;
 use elf_image::{ElfFault, read};
 use rv_core::Costs;
@@ -33,8 +33,8 @@ pub struct Ran {
     pub ending: Ending,
 }
 
-// Runs the image that the bytes load to.
-fn simulate(
+/// Runs the image that the bytes load to.
+pub fn simulate(
     alloc: Global,
     image: &[u8],
     input: Vec<u8>,
@@ -57,8 +57,8 @@ fn simulate(
     }
 }
 
-// The status of a run.
-fn run_status(ending: Ending, pc: u32, cycles: u64) -> Status
+/// The status of a run.
+pub fn run_status(ending: Ending, pc: u32, cycles: u64) -> Status
     ensures { result ≡ run_status ending pc cycles }
 {
     match ending {
@@ -161,7 +161,7 @@ pub fn make_run<'a>(
     ensures { MatchResult result (λ m. IsEnd m.status × Makes (Run (run_request asked.entry)) contents.items (outputs_of m))
         (λ s. (s ≡ status.Memory) ⊎ (IsRefusal s × Refuses (Run (run_request asked.entry)) contents.items s)) }
 {
-    match charged(alloc, asked.table, contents) {
+    match charged_two(alloc, asked.table, contents) {
         Ok((image, input, costs)) => run_with(alloc, asked, image, input, costs),
         Err(status) => Err(status),
     }

@@ -5,7 +5,8 @@ ghost use Rattle.wcc_commands.specs.Words.{has_options, built, asked_by};
 ghost use Rattle.wcc_commands.specs.Asked.{command_of};
 
 use command_words::{
-    CheckRequest, CompileRequest, EvalRequest, ReportRequest, Request, RunRequest, read_words,
+    CheckRequest, CompileRequest, EvalRequest, MakeRequest, ReportRequest, Request, RunRequest,
+    read_words,
 };
 use std::alloc::Global;
 use wcc_base::Memory;
@@ -18,13 +19,14 @@ pub enum Command<'a> {
     Run(RunRequest<'a>),
     Eval(EvalRequest<'a>),
     Report(ReportRequest<'a>),
+    Make(MakeRequest<'a>),
 }
 
-// Whether an option of `compile` is given.
+// Whether an option of `compile` is given that isn't built.
 fn has_options(r: &CompileRequest) -> bool
     ensures { result ≡ has_options (compile_request r.now) }
 {
-    r.spm.is_some() || r.unroll.is_some() || r.inline.is_some() || r.table.is_some() || r.derive
+    r.spm.is_some() || r.unroll.is_some() || r.inline.is_some() || r.derive
 }
 
 // The command of a request, where it and its options are built.
@@ -47,7 +49,8 @@ fn built<'a>(request: Request<'a>) -> Option<Command<'a>>
             Some(Command::Eval(r))
         }
         Request::Report(r) => Some(Command::Report(r)),
-        Request::Make(_) | Request::Respond(_) => None,
+        Request::Make(r) => Some(Command::Make(r)),
+        Request::Respond(_) => None,
     }
 }
 

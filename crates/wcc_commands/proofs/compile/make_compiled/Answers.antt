@@ -1,8 +1,10 @@
-use Rattle.std.proofs.Common.{inr}
-use Rattle.wcc_commands.proofs.CompileRuns.{refuses_source}
+use Rattle.rv_core.specs.Table.{table_of}
+use Rattle.command_words.specs.Held.{compile_request}
+use Rattle.wcc_commands.proofs.Charges.{compile_charged, compile_uncharged}
 use Rattle.wcc_commands.proofs.compile.make_compiled.Goals as goal
 
-pub returns-in-Ok-None : goal.returns-in-Ok-None
-returns-in-Ok-None c =
-    let n = rw (c.in-Ok-None.field-0-is, c.as_slice.ensures) at c.in-Ok-None.ensures in
-    inr (tt, refuses_source c.args.source n)
+pub returns-in-Ok : goal.returns-in-Ok
+returns-in-Ok c = compile_charged (compile_request c.args.asked) c.args.contents.items c.in-Ok.source (table_of c.in-Ok.costs) c.compile_with.result c.in-Ok.ensures c.compile_with.ensures
+
+pub returns-in-Err : goal.returns-in-Err
+returns-in-Err c = compile_uncharged (compile_request c.args.asked) c.args.contents.items c.in-Err.status c.in-Err.ensures

@@ -1,1 +1,0 @@
-int main(void) { putchar(2147483648); return 7; }

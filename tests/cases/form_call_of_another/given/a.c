@@ -1,1 +1,0 @@
-int main(void) { getchar(72); return 7; }

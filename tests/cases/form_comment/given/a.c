@@ -1,2 +1,0 @@
-/* one call */
-int main(void) { putchar(72); return 7; }

@@ -1,1 +1,0 @@
-intmain(void) { return 7; }

@@ -1,1 +1,0 @@
-int main(void) { putchar(72) return 7; }
