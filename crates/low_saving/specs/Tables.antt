@@ -1,5 +1,5 @@
 -- Tables of registers, changed step by step.
-use Rattle.std.specs.Prelude.{ℕ, suc, Bool, true, if◌then◌else◌, List, [], ◌∷◌, slice_set}
+use Rattle.std.specs.Prelude.{ℕ, Bool, true, if◌then◌else◌, List, [], ◌∷◌, slice_set}
 use Rattle.low_ir.specs.declared.places.Place.{Place}
 use Rattle.low_ir.specs.declared.places.Place.TheVariants.{Register as InRegister, Slot}
 use Rattle.low_ir.specs.Effects.{is_member}
@@ -27,8 +27,3 @@ keeps_place kept (Slot k) = true
 abbrev pub kept_marked : Table → List ℕ → List Place → Table
 kept_marked t kept [] = t
 kept_marked t kept (p ∷ ps) = kept_marked (if keeps_place kept p then place_marked t p else t) kept ps
-
--- the registers of a table from number q on
-abbrev pub members : ℕ → List Bool → List ℕ
-members q [] = []
-members q (b ∷ bs) = if b then q ∷ members (suc q) bs else members (suc q) bs

@@ -1,11 +1,9 @@
 // Sets of registers, as tables.
-ghost use Rattle.std.specs.Prelude.{◌≡◌, ◌≤◌, length, IfOk};
-ghost use Rattle.low_saving.specs.Tables.{place_marked, places_marked, keeps_place, kept_marked, members};
+ghost use Rattle.std.specs.Prelude.{◌≡◌};
+ghost use Rattle.low_saving.specs.Tables.{place_marked, places_marked, keeps_place, kept_marked};
 
 use super::sites::Site;
 use low_ir::Place;
-use std::alloc::Global;
-use wcc_base::Memory;
 
 /// By register, whether it is in a set.
 pub type Table = [bool; 24];
@@ -51,18 +49,4 @@ pub fn mark_kept(table: &mut [bool], site: &Site, places: &[Place])
             mark(table, *place);
         }
     }
-}
-
-/// The registers of a table.
-pub fn members(alloc: Global, table: &[bool]) -> Result<Vec<u8>, Memory>
-    requires { length table.now ≤ 24 }
-    ensures { IfOk result (λ registers. registers.items ≡ members 0 table.now) }
-{
-    let mut registers = Vec::new(alloc);
-    for (register, marked) in table.iter().enumerate() {
-        if *marked {
-            registers.push(register as u8)?;
-        }
-    }
-    Ok(registers)
 }
