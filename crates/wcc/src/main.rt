@@ -13,8 +13,6 @@
 #![tactic(auto)]
 
 #[cfg(test)]
-mod compile_tests;
-#[cfg(test)]
 mod tests;
 mod top;
 
