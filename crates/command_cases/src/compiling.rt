@@ -6,6 +6,7 @@ use std::process::Abort;
 use std::test::Fail;
 use wcc_base::{CalmSink, CalmStore, MemSink, MemStore, Status};
 use wcc_commands::perform;
+use wcc_compile::WccCompiler;
 
 const LOOPS: &str =
     "int main(void){int n=0;_Pragma(\"loopbound min 10 max 10\") do _Pragma(\"loopbound min 10 max 10\") do n++;while(n%10);while(n<100);return n;}";
@@ -61,7 +62,7 @@ fn store(alloc: Global, files: &[(&str, &[u8])]) -> Result<Vec<(String, Vec<u8>)
 fn said(alloc: Global, line: &str, store: &mut CalmStore) -> Result<(Status, Vec<u8>), Fail> {
     let words = words_of(alloc, line)?;
     let mut out = CalmSink::new(alloc);
-    let status = perform(alloc, &words, store, &mut out);
+    let status = perform(&WccCompiler, alloc, &words, store, &mut out);
     Ok((status, out.bytes))
 }
 
@@ -429,7 +430,7 @@ fn each_failing_call_leaves_what_was_written(rt: HostRuntime) -> Result<(), Fail
             let files = store(alloc, &[("a.c", SOURCE.as_bytes())])?;
             let mut files = MemStore::new(alloc, files, step, failing);
             let mut out = CalmSink::new(alloc);
-            let status = perform(alloc, &line, &mut files, &mut out);
+            let status = perform(&WccCompiler, alloc, &line, &mut files, &mut out);
             let wanted = if call <= reads {
                 Status::ReadFault
             } else if call <= last {
@@ -473,7 +474,10 @@ fn a_failing_sink_ends_a_done_call(rt: HostRuntime) -> Result<(), Fail> {
         let files = store(alloc, &[("a.c", source.as_bytes())])?;
         let mut files = CalmStore::new(alloc, files);
         let mut out = MemSink::new(alloc, failing);
-        assert_eq!(rt; perform(alloc, &line, &mut files, &mut out), wanted);
+        assert_eq!(rt;
+            perform(&WccCompiler, alloc, &line, &mut files, &mut out),
+            wanted
+        );
         assert_eq!(rt; out.bytes.as_slice(), b"".as_slice());
         for name in ["a.elf", "a.txt"] {
             assert_eq!(rt; written(&files.files, name).is_empty(), source.is_empty());

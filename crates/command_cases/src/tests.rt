@@ -4,6 +4,7 @@ use std::alloc::Global;
 use std::test::Fail;
 use wcc_base::{CalmSink, CalmStore, Status};
 use wcc_commands::perform;
+use wcc_compile::WccCompiler;
 
 const SOURCE: &str = "int main(void) { putchar(72); return 7; }";
 
@@ -112,7 +113,10 @@ fn images_run_as_they_should(rt: HostRuntime) -> Result<(), Fail> {
         ))?;
         let mut store = CalmStore::new(alloc, files);
         let mut out = CalmSink::new(alloc);
-        assert_eq!(rt; perform(alloc, &words, &mut store, &mut out), row.2);
+        assert_eq!(rt;
+            perform(&WccCompiler, alloc, &words, &mut store, &mut out),
+            row.2
+        );
         assert_eq!(rt; out.bytes.as_slice(), row.3);
         assert_eq!(rt; written(&store.files, "a.out"), row.4);
     }
@@ -193,7 +197,7 @@ fn sources_are_evaluated(rt: HostRuntime) -> Result<(), Fail> {
         ))?;
         let mut store = CalmStore::new(alloc, files);
         let mut out = CalmSink::new(alloc);
-        let status = perform(alloc, &words, &mut store, &mut out);
+        let status = perform(&WccCompiler, alloc, &words, &mut store, &mut out);
         assert_eq!(rt; status.code(), row.1, "at {}", row.0);
         assert_eq!(rt; out.bytes.as_slice(), row.2.as_bytes(), "at {}", row.0);
         assert_eq!(rt; written(&store.files, "a.out"), row.3, "at {}", row.0);
@@ -274,11 +278,11 @@ fn reports_are_checked_and_summed_up(rt: HostRuntime) -> Result<(), Fail> {
         ))?;
         let mut store = CalmStore::new(alloc, files);
         let mut out = CalmSink::new(alloc);
-        let status = perform(alloc, &check, &mut store, &mut out);
+        let status = perform(&WccCompiler, alloc, &check, &mut store, &mut out);
         assert_eq!(rt; status.code(), row.2, "at {}", row.1);
         assert_eq!(rt; out.bytes.as_slice(), row.3.as_bytes(), "at {}", row.1);
         let mut out = CalmSink::new(alloc);
-        let status = perform(alloc, &summary, &mut store, &mut out);
+        let status = perform(&WccCompiler, alloc, &summary, &mut store, &mut out);
         assert_eq!(rt; status.code(), row.4, "at {}", row.1);
         assert_eq!(rt; out.bytes.as_slice(), row.5.as_bytes(), "at {}", row.1);
     }
@@ -313,7 +317,7 @@ fn charged(
     files.push((String::from_str(alloc, "costs.toml")?, table))?;
     let mut store = CalmStore::new(alloc, files);
     let mut out = CalmSink::new(alloc);
-    let status = perform(alloc, &line, &mut store, &mut out);
+    let status = perform(&WccCompiler, alloc, &line, &mut store, &mut out);
     Ok((status.code(), out))
 }
 
@@ -363,7 +367,7 @@ fn reports_are_checked_with_a_table(rt: HostRuntime) -> Result<(), Fail> {
         ))?;
         let mut store = CalmStore::new(alloc, files);
         let mut out = CalmSink::new(alloc);
-        let status = perform(alloc, &check, &mut store, &mut out);
+        let status = perform(&WccCompiler, alloc, &check, &mut store, &mut out);
         assert_eq!(rt; out.bytes.as_slice(), line.as_bytes());
         assert_eq!(rt; status.code(), code);
     }

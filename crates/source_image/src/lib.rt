@@ -4,8 +4,6 @@
 //! form, program in the low form, places, layout.
 #![tactic(auto)]
 
-mod refusal;
 mod stages;
 
-pub use refusal::Refusal;
 pub use stages::{Made, build, read};

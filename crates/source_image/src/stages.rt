@@ -11,9 +11,8 @@ ghost use Rattle.low_law.specs.Programs.{KeepsProgram};
 ghost use Rattle.low_sizes.specs.Sizes.{HasSizes};
 ghost use Rattle.source_sizes.specs.Limits.{nothing, slotted};
 ghost use Rattle.source_image.specs.Made.{IsInMemory, IsMade};
-ghost use Rattle.source_image.specs.Refusals.{Fails};
+ghost use Rattle.source_compiler.specs.Refusals.{Fails};
 
-use crate::refusal::Refusal;
 use c_front::{Source, read_source};
 use high_ir::{Carried, Copies, High};
 use high_make::make;
@@ -21,6 +20,7 @@ use low_ir::{LowReg, all_slots};
 use low_lay::{Laid, lay};
 use low_make::lower;
 use low_memory::Placement;
+use source_compiler::Refusal;
 use source_sizes::sources_fit;
 use std::alloc::Global;
 use wcc_base::Memory;

@@ -8,6 +8,7 @@ ghost use Rattle.wcc_commands.specs.Promises.{IsDone, Answers, CanEnd, NoFault};
 use std::alloc::Global;
 use wcc_base::{Sink, Status, Store};
 use wcc_commands::perform;
+use wcc_compile::WccCompiler;
 
 /// The program: it does what the words ask, prints how it ended, and says so.
 ///
@@ -36,5 +37,5 @@ pub fn wcc<S: Store, O: Sink>(alloc: Global, words: &[String], store: &mut S, ou
     ensures no_command { asked_by (map string_bytes words.now) ≡ None
         → (result ≡ Status.Usage) ⊎ (result ≡ Status.Memory) }
 {
-    perform(alloc, words, store, out)
+    perform(&WccCompiler, alloc, words, store, out)
 }

@@ -19,9 +19,9 @@ use Rattle.report_check.specs.Checks.{IsAccepted}
 use Rattle.report_text.specs.Lines.{report_text}
 use Rattle.report_text.specs.Reports.{Report}
 use Rattle.rv_core.specs.Images.{Image}
-use Rattle.source_image.specs.declared.refusal.Refusal.{Refusal}
-use Rattle.source_image.specs.declared.refusal.Refusal.TheVariants.{Front, Form, Memory}
-use Rattle.source_image.specs.Refusals.{Fails, IsRestricted}
+use Rattle.source_compiler.specs.declared.refusal.Refusal.{Refusal}
+use Rattle.source_compiler.specs.declared.refusal.Refusal.TheVariants.{Front, Form, Memory}
+use Rattle.source_compiler.specs.Refusals.{Fails, IsRestricted}
 use Rattle.source_laws.proofs.Sources as laws
 use Rattle.source_report.specs.Compiled.{IsCompiled}
 use Rattle.command_words.specs.Requests.{CompileRequest}

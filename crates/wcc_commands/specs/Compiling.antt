@@ -7,9 +7,9 @@ use Rattle.c_facts.specs.declared.facts.Facts.{Facts}
 use Rattle.c_typed.specs.Tree.{Program}
 use Rattle.c_front.specs.Fronts.{IsSource}
 use Rattle.report_text.specs.Reports.{Report}
-use Rattle.source_image.specs.declared.refusal.Refusal.{Refusal}
-use Rattle.source_image.specs.declared.refusal.Refusal.TheVariants.{Front, Form, Memory}
-use Rattle.source_image.specs.Refusals.{IsRestricted}
+use Rattle.source_compiler.specs.declared.refusal.Refusal.{Refusal}
+use Rattle.source_compiler.specs.declared.refusal.Refusal.TheVariants.{Front, Form, Memory}
+use Rattle.source_compiler.specs.Refusals.{IsRestricted}
 use Rattle.source_report.specs.Compiled.{IsCompiled}
 use Rattle.command_words.specs.Requests.{CompileRequest}
 use Rattle.wcc_commands.specs.declared.compile.Texts.{Texts}

@@ -19,9 +19,9 @@ use crate::sources::refusal_status;
 use crate::tables::charged_one;
 use command_words::CompileRequest;
 use rv_core::Costs;
+use source_compiler::{Built, Compiler, Options, Refusal};
 use std::alloc::Global;
 use wcc_base::{Items, Memory, Status};
-use wcc_compile::{Built, Options, Refusal};
 
 /// An image and a report, as the bytes of files, and the line of the bound.
 #[derive(Drop)]
@@ -60,11 +60,16 @@ fn status_of(refusal: Refusal) -> Status
 }
 
 /// Compiles the source with these costs.
-pub fn compiled(alloc: Global, source: &[u8], costs: Costs) -> Result<Texts, Status>
+pub fn compiled<C: Compiler>(
+    compiler: &C,
+    alloc: Global,
+    source: &[u8],
+    costs: Costs,
+) -> Result<Texts, Status>
     ensures { MatchResult result (Compiles (table_of costs) source.now)
         (λ s. (s ≡ status.Memory) ⊎ (IsRefusal s × RefusesCompile source.now s)) }
 {
-    match wcc_compile::compile(alloc, source, &Options { costs }) {
+    match compiler.compile(alloc, source, &Options { costs }) {
         Ok(built) => {
             let texts = texts_of(alloc, &built);
             drop(built);
@@ -103,7 +108,8 @@ fn outputs<'a>(alloc: Global, asked: CompileRequest<'a>, texts: Texts) -> Result
 }
 
 // Compiles the source into the image and the report with these costs.
-fn compile_with<'a>(
+fn compile_with<'a, C: Compiler>(
+    compiler: &C,
     alloc: Global,
     asked: CompileRequest<'a>,
     source: Items<u8>,
@@ -112,7 +118,7 @@ fn compile_with<'a>(
     ensures { MatchResult result (λ m. IsEnd m.status × MakesImage (compile_request asked.entry) (table_of costs) source (outputs_of m))
         (λ s. (s ≡ status.Memory) ⊎ (IsRefusal s × RefusesCompile source s)) }
 {
-    match compiled(alloc, source.as_slice(), costs) {
+    match compiled(compiler, alloc, source.as_slice(), costs) {
         Ok(texts) => match outputs(alloc, asked, texts) {
             Ok(made) => Ok(made),
             Err(_) => Err(Status::Memory),
@@ -122,7 +128,8 @@ fn compile_with<'a>(
 }
 
 /// Compiles the source into the image and the report, with the costs of the table where one is named.
-pub fn make_compiled<'a>(
+pub fn make_compiled<'a, C: Compiler>(
+    compiler: &C,
     alloc: Global,
     asked: CompileRequest<'a>,
     contents: Vec<Items<u8>>,
@@ -132,7 +139,7 @@ pub fn make_compiled<'a>(
         (λ s. (s ≡ status.Memory) ⊎ (IsRefusal s × Refuses (Compile (compile_request asked.entry)) contents.items s)) }
 {
     match charged_one(alloc, asked.table, contents) {
-        Ok((source, costs)) => compile_with(alloc, asked, source, costs),
+        Ok((source, costs)) => compile_with(compiler, alloc, asked, source, costs),
         Err(status) => Err(status),
     }
 }

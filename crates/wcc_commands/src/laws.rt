@@ -5,7 +5,7 @@ ghost use Rattle.wcc_base.specs.declared.status.Status.TheVariants as status;
 ghost use Rattle.rv_core.specs.Table.{Table};
 ghost use Rattle.numbered_source.specs.Text.{numbered_text};
 ghost use Rattle.report_check.specs.Checks.{IsAccepted};
-ghost use Rattle.source_image.specs.Refusals.{IsRestricted};
+ghost use Rattle.source_compiler.specs.Refusals.{IsRestricted};
 ghost use Rattle.c_semantics.specs.declared.source_run.SourceRun.{SourceRun};
 ghost use Rattle.wcc_base.specs.declared.status.Status.{Status};
 ghost use Rattle.command_words.specs.Requests.{CompileRequest, CheckRequest, RunRequest, EvalRequest, ReportRequest, MakeRequest};

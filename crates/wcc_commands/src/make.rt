@@ -14,6 +14,7 @@ use crate::numbered::make_numbered;
 use crate::report::make_summary;
 use crate::run::make_run;
 use crate::words::Command;
+use source_compiler::Compiler;
 use std::alloc::Global;
 use wcc_base::{Items, Status};
 
@@ -37,7 +38,8 @@ pub struct Made<'a> {
 /// Makes what a command asks of the contents of its files, in the order in which they were read. No
 /// store and no sink is at hand, so that nothing is begun before all that will be written stands
 /// here.
-pub fn make<'a>(
+pub fn make<'a, C: Compiler>(
+    compiler: &C,
     alloc: Global,
     command: Command<'a>,
     contents: Vec<Items<u8>>,
@@ -48,14 +50,14 @@ pub fn make<'a>(
         (λ s. (s ≡ status.Memory) ⊎ (IsRefusal s × Refuses (command_of command.entry) contents.items s)) }
 {
     match command {
-        Command::Compile(asked) => make_compiled(alloc, asked, contents),
+        Command::Compile(asked) => make_compiled(compiler, alloc, asked, contents),
         Command::Check(asked) => make_yes(alloc, asked, contents),
         Command::Run(asked) => make_run(alloc, asked, contents),
         Command::Eval(asked) => make_evaluated(alloc, asked, two(contents)),
         Command::Report(_) => make_summary(alloc, one(contents)),
         Command::Make(asked) => {
             none(contents);
-            make_numbered(alloc, asked)
+            make_numbered(compiler, alloc, asked)
         }
     }
 }

@@ -23,6 +23,7 @@ use elf_image::ElfFault;
 use report_check::{Cause, Checked, check_report};
 use rv_core::default_costs;
 use rv_sim::Ending;
+use source_compiler::Compiler;
 use std::alloc::Global;
 use wcc_base::{Items, Memory, Status};
 
@@ -159,7 +160,11 @@ fn tried<'a>(
 }
 
 /// Makes the source of the number, compiles it, checks the report, and runs the image.
-pub fn make_numbered<'a>(alloc: Global, asked: MakeRequest<'a>) -> Result<Made<'a>, Status>
+pub fn make_numbered<'a, C: Compiler>(
+    compiler: &C,
+    alloc: Global,
+    asked: MakeRequest<'a>,
+) -> Result<Made<'a>, Status>
     ensures { MatchResult result (λ m. IsEnd m.status × MakesNumbered (make_request asked.entry) (outputs_of m))
         (λ s. (s ≡ status.Memory) ⊎ (IsRefusal s × RefusesCompile (numbered_text asked.entry.number) s)) }
 {
@@ -167,7 +172,7 @@ pub fn make_numbered<'a>(alloc: Global, asked: MakeRequest<'a>) -> Result<Made<'
         Ok(source) => Items::new(source),
         Err(_) => return Err(Status::Memory),
     };
-    match compiled(alloc, source.as_slice(), default_costs()) {
+    match compiled(compiler, alloc, source.as_slice(), default_costs()) {
         Ok(texts) => match tried(alloc, asked, source, texts) {
             Ok(made) => Ok(made),
             Err(_) => Err(Status::Memory),

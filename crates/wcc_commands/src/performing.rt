@@ -11,11 +11,13 @@ use crate::gather::gather;
 use crate::make::{Made, make};
 use crate::status_lines::report_status;
 use crate::words::{Command, read_command};
+use source_compiler::Compiler;
 use std::alloc::Global;
 use wcc_base::{Sink, Status, Store};
 
 // Reads the files of a command, and makes of them what it asks.
-fn work<'a, S: Store>(
+fn work<'a, C: Compiler, S: Store>(
+    compiler: &C,
     alloc: Global,
     store: &mut S,
     command: Command<'a>,
@@ -26,13 +28,15 @@ fn work<'a, S: Store>(
     ensures reads { OnlyRead (S.state store.old) (S.state store.new) }
 {
     match gather(alloc, store, command) {
-        Ok(contents) => make(alloc, command, contents),
+        Ok(contents) => make(compiler, alloc, command, contents),
         Err(status) => Err(status),
     }
 }
 
-/// Does what the words ask, and prints how it ended. The words come without the program's name.
-pub fn perform<S: Store, O: Sink>(
+/// Does what the words ask, by this compiler where something is compiled, and prints how it ended. The words come without the
+/// program's name.
+pub fn perform<C: Compiler, S: Store, O: Sink>(
+    compiler: &C,
     alloc: Global,
     words: &[String],
     store: &mut S,
@@ -42,7 +46,7 @@ pub fn perform<S: Store, O: Sink>(
 {
     match read_command(alloc, words) {
         Ok(Some(command)) => {
-            let made = work(alloc, store, command);
+            let made = work(compiler, alloc, store, command);
             finish(store, out, made)
         }
         Ok(None) => report_status(out, Status::Usage),

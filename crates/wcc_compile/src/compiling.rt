@@ -4,26 +4,20 @@ ghost use Rattle.elf_image.specs.Text.{text_of};
 ghost use Rattle.report_text.specs.Lines.{report_text};
 ghost use Rattle.rv_core.specs.Table.{table_of};
 ghost use Rattle.source_report.specs.Compiled.{IsCompiled};
-ghost use Rattle.source_image.specs.Refusals.{Fails, IsRestricted};
+ghost use Rattle.source_compiler.specs.Refusals.{Fails, IsRestricted};
 ghost use Rattle.wcc_compile.specs.Sources.{IsOf};
 
-use crate::built::Built;
 use crate::laws::reported_are_compiled;
 use crate::reporting::reported;
 use c_front::Source;
 use elf_image::read_of_write;
 use low_lay::Laid;
 use rv_core::{Costs, Image};
-use source_image::{Made, Refusal, build, read};
+use source_compiler::{Built, Options, Refusal};
+use source_image::{Made, build, read};
 use source_laws::one_source;
 use std::alloc::Global;
 use wcc_base::Memory;
-
-/// What a source is compiled with.
-#[derive(Clone, Copy)]
-pub struct Options {
-    pub costs: Costs,
-}
 
 /// The image of what was made, all else let go.
 fn image_of(made: Made) -> Image

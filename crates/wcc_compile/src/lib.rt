@@ -9,17 +9,16 @@
 //! where the source has a restriction, and `Front` with the cause for which it has no program with facts; memory alone is
 //! left open.
 //!
-//! The crate knows no files and no status, and no stage from within.
+//! [`WccCompiler`] is this call as the commands ask for it. The crate knows no files and no status, and no stage from within.
 #![tactic(auto)]
 
-mod built;
+mod compiler;
 mod compiling;
 mod finding;
 mod laws;
 mod reporting;
 mod telling;
 
-pub use built::Built;
-pub use compiling::{Options, compile};
+pub use compiler::WccCompiler;
+pub use compiling::compile;
 pub use laws::reported_are_compiled;
-pub use source_image::Refusal;

@@ -15,7 +15,7 @@ pub enum Refusal {
 
 impl From<Memory> for Refusal {
     ghost use Rattle.std.specs.Prelude.{◌≡◌};
-    ghost use Rattle.source_image.specs.declared.refusal.Refusal.TheVariants as Refusal;
+    ghost use Rattle.source_compiler.specs.declared.refusal.Refusal.TheVariants as Refusal;
 
     ghost from_gives = { λ _ e. e ≡ Refusal.Memory };
 

@@ -3,8 +3,8 @@ use Rattle.std.specs.Prelude.{◌≢◌, ℕ, List, []}
 use Rattle.c_facts.specs.declared.facts.Facts.{Facts}
 use Rattle.c_front.specs.Fronts.{IsSource, RefusesSource}
 use Rattle.c_typed.specs.Tree.{Program}
-use Rattle.source_image.specs.declared.refusal.Refusal.{Refusal}
-use Rattle.source_image.specs.declared.refusal.Refusal.TheVariants.{Front, Form, Memory}
+use Rattle.source_compiler.specs.declared.refusal.Refusal.{Refusal}
+use Rattle.source_compiler.specs.declared.refusal.Refusal.TheVariants.{Front, Form, Memory}
 
 -- the source has a program with facts, and a restriction among them
 pub record IsRestricted (source : List ℕ) : Type 0 where
