@@ -1,10 +1,10 @@
 // Commands that run, evaluate, check and sum up, on stores and sinks in memory.
 
+use crate::memoryless::Memoryless;
 use std::alloc::Global;
 use std::test::Fail;
 use wcc_base::{CalmSink, CalmStore, Status};
 use wcc_commands::perform;
-use wcc_compile::WccCompiler;
 
 const SOURCE: &str = "int main(void) { putchar(72); return 7; }";
 
@@ -17,8 +17,8 @@ const IMAGE: [u8; 108] = [
     0, 0x73, 0, 0, 0,
 ];
 
-/// The words of a command.
-pub fn words(alloc: Global, texts: &[&str]) -> Result<Vec<String>, Fail> {
+// The words of a command.
+fn words(alloc: Global, texts: &[&str]) -> Result<Vec<String>, Fail> {
     let mut words = Vec::new(alloc);
     for text in texts {
         words.push(String::from_str(alloc, *text)?)?;
@@ -35,8 +35,8 @@ fn source_file(alloc: Global, source: &str) -> Result<Vec<(String, Vec<u8>)>, Fa
     Ok(files)
 }
 
-/// What a file holds after a call, and nothing where it is absent.
-pub fn written<'a>(files: &'a [(String, Vec<u8>)], name: &str) -> &'a [u8] {
+// What a file holds after a call, and nothing where it is absent.
+fn written<'a>(files: &'a [(String, Vec<u8>)], name: &str) -> &'a [u8] {
     for file in files {
         if file.0.as_str() == name {
             return file.1.as_slice();
@@ -114,7 +114,7 @@ fn images_run_as_they_should(rt: HostRuntime) -> Result<(), Fail> {
         let mut store = CalmStore::new(alloc, files);
         let mut out = CalmSink::new(alloc);
         assert_eq!(rt;
-            perform(&WccCompiler, alloc, &words, &mut store, &mut out),
+            perform(&Memoryless, alloc, &words, &mut store, &mut out),
             row.2
         );
         assert_eq!(rt; out.bytes.as_slice(), row.3);
@@ -197,7 +197,7 @@ fn sources_are_evaluated(rt: HostRuntime) -> Result<(), Fail> {
         ))?;
         let mut store = CalmStore::new(alloc, files);
         let mut out = CalmSink::new(alloc);
-        let status = perform(&WccCompiler, alloc, &words, &mut store, &mut out);
+        let status = perform(&Memoryless, alloc, &words, &mut store, &mut out);
         assert_eq!(rt; status.code(), row.1, "at {}", row.0);
         assert_eq!(rt; out.bytes.as_slice(), row.2.as_bytes(), "at {}", row.0);
         assert_eq!(rt; written(&store.files, "a.out"), row.3, "at {}", row.0);
@@ -278,11 +278,11 @@ fn reports_are_checked_and_summed_up(rt: HostRuntime) -> Result<(), Fail> {
         ))?;
         let mut store = CalmStore::new(alloc, files);
         let mut out = CalmSink::new(alloc);
-        let status = perform(&WccCompiler, alloc, &check, &mut store, &mut out);
+        let status = perform(&Memoryless, alloc, &check, &mut store, &mut out);
         assert_eq!(rt; status.code(), row.2, "at {}", row.1);
         assert_eq!(rt; out.bytes.as_slice(), row.3.as_bytes(), "at {}", row.1);
         let mut out = CalmSink::new(alloc);
-        let status = perform(&WccCompiler, alloc, &summary, &mut store, &mut out);
+        let status = perform(&Memoryless, alloc, &summary, &mut store, &mut out);
         assert_eq!(rt; status.code(), row.4, "at {}", row.1);
         assert_eq!(rt; out.bytes.as_slice(), row.5.as_bytes(), "at {}", row.1);
     }
@@ -317,7 +317,7 @@ fn charged(
     files.push((String::from_str(alloc, "costs.toml")?, table))?;
     let mut store = CalmStore::new(alloc, files);
     let mut out = CalmSink::new(alloc);
-    let status = perform(&WccCompiler, alloc, &line, &mut store, &mut out);
+    let status = perform(&Memoryless, alloc, &line, &mut store, &mut out);
     Ok((status.code(), out))
 }
 
@@ -367,7 +367,7 @@ fn reports_are_checked_with_a_table(rt: HostRuntime) -> Result<(), Fail> {
         ))?;
         let mut store = CalmStore::new(alloc, files);
         let mut out = CalmSink::new(alloc);
-        let status = perform(&WccCompiler, alloc, &check, &mut store, &mut out);
+        let status = perform(&Memoryless, alloc, &check, &mut store, &mut out);
         assert_eq!(rt; out.bytes.as_slice(), line.as_bytes());
         assert_eq!(rt; status.code(), code);
     }

@@ -1,6 +1,5 @@
 // Sources that are compiled, checked, run and evaluated, on stores and sinks in memory.
 
-use crate::tests::{words, written};
 use std::alloc::Global;
 use std::process::Abort;
 use std::test::Fail;
@@ -39,11 +38,21 @@ return y & 255;
 
 // The words of a command.
 fn words_of(alloc: Global, line: &str) -> Result<Vec<String>, Fail> {
-    let mut texts = Vec::new(alloc);
+    let mut words = Vec::new(alloc);
     for word in line.split(' ') {
-        texts.push(word)?;
+        words.push(String::from_str(alloc, word)?)?;
     }
-    words(alloc, &texts)
+    Ok(words)
+}
+
+// What a file holds after a call, and nothing where it is absent.
+fn written<'a>(files: &'a [(String, Vec<u8>)], name: &str) -> &'a [u8] {
+    for file in files {
+        if file.0.as_str() == name {
+            return file.1.as_slice();
+        }
+    }
+    &[]
 }
 
 // A store with these files.
