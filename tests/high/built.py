@@ -17,7 +17,7 @@ def is_current(program):
     return all(it.stat().st_mtime <= program.stat().st_mtime for it in sources)
 
 
-def built(name="high_try"):
+def built(name="try_forms"):
     """Its path."""
     crate = ROOT / "crates" / name
     program, log = crate / "out" / name, crate / "out/build.log"

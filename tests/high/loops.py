@@ -1,4 +1,4 @@
-"""How many nodes a source has, and the lines of its loops that high_try must print, from the source alone.
+"""How many nodes a source has, and the lines of its loops that try_forms must print, from the source alone.
 
 A loop of the high form counts its starts: a start more than its body's where a test ends it. It is worked out here from
 docs/LANGUAGE.md by the syntax tree of the evaluator, and shares nothing with wcc.

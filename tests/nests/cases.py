@@ -1,7 +1,7 @@
 #!/usr/bin/env python3
-"""Writes the tables of crates/bound_cases: images, claims, loops and functions, with the greatest value of a flow of each.
+"""Writes the tables of crates/path_cases: images, claims, loops and functions, with the greatest value of a flow of each.
 
-    cases.py ../../crates/bound_cases/src      writes reports.rt and nests.rt into that folder; rt fmt lays them out
+    cases.py ../../crates/path_cases/src      writes reports.rt and nests.rt into that folder; rt fmt lays them out
 
 The images of the test reports without restrictions come first, with the values that their reports have, but not that of
 `far`, whose jump to a lower address is no loop's; then the nests of values.txt. Both values are from the exact linear program of ../certificates.

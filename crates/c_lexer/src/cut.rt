@@ -14,9 +14,9 @@ use crate::pragmas::pragma_kind;
 use crate::scan::{blanks_end, comment_end, line_end, number_end, quoted_end, word_end};
 use crate::texts::{first_size, has, is_on_line, is_one, is_span, stands};
 use crate::words::{PREFIXES, PUNCTUATORS, lone_sign, sign_kind, word_kind};
-use c_constant::{is_character, is_integer};
-use c_pragma::{behind_blanks, directive_text, read_operator};
 use c_tree::token::TokenKind;
+use parse_constant::{is_character, is_integer};
+use parse_pragma::{behind_blanks, directive_text, read_operator};
 
 /// Whether a line begins behind blanks.
 fn fresh_behind_blanks(source: &[u8], at: usize, end: usize, fresh: bool) -> bool

@@ -3,8 +3,8 @@ ghost use Rattle.std.specs.Prelude.{◌≡◌};
 ghost use Rattle.c_lexer.specs.Kinds.{pragma_kind};
 
 use crate::pieces::Kind;
-use c_pragma::first_word;
 use c_tree::token::TokenKind;
+use parse_pragma::first_word;
 
 /// What a pragma with this text is.
 pub fn pragma_kind(text: &[u8]) -> Kind

@@ -1,6 +1,6 @@
 -- A list that is made element by element.
 use Rattle.std.proofs.Common.{ℕ, List, ◌++◌}
-use Rattle.c_semantics.specs.State.{Outcome, Fine, Stopped}
+use Rattle.meaning_semantics.specs.State.{Outcome, Fine, Stopped}
 
 -- the words that are made already, and those of an outcome
 abbrev pub behind : List ℕ → Outcome (List ℕ) → Outcome (List ℕ)

@@ -2,18 +2,18 @@
 use Rattle.std.proofs.Common.{◌≡◌, ℕ, zero, suc, ◌-◌, ◌<◌, List, length, get_or, map, Option, Some, refl, sym, ap, ◌∙◌, arith}
 use Rattle.std.specs.Prelude.{◌≢◌, option_map, slice_get}
 use Rattle.std.proofs.lemmas.Option.{slice_get-get_or, slice_get-map}
-use Rattle.c_typed.specs.View.{function_of, items_of}
-use Rattle.c_typed.specs.declared.external.Function.{Function}
-use Rattle.c_typed.specs.declared.statement.Item as items
-use Rattle.c_semantics.specs.Runs.{calls, enter, given_back}
-use Rattle.c_typed.specs.Tree.{Expr, ForStart, Statement, While, Do, For}
+use Rattle.types_tree.specs.View.{function_of, items_of}
+use Rattle.types_tree.specs.declared.external.Function.{Function}
+use Rattle.types_tree.specs.declared.statement.Item as items
+use Rattle.meaning_semantics.specs.Runs.{calls, enter, given_back}
+use Rattle.types_tree.specs.Tree.{Expr, ForStart, Statement, While, Do, For}
 use Rattle.c_tree.specs.declared.pragma.Pragma.{Pragma}
-use Rattle.c_facts.specs.Most.{bounds_at}
-use Rattle.c_semantics.specs.State.{Fine, State, bound, choose, counted, then_do}
-use Rattle.c_semantics.specs.Statements.{Loop, Source, again, entered, left_with, loop_of, looped, run, run_items, started, turns}
-use Rattle.c_semantics.specs.Values.{Calls}
-use Rattle.c_semantics.specs.declared.outcome.Flow.{Flow}
-use Rattle.c_semantics.specs.declared.outcome.Flow.TheVariants.{Onward}
+use Rattle.facts_definitions.specs.Most.{bounds_at}
+use Rattle.meaning_semantics.specs.State.{Fine, State, bound, choose, counted, then_do}
+use Rattle.meaning_semantics.specs.Statements.{Loop, Source, again, entered, left_with, loop_of, looped, run, run_items, started, turns}
+use Rattle.meaning_semantics.specs.Values.{Calls}
+use Rattle.meaning_semantics.specs.declared.outcome.Flow.{Flow}
+use Rattle.meaning_semantics.specs.declared.outcome.Flow.TheVariants.{Onward}
 
 pub function_there : (fs : List Function) (i : ℕ) (f : Function) → i < length fs → f ≡ get_or fs i f → slice_get (map function_of fs) i ≡ Some (function_of f)
 function_there fs i f lt read = slice_get-map function_of fs i ∙ ap (option_map function_of) (slice_get-get_or fs i f lt ∙ ap Some (sym read))

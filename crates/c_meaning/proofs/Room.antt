@@ -3,15 +3,15 @@ use Rattle.std.proofs.Common.{◌≡◌, ℕ, ◌+◌, ◌*◌, ◌<◌, ◌≤�
 use Rattle.std.specs.Prelude.{Vec, sum_by}
 use Rattle.std.specs.Global.{Global}
 use Rattle.std.proofs.lemmas.List.Sums.{get_or-le-sum_by, sum_by-cons, sum_by-take-drop}
-use Rattle.c_typed.specs.Tree.{Place, Scalar, Element, Within, Expr, Number, Character, Read, Array, Paren, Call, Step, Signed, Cast, Convert, Operate, And, Or, Comma, Conditional, Assign, Update, Exprs, NoExpr, WithExpr, Initial, Absent, Value, Listed, Object, Declared, Declaration, Objects, Prototype, ForStart, NoStart, StartValue, StartDeclaration, Statement, Block, Empty, Evaluate, Marker, If, IfElse, While, Do, For, Switch, Break, Continue, Return, Items, NoItem, WithDeclaration, WithStatement, WithRestriction, WithLabel}
-use Rattle.c_typed.specs.View.{declaration_of, expr_of, exprs_of, items_of, object_of, statement_of, with_item}
-use Rattle.c_typed.specs.declared.declaration.Object as objects
-use Rattle.c_typed.specs.declared.expression.Callee.{Callee}
-use Rattle.c_typed.specs.declared.expression.Expr as exprs
-use Rattle.c_typed.specs.declared.external.Function.{Function}
-use Rattle.c_typed.specs.declared.statement.Item as items
-use Rattle.c_typed.specs.declared.statement.Statement as statements
-use Rattle.c_typed.proofs.Rows.{block_view, call_view, switch_view}
+use Rattle.types_tree.specs.Tree.{Place, Scalar, Element, Within, Expr, Number, Character, Read, Array, Paren, Call, Step, Signed, Cast, Convert, Operate, And, Or, Comma, Conditional, Assign, Update, Exprs, NoExpr, WithExpr, Initial, Absent, Value, Listed, Object, Declared, Declaration, Objects, Prototype, ForStart, NoStart, StartValue, StartDeclaration, Statement, Block, Empty, Evaluate, Marker, If, IfElse, While, Do, For, Switch, Break, Continue, Return, Items, NoItem, WithDeclaration, WithStatement, WithRestriction, WithLabel}
+use Rattle.types_tree.specs.View.{declaration_of, expr_of, exprs_of, items_of, object_of, statement_of, with_item}
+use Rattle.types_tree.specs.declared.declaration.Object as objects
+use Rattle.types_tree.specs.declared.expression.Callee.{Callee}
+use Rattle.types_tree.specs.declared.expression.Expr as exprs
+use Rattle.types_tree.specs.declared.external.Function.{Function}
+use Rattle.types_tree.specs.declared.statement.Item as items
+use Rattle.types_tree.specs.declared.statement.Statement as statements
+use Rattle.types_tree.proofs.Rows.{block_view, call_view, switch_view}
 
 abbrev mutual
   pub place_size : Place → ℕ

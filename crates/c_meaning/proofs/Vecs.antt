@@ -2,16 +2,16 @@
 use Rattle.std.proofs.Common.{◌≡◌, ℕ, Bool, true, List, ap, sym, ◌∙◌}
 use Rattle.std.specs.Prelude.{Vec}
 use Rattle.std.specs.Global.{Global}
-use Rattle.c_typed.proofs.Rows.{block_view, call_view, switch_view}
-use Rattle.c_typed.specs.View.{expr_of, exprs_of, items_of, statement_of}
-use Rattle.c_typed.specs.declared.expression.Callee.{Callee}
-use Rattle.c_typed.specs.declared.expression.Expr as exprs
-use Rattle.c_typed.specs.declared.statement.Item as items
-use Rattle.c_typed.specs.declared.statement.Statement as statements
-use Rattle.c_typed.specs.declared.variable.Variable.{Variable}
-use Rattle.c_semantics.specs.State.{State, needed, then_do}
-use Rattle.c_semantics.specs.Statements.{Source, entered, evaluated, has_case, out_of_switch, run, run_from, run_items}
-use Rattle.c_semantics.specs.Values.{Calls, called, value, values}
+use Rattle.types_tree.proofs.Rows.{block_view, call_view, switch_view}
+use Rattle.types_tree.specs.View.{expr_of, exprs_of, items_of, statement_of}
+use Rattle.types_tree.specs.declared.expression.Callee.{Callee}
+use Rattle.types_tree.specs.declared.expression.Expr as exprs
+use Rattle.types_tree.specs.declared.statement.Item as items
+use Rattle.types_tree.specs.declared.statement.Statement as statements
+use Rattle.types_tree.specs.declared.variable.Variable.{Variable}
+use Rattle.meaning_semantics.specs.State.{State, needed, then_do}
+use Rattle.meaning_semantics.specs.Statements.{Source, entered, evaluated, has_case, out_of_switch, run, run_from, run_items}
+use Rattle.meaning_semantics.specs.Values.{Calls, called, value, values}
 
 pub call_value : (variables : List Variable) (call : Calls) (e : exprs.Expr) (callee : Callee) (v : Vec exprs.Expr Global) (at : ℕ) (xs : List exprs.Expr) (used : Bool) (st : State) → e ≡ exprs.Call callee v at → xs ≡ v.items →
     value variables call (expr_of e) used st ≡ then_do (then_do (values variables call (exprs_of xs) st) (called call callee at)) (needed used at)

@@ -1,20 +1,20 @@
 -- What parts of a program do in the scope in which the walk runs them.
 use Rattle.std.specs.Prelude.{ℕ, Bool, true, not, false, List, Result, Ok, Err, Vec}
 use Rattle.std.specs.Global.{Global}
-use Rattle.c_value.specs.Kinds.{converted, is_void, promoted}
-use Rattle.c_value.specs.Operators.{computed, signed_by}
-use Rattle.c_typed.specs.declared.variable.Variable.{Variable}
-use Rattle.c_typed.specs.Tree.{Place, Expr, Exprs, Statement, Items, Step, Signed, Cast, Convert, Operate, And, Or, Comma, Conditional, Assign, Update}
-use Rattle.c_typed.specs.View.{declaration_of, label_of, program_of, statement_of}
-use Rattle.c_typed.specs.declared.statement.Item as items
-use Rattle.c_semantics.specs.declared.outcome.Flow.{Flow}
-use Rattle.c_semantics.specs.declared.outcome.Flow.TheVariants.{Onward}
-use Rattle.c_semantics.specs.declared.outcome.Found.{Found}
-use Rattle.c_semantics.specs.declared.outcome.Stop.{Stop}
-use Rattle.c_semantics.specs.State.{Fine, Outcome, State, Stopped, at_place, changed, choose, settled, step_operator, step_value, then_do, truth, write}
-use Rattle.c_semantics.specs.Values.{Calls, both, find, targeted, value, values}
-use Rattle.c_semantics.specs.Statements.{Source, declared, is_chosen, run, run_items, run_from}
-use Rattle.c_semantics.specs.Runs.{calls}
+use Rattle.types_value.specs.Kinds.{converted, is_void, promoted}
+use Rattle.types_value.specs.Operators.{computed, signed_by}
+use Rattle.types_tree.specs.declared.variable.Variable.{Variable}
+use Rattle.types_tree.specs.Tree.{Place, Expr, Exprs, Statement, Items, Step, Signed, Cast, Convert, Operate, And, Or, Comma, Conditional, Assign, Update}
+use Rattle.types_tree.specs.View.{declaration_of, label_of, program_of, statement_of}
+use Rattle.types_tree.specs.declared.statement.Item as items
+use Rattle.meaning_semantics.specs.declared.outcome.Flow.{Flow}
+use Rattle.meaning_semantics.specs.declared.outcome.Flow.TheVariants.{Onward}
+use Rattle.meaning_semantics.specs.declared.outcome.Found.{Found}
+use Rattle.meaning_semantics.specs.declared.outcome.Stop.{Stop}
+use Rattle.meaning_semantics.specs.State.{Fine, Outcome, State, Stopped, at_place, changed, choose, settled, step_operator, step_value, then_do, truth, write}
+use Rattle.meaning_semantics.specs.Values.{Calls, both, find, targeted, value, values}
+use Rattle.meaning_semantics.specs.Statements.{Source, declared, is_chosen, run, run_items, run_from}
+use Rattle.meaning_semantics.specs.Runs.{calls}
 use Rattle.c_meaning.specs.declared.walk.Scope.{Scope}
 
 abbrev pub source_of : Scope → Source

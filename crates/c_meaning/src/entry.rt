@@ -1,11 +1,11 @@
 // The number of main.
 ghost use Rattle.std.specs.Prelude.{◌≡◌, codes, map};
-ghost use Rattle.c_facts.specs.FlowFacts.{function_name, id_in, index_of, main_of};
-ghost use Rattle.c_typed.specs.View.{function_of, program_of};
+ghost use Rattle.facts_definitions.specs.FlowFacts.{function_name, id_in, index_of, main_of};
+ghost use Rattle.types_tree.specs.View.{function_of, program_of};
 
 use c_tree::expression::NameId;
-use c_typed::external::Function;
-use c_typed::program::Program;
+use types_tree::external::Function;
+use types_tree::program::Program;
 use wcc_base::Text;
 
 /// The number of a name, or the number of all names.

@@ -1,19 +1,19 @@
 // The run of a source on an input.
 ghost use Rattle.std.specs.Prelude.{◌≡◌, ◌++◌, IfOk, map};
-ghost use Rattle.c_typed.specs.View.{external_of, program_of};
-ghost use Rattle.c_semantics.specs.Runs.{finished, first_violated, initialised_all, meaning, ran, stopped};
-ghost use Rattle.c_semantics.specs.State.{outcome_of};
+ghost use Rattle.types_tree.specs.View.{external_of, program_of};
+ghost use Rattle.meaning_semantics.specs.Runs.{finished, first_violated, initialised_all, meaning, ran, stopped};
+ghost use Rattle.meaning_semantics.specs.State.{outcome_of};
 ghost use Rattle.c_meaning.specs.Scopes.{calls_of, source_of};
 
 use super::entry::main_of;
 use super::restrictions::first_violated;
 use super::walk::{Answer, Scope, call, declare};
-use c_facts::Facts;
-use c_semantics::{Flow, SourceRun, State, Stop, Unkept};
 use c_tree::expression::NameId;
-use c_typed::external::External;
-use c_typed::program::Program;
+use facts_definitions::Facts;
+use meaning_semantics::{Flow, SourceRun, State, Stop, Unkept};
 use std::alloc::Global;
+use types_tree::external::External;
+use types_tree::program::Program;
 use wcc_base::{Memory, sign_extend};
 
 /// The initial values of file level.

@@ -1,20 +1,20 @@
 // What the walk asks of single statements and items.
 ghost use Rattle.std.specs.Prelude.{◌≡◌, ◌+◌, ◌<◌, drop, length, map};
-ghost use Rattle.c_facts.specs.Most.{bounds_at};
-ghost use Rattle.c_typed.specs.View.{declaration_of, items_of, label_of, object_of};
-ghost use Rattle.c_semantics.specs.Runs.{given_back};
-ghost use Rattle.c_value.specs.Kinds.{promoted};
-ghost use Rattle.c_semantics.specs.State.{State as Stands, Fine, changed, outcome_of, step_operator, step_value, then_do};
-ghost use Rattle.c_semantics.specs.Statements.{begun, entered, has_case, is_case, is_default, leaving, left_with, out_of_switch, unwritten_all};
+ghost use Rattle.facts_definitions.specs.Most.{bounds_at};
+ghost use Rattle.types_tree.specs.View.{declaration_of, items_of, label_of, object_of};
+ghost use Rattle.meaning_semantics.specs.Runs.{given_back};
+ghost use Rattle.types_value.specs.Kinds.{promoted};
+ghost use Rattle.meaning_semantics.specs.State.{State as Stands, Fine, changed, outcome_of, step_operator, step_value, then_do};
+ghost use Rattle.meaning_semantics.specs.Statements.{begun, entered, has_case, is_case, is_default, leaving, left_with, out_of_switch, unwritten_all};
 ghost use Rattle.c_meaning.specs.Scopes.{goes_on_at};
 
-use c_facts::Bounds;
-use c_semantics::{Change, Flow, Found, State, Stop, Target};
 use c_tree::expression::PostfixOperator;
-use c_typed::declaration::{Declaration, Object};
-use c_typed::expression::Fix;
-use c_typed::statement::{Item, Label, LoopId};
-use c_value::{Kind, Operator};
+use facts_definitions::Bounds;
+use meaning_semantics::{Change, Flow, Found, State, Stop, Target};
+use types_tree::declaration::{Declaration, Object};
+use types_tree::expression::Fix;
+use types_tree::statement::{Item, Label, LoopId};
+use types_value::{Kind, Operator};
 
 /// The bounds of a loop.
 pub fn bounds_at(bounds: &[Bounds], number: LoopId) -> Bounds

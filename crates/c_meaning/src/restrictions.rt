@@ -1,10 +1,10 @@
 // Whether the counts of a run keep its restrictions.
 ghost use Rattle.std.specs.Prelude.{◌≡◌, map, IfOk};
-ghost use Rattle.c_facts.specs.FlowFacts.{index_of};
-ghost use Rattle.c_semantics.specs.Runs.{compared, count_of, first_violated, holds, sum_of};
+ghost use Rattle.facts_definitions.specs.FlowFacts.{index_of};
+ghost use Rattle.meaning_semantics.specs.Runs.{compared, count_of, first_violated, holds, sum_of};
 
-use c_facts::{Restriction, Term};
 use c_tree::expression::NameId;
+use facts_definitions::{Restriction, Term};
 use wcc_base::{Compare, Memory};
 
 /// The number of the first of these names, or that of all names.

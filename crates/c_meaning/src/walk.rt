@@ -1,24 +1,24 @@
 // The walk over a program: one cycle of functions, from expressions through calls to statements.
 ghost use Rattle.std.specs.Prelude.{◌≡◌, true, false, map, Some, IfOk};
-ghost use Rattle.c_facts.specs.Most.{bounds_at};
-ghost use Rattle.c_typed.specs.View.{declaration_of, expr_of, exprs_of, initial_of, items_of, object_of, place_of, start_of, statement_of};
-ghost use Rattle.c_semantics.specs.Runs.{given_back};
-ghost use Rattle.c_semantics.specs.State.{Fine, needed, outcome_of, read, then_do, truth as truth_word};
-ghost use Rattle.c_semantics.specs.Statements.{all_declared, declared, dropped, behind, body_run, entered, followed, has_case, initialised, listed, loop_of, loop_test, looped, out_of_switch, started};
-ghost use Rattle.c_semantics.specs.Values.{both, called, targeted};
+ghost use Rattle.facts_definitions.specs.Most.{bounds_at};
+ghost use Rattle.types_tree.specs.View.{declaration_of, expr_of, exprs_of, initial_of, items_of, object_of, place_of, start_of, statement_of};
+ghost use Rattle.meaning_semantics.specs.Runs.{given_back};
+ghost use Rattle.meaning_semantics.specs.State.{Fine, needed, outcome_of, read, then_do, truth as truth_word};
+ghost use Rattle.meaning_semantics.specs.Statements.{all_declared, declared, dropped, behind, body_run, entered, followed, has_case, initialised, listed, loop_of, loop_test, looped, out_of_switch, started};
+ghost use Rattle.meaning_semantics.specs.Values.{both, called, targeted};
 ghost use Rattle.c_meaning.specs.Scopes.{calls_of, find_in, item_run, joined_in, placed_in, run_from_in, run_in, run_items_in, source_of, unary_in, value_in, values_in, words_of};
 
 use super::parts::{
     behind, bounds_at, enter, forget, given_back, goes_on_at, has_case, leave, leaving,
     out_of_switch, step, update,
 };
-use c_facts::Bounds;
-use c_semantics::{Flow, Found, Operands, State, Stop, Target, need, settle, truth};
-use c_typed::declaration::{Declaration, Initial, Object};
-use c_typed::expression::{Callee, Expr, ObjectId, Place};
-use c_typed::program::Program;
-use c_typed::statement::{ForStart, Item, LoopId, Statement};
+use facts_definitions::Bounds;
+use meaning_semantics::{Flow, Found, Operands, State, Stop, Target, need, settle, truth};
 use std::alloc::Global;
+use types_tree::declaration::{Declaration, Initial, Object};
+use types_tree::expression::{Callee, Expr, ObjectId, Place};
+use types_tree::program::Program;
+use types_tree::statement::{ForStart, Item, LoopId, Statement};
 use wcc_base::Memory;
 
 /// A program, the bounds of its loops, and how deep calls may nest yet.

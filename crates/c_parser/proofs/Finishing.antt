@@ -18,15 +18,15 @@ use Rattle.c_tree.specs.Tree.{Row, Nothing, Then, External, Whole}
 use Rattle.c_tree.specs.View.{external_of, row_of}
 use Rattle.c_tree.proofs.NamedForms.{externals_formed, first_named}
 use Rattle.c_tree.proofs.NamedSizes.{size_externals_named}
-use Rattle.c_begun.specs.declared.begun.State as states
-use Rattle.c_begun.specs.View.{Names, state_of}
-use Rattle.c_lexeme.specs.Lexemes.{word_said}
-use Rattle.c_grammar.specs.Begun.{Bytes, State, File}
-use Rattle.c_grammar.specs.Depth.{deep}
-use Rattle.c_grammar.proofs.Nodes.{nodes_unit}
-use Rattle.c_grammar.proofs.SoundSteps.{read_sound}
-use Rattle.c_grammar.specs.Law.{run}
-use Rattle.c_grammar.specs.Machine.{Goes}
+use Rattle.parse_begun.specs.declared.begun.State as states
+use Rattle.parse_begun.specs.View.{Names, state_of}
+use Rattle.parse_lexeme.specs.Lexemes.{word_said}
+use Rattle.parse_grammar.specs.Begun.{Bytes, State, File}
+use Rattle.parse_grammar.specs.Depth.{deep}
+use Rattle.parse_grammar.proofs.Nodes.{nodes_unit}
+use Rattle.parse_grammar.proofs.SoundSteps.{read_sound}
+use Rattle.parse_grammar.specs.Law.{run}
+use Rattle.parse_grammar.specs.Machine.{Goes}
 use Rattle.c_parser.proofs.Refusals.{take_all}
 use Rattle.c_parser.specs.declared.fault.ParseFault.{ParseFault}
 use Rattle.c_parser.specs.declared.fault.ParseFault.TheVariants.{Syntax}

@@ -2,10 +2,10 @@
 use Rattle.std.proofs.Common.{◌≡◌, suc, ◌+◌, ◌<◌, ◌≤◌, List, [], ◌∷◌, ◌++◌, length, take, refl, ◌∙◌, ap, arith}
 use Rattle.c_tree.specs.Spelling.{Spoken}
 use Rattle.c_tree.specs.Tree.{Nothing}
-use Rattle.c_grammar.specs.Begun.{State, File}
-use Rattle.c_grammar.specs.Machine.{Moved, Goes, Stuck, after_all, step}
-use Rattle.c_grammar.specs.Depth.{deep}
-use Rattle.c_grammar.specs.Law.{run}
+use Rattle.parse_grammar.specs.Begun.{State, File}
+use Rattle.parse_grammar.specs.Machine.{Moved, Goes, Stuck, after_all, step}
+use Rattle.parse_grammar.specs.Depth.{deep}
+use Rattle.parse_grammar.specs.Law.{run}
 use Rattle.c_parser.specs.declared.fault.ParseFault.{ParseFault}
 use Rattle.c_parser.specs.declared.fault.ParseFault.TheVariants.{Syntax, Deep, Memory}
 use Rattle.c_parser.specs.Refused.{Halts, Stops}

@@ -5,12 +5,12 @@ use Rattle.std.proofs.lemmas.Bool.{cases_lt}
 use Rattle.c_tree.specs.Size.{size_unit}
 use Rattle.c_tree.specs.Spelling.{Spoken, Agree, spell_unit}
 use Rattle.c_tree.specs.Tree.{Row, Nothing, Then, External, TranslationUnit, Whole}
-use Rattle.c_grammar.specs.Begun.{Bytes, State, File}
-use Rattle.c_grammar.specs.Machine.{Moved, Goes}
-use Rattle.c_grammar.proofs.Completion.{goes_true}
-use Rattle.c_grammar.proofs.Laws.{deepens_true, stops_true}
-use Rattle.c_grammar.proofs.ReadUnit.{one_unit, read_unit}
-use Rattle.c_grammar.specs.Law.{BeginsWith, DeepensTrue, GoesTrue, ReadsBack, StopsTrue, run}
+use Rattle.parse_grammar.specs.Begun.{Bytes, State, File}
+use Rattle.parse_grammar.specs.Machine.{Moved, Goes}
+use Rattle.parse_grammar.proofs.Completion.{goes_true}
+use Rattle.parse_grammar.proofs.Laws.{deepens_true, stops_true}
+use Rattle.parse_grammar.proofs.ReadUnit.{one_unit, read_unit}
+use Rattle.parse_grammar.specs.Law.{BeginsWith, DeepensTrue, GoesTrue, ReadsBack, StopsTrue, run}
 use Rattle.c_parser.specs.declared.fault.ParseFault.{ParseFault}
 use Rattle.c_parser.specs.declared.fault.ParseFault.TheVariants.{Syntax, Deep, Memory}
 use Rattle.c_parser.specs.Refused.{IsTreeOf, IsRefused, Stops}

@@ -1,14 +1,14 @@
 -- The run over words, one word more.
 use Rattle.std.proofs.Common.{◌≡◌, ℕ, ◌+◌, ◌≤◌, List, [], ◌∷◌, ◌++◌, length, map, refl, sym, ◌∙◌, ap, subst, arith, Result, Ok, Err, IfErr, IsErrAnd}
 use Rattle.std.proofs.lemmas.List.{length-map}
-use Rattle.c_begun.specs.declared.begun.State as states
-use Rattle.c_begun.specs.View.{Names, state_of}
-use Rattle.c_grammar.specs.Begun.{State}
-use Rattle.c_grammar.specs.Depth.{deep}
-use Rattle.c_grammar.specs.Law.{run}
-use Rattle.c_grammar.specs.Machine.{Goes, step}
-use Rattle.c_lexeme.specs.declared.lexeme.Word.{Word}
-use Rattle.c_lexeme.specs.Lexemes.{word_said}
+use Rattle.parse_begun.specs.declared.begun.State as states
+use Rattle.parse_begun.specs.View.{Names, state_of}
+use Rattle.parse_grammar.specs.Begun.{State}
+use Rattle.parse_grammar.specs.Depth.{deep}
+use Rattle.parse_grammar.specs.Law.{run}
+use Rattle.parse_grammar.specs.Machine.{Goes, step}
+use Rattle.parse_lexeme.specs.declared.lexeme.Word.{Word}
+use Rattle.parse_lexeme.specs.Lexemes.{word_said}
 use Rattle.c_parser.proofs.Reading.{run_push, stopped}
 use Rattle.c_parser.specs.declared.fault.ParseFault.{ParseFault}
 use Rattle.c_parser.specs.Refused.{Halts, Stops}

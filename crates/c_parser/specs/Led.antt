@@ -2,14 +2,14 @@
 use Rattle.std.specs.Prelude.{◌≡◌, List, length, map}
 use Rattle.c_tree.specs.Names.{name_of}
 use Rattle.c_tree.specs.Spelling.{Spoken}
-use Rattle.c_begun.specs.declared.begun.State as states
-use Rattle.c_begun.specs.View.{Names, state_of}
-use Rattle.c_grammar.specs.Begun.{Bytes}
-use Rattle.c_grammar.specs.Law.{run}
-use Rattle.c_grammar.specs.Machine.{Goes}
-use Rattle.c_lexeme.specs.declared.lexeme.Word.{Word}
-use Rattle.c_lexeme.specs.Lexemes.{word_said}
-use Rattle.c_words.specs.Words.{AreNumbered}
+use Rattle.parse_begun.specs.declared.begun.State as states
+use Rattle.parse_begun.specs.View.{Names, state_of}
+use Rattle.parse_grammar.specs.Begun.{Bytes}
+use Rattle.parse_grammar.specs.Law.{run}
+use Rattle.parse_grammar.specs.Machine.{Goes}
+use Rattle.parse_lexeme.specs.declared.lexeme.Word.{Word}
+use Rattle.parse_lexeme.specs.Lexemes.{word_said}
+use Rattle.parse_words.specs.Words.{AreNumbered}
 
 -- whatever the names are, these words lead to the state; with these names they say what the tokens say
 pub record Led (state : states.State) (names : List Bytes) (tokens : List Spoken) : Type 0 where

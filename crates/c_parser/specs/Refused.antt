@@ -4,10 +4,10 @@ use Rattle.c_tree.specs.Formed.{IsFormedUnit}
 use Rattle.c_tree.specs.Size.{size_unit}
 use Rattle.c_tree.specs.Spelling.{Spoken, Agree, spell_unit}
 use Rattle.c_tree.specs.Tree.{Nothing, TranslationUnit}
-use Rattle.c_grammar.specs.Begun.{Bytes, State, File}
-use Rattle.c_grammar.specs.Machine.{Moved, Goes, Stuck}
-use Rattle.c_grammar.specs.Depth.{deep}
-use Rattle.c_grammar.specs.Law.{BeginsWith, run}
+use Rattle.parse_grammar.specs.Begun.{Bytes, State, File}
+use Rattle.parse_grammar.specs.Machine.{Moved, Goes, Stuck}
+use Rattle.parse_grammar.specs.Depth.{deep}
+use Rattle.parse_grammar.specs.Law.{BeginsWith, run}
 use Rattle.c_parser.specs.declared.fault.ParseFault.{ParseFault}
 use Rattle.c_parser.specs.declared.fault.ParseFault.TheVariants.{Syntax, Deep, Memory}
 

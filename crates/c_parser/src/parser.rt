@@ -10,7 +10,7 @@ use super::fault::ParseFault;
 use super::read::read;
 use super::unit::finish;
 use c_tree::{Tokens, Unit};
-use c_words::{Words, read_words};
+use parse_words::{Words, read_words};
 use std::alloc::Global;
 
 /// The one well-formed tree that the tokens are the spelling of, at most 256 nodes deep.

@@ -1,18 +1,18 @@
 ghost use Rattle.std.specs.Prelude.{◌≡◌, ◌<◌, ◌≤◌, ◌^◌, length, map, IfErr, IfOk};
-ghost use Rattle.c_begun.specs.Depths.{state_depth};
-ghost use Rattle.c_begun.specs.View.{Names, state_of};
-ghost use Rattle.c_grammar.specs.Law.{run};
-ghost use Rattle.c_grammar.specs.Machine.{Goes, step};
+ghost use Rattle.parse_begun.specs.Depths.{state_depth};
+ghost use Rattle.parse_begun.specs.View.{Names, state_of};
+ghost use Rattle.parse_grammar.specs.Law.{run};
+ghost use Rattle.parse_grammar.specs.Machine.{Goes, step};
 ghost use Rattle.c_parser.specs.Refused.{Halts, Stops};
-ghost use Rattle.c_lexeme.specs.Lexemes.{word_said};
+ghost use Rattle.parse_lexeme.specs.Lexemes.{word_said};
 
 use super::fault::ParseFault;
 use super::step::step;
-use c_begun::begun::State;
-use c_begun::list::no_externals;
-use c_begun::refusal::Refusal;
-use c_depth::is_shallow;
-use c_lexeme::Word;
+use parse_begun::begun::State;
+use parse_begun::list::no_externals;
+use parse_begun::refusal::Refusal;
+use parse_depth::is_shallow;
+use parse_lexeme::Word;
 use std::alloc::Global;
 
 /// The state behind one word more.

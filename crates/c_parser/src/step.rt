@@ -1,27 +1,27 @@
 ghost use Rattle.std.specs.Prelude.{◌≤◌};
-ghost use Rattle.c_begun.specs.Depths.{state_depth};
-ghost use Rattle.c_begun.specs.View.{Gives, Names, state_of};
-ghost use Rattle.c_grammar.specs.Machine.{step};
-ghost use Rattle.c_lexeme.specs.Lexemes.{word_said};
+ghost use Rattle.parse_begun.specs.Depths.{state_depth};
+ghost use Rattle.parse_begun.specs.View.{Gives, Names, state_of};
+ghost use Rattle.parse_grammar.specs.Machine.{step};
+ghost use Rattle.parse_lexeme.specs.Lexemes.{word_said};
 
-use c_begun::begun::State;
-use c_begun::refusal::Refusal;
-use c_declaration::object::{
+use parse_begun::begun::State;
+use parse_begun::refusal::Refusal;
+use parse_declaration::object::{
     begin_initial, begin_size, end_object_by, go_on_declared, go_on_listed, go_on_named,
     go_on_shaped,
 };
-use c_declaration::parameter::{begin_param, begin_params, end_params, go_on_param};
-use c_declaration::specifiers::{begin_further, go_on_specified};
-use c_ending::behind::{begin_arguments, begin_bracket, behind_operand, go_on_type};
-use c_lexeme::Word;
-use c_operand::operand::begin_operand;
-use c_statement::begins::{begin_any_statement, begin_bounded_loop};
-use c_statement::heads::{
+use parse_declaration::parameter::{begin_param, begin_params, end_params, go_on_param};
+use parse_declaration::specifiers::{begin_further, go_on_specified};
+use parse_ending::behind::{begin_arguments, begin_bracket, behind_operand, go_on_type};
+use parse_lexeme::Word;
+use parse_operand::operand::begin_operand;
+use parse_statement::begins::{begin_any_statement, begin_bounded_loop};
+use parse_statement::heads::{
     begin_answer, begin_loop_start, begin_loop_step, begin_loop_test, close_statement, open_for,
     open_test,
 };
-use c_statement::items::{end_default, go_on_among, go_on_at_file_level, open_choice};
-use c_statement::settle::settle_statement;
+use parse_statement::items::{end_default, go_on_among, go_on_at_file_level, open_choice};
+use parse_statement::settle::settle_statement;
 use std::alloc::Global;
 
 /// One step of the machine: what a token does there.

@@ -1,7 +1,7 @@
 ghost use Rattle.std.specs.Prelude.{◌≡◌, ◌+◌, ◌<◌, ◌≤◌, ◌^◌, ℕ, [], length, IfErr, IfNone, IfOk, IfSome};
-ghost use Rattle.c_begun.specs.Depths.{state_depth};
-ghost use Rattle.c_begun.specs.View.{Names, externals_of, state_of};
-ghost use Rattle.c_grammar.specs.Begun.{Bytes, File};
+ghost use Rattle.parse_begun.specs.Depths.{state_depth};
+ghost use Rattle.parse_begun.specs.View.{Names, externals_of, state_of};
+ghost use Rattle.parse_grammar.specs.Begun.{Bytes, File};
 ghost use Rattle.c_parser.specs.Led.{Led};
 ghost use Rattle.c_parser.specs.Refused.{IsTreeOf, Stops};
 ghost use Rattle.c_parser.specs.declared.fault.ParseFault.TheVariants.{Syntax};
@@ -16,11 +16,11 @@ ghost use Rattle.c_tree.specs.Units.{named_tree_of};
 ghost use Rattle.c_tree.specs.View.{external_of, row_of, unit_of};
 
 use super::fault::ParseFault;
-use c_begun::begun::State;
-use c_begun::list::let_externals_go;
-use c_begun::part::ExternalParts;
 use c_tree::external::External;
 use c_tree::{Tokens, Unit};
+use parse_begun::begun::State;
+use parse_begun::list::let_externals_go;
+use parse_begun::part::ExternalParts;
 use wcc_base::Text;
 
 /// The place of the first of these.

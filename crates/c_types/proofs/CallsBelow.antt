@@ -8,24 +8,24 @@ use Rattle.c_tree.specs.Tree.{Row, Nothing, Then, Expr, Number, Character, Name,
 use Rattle.c_tree.specs.declared.expression.BinaryOperator.{BinaryOperator}
 use Rattle.c_tree.specs.declared.expression.BinaryOperator.TheVariants as binary
 use Rattle.c_tree.specs.declared.expression.PrefixOperator.{PrefixOperator}
-use Rattle.c_typed.specs.Tree as typed
-use Rattle.c_typed.specs.declared.expression.Callee.TheVariants.{Getchar, Putchar, Function as Own}
-use Rattle.c_value.specs.Kinds.{promoted, same_kind}
-use Rattle.c_value.specs.declared.kind.Kind.{Kind}
-use Rattle.c_value.specs.declared.operator.Operator.{Operator}
-use Rattle.c_value.specs.declared.operator.Sign.{Sign}
-use Rattle.c_rules.specs.DeclarationRules.{Base, after_object, base_of, is_filled, within_function}
-use Rattle.c_rules.specs.Operations.{left_kind, operator_of, right_kind, sign_of, update_of}
-use Rattle.c_rules.specs.Scope.{Around, Outline, after_row, entered, found, index_of, or_zero, params_of, unseen, with_loop}
-use Rattle.c_rules.specs.Sights.{after_external, body_around}
-use Rattle.c_rules.specs.Specifiers.{kind_spelled}
-use Rattle.c_rules.specs.StatementRules.{after, after_items, within_for}
-use Rattle.c_rules.specs.Types.{callee, count, kind_of, takes_array}
-use Rattle.c_rules.specs.Typing.{and_object, and_param, argument_of, callee_of, converted, filling_of, operated, option_at, place_in, typed_arguments, typed_assign, typed_binary, typed_declaration, typed_expr, typed_function, typed_initial, typed_items, typed_label, typed_name, typed_object, typed_option, typed_params, typed_prefix, typed_row, typed_shape, typed_start, typed_statement, typed_value, value_at, values_at}
-use Rattle.c_rules.specs.declared.scope.Binding.{Binding}
-use Rattle.c_rules.specs.declared.scope.Binding.TheVariants.{Object as Thing, Function as Routine}
-use Rattle.c_rules.specs.declared.scope.ParamType.{ParamType}
-use Rattle.c_facts.specs.Calls.{called, declaration_calls, expr_calls, exprs_calls, function_calls, initial_calls, items_calls, label_calls, object_calls, objects_calls, option_calls, params_calls, place_calls, shape_calls, start_calls, statement_calls}
+use Rattle.types_tree.specs.Tree as typed
+use Rattle.types_tree.specs.declared.expression.Callee.TheVariants.{Getchar, Putchar, Function as Own}
+use Rattle.types_value.specs.Kinds.{promoted, same_kind}
+use Rattle.types_value.specs.declared.kind.Kind.{Kind}
+use Rattle.types_value.specs.declared.operator.Operator.{Operator}
+use Rattle.types_value.specs.declared.operator.Sign.{Sign}
+use Rattle.types_rules.specs.DeclarationRules.{Base, after_object, base_of, is_filled, within_function}
+use Rattle.types_rules.specs.Operations.{left_kind, operator_of, right_kind, sign_of, update_of}
+use Rattle.types_rules.specs.Scope.{Around, Outline, after_row, entered, found, index_of, or_zero, params_of, unseen, with_loop}
+use Rattle.types_rules.specs.Sights.{after_external, body_around}
+use Rattle.types_rules.specs.Specifiers.{kind_spelled}
+use Rattle.types_rules.specs.StatementRules.{after, after_items, within_for}
+use Rattle.types_rules.specs.Types.{callee, count, kind_of, takes_array}
+use Rattle.types_rules.specs.Typing.{and_object, and_param, argument_of, callee_of, converted, filling_of, operated, option_at, place_in, typed_arguments, typed_assign, typed_binary, typed_declaration, typed_expr, typed_function, typed_initial, typed_items, typed_label, typed_name, typed_object, typed_option, typed_params, typed_prefix, typed_row, typed_shape, typed_start, typed_statement, typed_value, value_at, values_at}
+use Rattle.types_rules.specs.declared.scope.Binding.{Binding}
+use Rattle.types_rules.specs.declared.scope.Binding.TheVariants.{Object as Thing, Function as Routine}
+use Rattle.types_rules.specs.declared.scope.ParamType.{ParamType}
+use Rattle.facts_definitions.specs.Calls.{called, declaration_calls, expr_calls, exprs_calls, function_calls, initial_calls, items_calls, label_calls, object_calls, objects_calls, option_calls, params_calls, place_calls, shape_calls, start_calls, statement_calls}
 use Rattle.c_types.proofs.OutlineKept as kept
 
 abbrev pub Below : ℕ → List ℕ → Type 0

@@ -6,20 +6,20 @@ use Rattle.c_tree.specs.Tree.{Nothing, NoItem}
 use Rattle.c_tree.specs.View.{items_of as source_items, param_of as source_param, row_of}
 use Rattle.c_tree.specs.declared.expression.Specifier.{Specifier}
 use Rattle.c_tree.specs.declared.external.Function as sources
-use Rattle.c_typed.specs.Tree as typed
-use Rattle.c_typed.specs.View.{items_of, param_of}
-use Rattle.c_typed.specs.declared.declaration.Param as params
-use Rattle.c_rules.specs.DeclarationRules.{after_list, function_rule, is_no_list, within_function}
-use Rattle.c_rules.specs.Scope.{Around, left, or_else}
-use Rattle.c_rules.specs.Sights.{body_around, fault_at, first_fault, items_nodes, params_nodes}
-use Rattle.c_rules.specs.Specifiers.{kind_spelled}
-use Rattle.c_rules.specs.StatementRules.{after_items, in_function}
-use Rattle.c_rules.specs.Typing.{typed_items, typed_params}
-use Rattle.c_rules.specs.declared.fault.Fault.{Fault}
-use Rattle.c_rules.specs.declared.fault.Rule.{Rule}
-use Rattle.check_expression.proofs.FirstFault.{first_fault-append}
-use Rattle.check_statement.specs.Checked.{AreTyped}
-use Rattle.check_statement.specs.declared.checked.CheckedItems.{CheckedItems}
+use Rattle.types_tree.specs.Tree as typed
+use Rattle.types_tree.specs.View.{items_of, param_of}
+use Rattle.types_tree.specs.declared.declaration.Param as params
+use Rattle.types_rules.specs.DeclarationRules.{after_list, function_rule, is_no_list, within_function}
+use Rattle.types_rules.specs.Scope.{Around, left, or_else}
+use Rattle.types_rules.specs.Sights.{body_around, fault_at, first_fault, items_nodes, params_nodes}
+use Rattle.types_rules.specs.Specifiers.{kind_spelled}
+use Rattle.types_rules.specs.StatementRules.{after_items, in_function}
+use Rattle.types_rules.specs.Typing.{typed_items, typed_params}
+use Rattle.types_rules.specs.declared.fault.Fault.{Fault}
+use Rattle.types_rules.specs.declared.fault.Rule.{Rule}
+use Rattle.types_expression.proofs.FirstFault.{first_fault-append}
+use Rattle.types_statement.specs.Checked.{AreTyped}
+use Rattle.types_statement.specs.declared.checked.CheckedItems.{CheckedItems}
 use Rattle.c_types.specs.Unit.{IsFunction, definition_fault}
 
 pub function_is : (s : sources.Function) (specifiers : Vec Specifier Global) (made : Vec params.Param Global) (body : CheckedItems) (first : ℕ) (a within inside behind end : Around) (rule : Option Rule) (declared fault : Option Fault)

@@ -3,11 +3,11 @@ use Rattle.std.proofs.Common.{◌≡◌, refl, ◌∙◌, sym, ℕ, List, [], �
 use Rattle.c_tree.specs.Tree.{Row, Then, External, Restriction, Declaring, Function}
 use Rattle.c_tree.specs.View.{external_of, row_of}
 use Rattle.c_tree.specs.declared.external.External as externals
-use Rattle.c_typed.specs.Tree as typed
-use Rattle.c_rules.specs.Scope.{Around}
-use Rattle.c_rules.specs.Sights.{after_external, external_nodes, has_main, is_main}
-use Rattle.c_rules.specs.Typing.{typed_function}
-use Rattle.check_declaration.proofs.Rows.{Walk}
+use Rattle.types_tree.specs.Tree as typed
+use Rattle.types_rules.specs.Scope.{Around}
+use Rattle.types_rules.specs.Sights.{after_external, external_nodes, has_main, is_main}
+use Rattle.types_rules.specs.Typing.{typed_function}
+use Rattle.types_declaration.proofs.Rows.{Walk}
 
 abbrev pub externals_walk : Walk externals.External (External ℕ)
 externals_walk = record { view = external_of; step = after_external; nodes = external_nodes }

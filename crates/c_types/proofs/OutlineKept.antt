@@ -2,10 +2,10 @@
 use Rattle.std.proofs.Common.{◌≡◌, refl, ◌∙◌, ℕ, Bool, true, false, if◌then◌else◌, List, Some, None}
 use Rattle.c_tree.specs.Tree.{Row, Nothing, Then, Object, Declared, Param, Parameter, Declaration, Objects, Prototype, ForStart, NoStart, StartValue, StartDeclaration, Statement, Block, Empty, Evaluate, Marker, If, IfElse, While, Do, For, Switch, Break, Continue, Return, Items, NoItem, AndDeclaration, AndStatement, AndRestriction, AndLabel, External, Restriction, Declaring, Function}
 use Rattle.c_tree.specs.declared.expression.Specifier.{Specifier}
-use Rattle.c_rules.specs.DeclarationRules.{Base, after_declaration, after_object, after_param, after_params, base_of, extent_of, is_filled, is_no_list, with_filling, within_function}
-use Rattle.c_rules.specs.Scope.{Around, after_row, entered, with_loop, with_object}
-use Rattle.c_rules.specs.Sights.{after_external, body_around}
-use Rattle.c_rules.specs.StatementRules.{after, after_items, after_start, within_for}
+use Rattle.types_rules.specs.DeclarationRules.{Base, after_declaration, after_object, after_param, after_params, base_of, extent_of, is_filled, is_no_list, with_filling, within_function}
+use Rattle.types_rules.specs.Scope.{Around, after_row, entered, with_loop, with_object}
+use Rattle.types_rules.specs.Sights.{after_external, body_around}
+use Rattle.types_rules.specs.StatementRules.{after, after_items, after_start, within_for}
 
 filling : (b : Bool) (a : Around) → (with_filling b a).outline ≡ a.outline
 filling true a = refl

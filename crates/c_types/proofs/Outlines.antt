@@ -4,8 +4,8 @@ use Rattle.c_tree.specs.Tree.{Row, Then, External}
 use Rattle.c_tree.specs.View.{external_of, row_of}
 use Rattle.c_tree.specs.declared.external.External as externals
 use Rattle.c_tree.specs.declared.external.External.TheVariants as external
-use Rattle.c_rules.specs.Scope.{Outline}
-use Rattle.c_rules.specs.Sights.{definitions}
+use Rattle.types_rules.specs.Scope.{Outline}
+use Rattle.types_rules.specs.Sights.{definitions}
 use Rattle.c_types.specs.Outline.{outline_from, with_external}
 
 abbrev pub outlined : Row (External ℕ) → (main getchar putchar : ℕ) → Outline

@@ -10,18 +10,18 @@ use Rattle.c_tree.specs.Named.{named_unit}
 use Rattle.c_tree.specs.Names.{AreDistinct, AreListed, AreNames, name_of, names_of_unit}
 use Rattle.c_tree.specs.Size.{size_unit}
 use Rattle.c_tree.specs.Tree.{Row, Nothing, Then, External, Restriction, Declaring, Function, TranslationUnit, Whole}
-use Rattle.c_typed.specs.Tree as typed
-use Rattle.c_typed.specs.declared.variable.Variable.{Variable}
-use Rattle.c_rules.specs.Limits.{broken, limits_before, limits_behind, tally_unit, variables_of}
-use Rattle.c_rules.specs.Scope.{Around, after_row, or_else, started, with_number}
-use Rattle.c_rules.specs.Sights.{after_external, definitions, externals_nodes, fault_at, first_fault, has_main, outline_of, unit_nodes, unit_rule}
-use Rattle.c_rules.specs.Typing.{typed_function, typed_row}
-use Rattle.c_rules.specs.declared.fault.Fault.{Fault}
-use Rattle.c_rules.specs.declared.fault.Rule.{Rule}
-use Rattle.c_rules.specs.declared.fault.Rule.TheVariants as rules
-use Rattle.c_rules.specs.declared.fault.TypeFault.{TypeFault}
-use Rattle.c_rules.specs.declared.fault.TypeFault.TheVariants.{Limit, Rule as BreaksRule, Memory}
-use Rattle.c_facts.specs.Calls.{function_calls}
+use Rattle.types_tree.specs.Tree as typed
+use Rattle.types_tree.specs.declared.variable.Variable.{Variable}
+use Rattle.types_rules.specs.Limits.{broken, limits_before, limits_behind, tally_unit, variables_of}
+use Rattle.types_rules.specs.Scope.{Around, after_row, or_else, started, with_number}
+use Rattle.types_rules.specs.Sights.{after_external, definitions, externals_nodes, fault_at, first_fault, has_main, outline_of, unit_nodes, unit_rule}
+use Rattle.types_rules.specs.Typing.{typed_function, typed_row}
+use Rattle.types_rules.specs.declared.fault.Fault.{Fault}
+use Rattle.types_rules.specs.declared.fault.Rule.{Rule}
+use Rattle.types_rules.specs.declared.fault.Rule.TheVariants as rules
+use Rattle.types_rules.specs.declared.fault.TypeFault.{TypeFault}
+use Rattle.types_rules.specs.declared.fault.TypeFault.TheVariants.{Limit, Rule as BreaksRule, Memory}
+use Rattle.facts_definitions.specs.Calls.{function_calls}
 use Rattle.c_types.specs.Typed.{CallsDefined, IsTypedTree, Refuses, fault_behind, fault_of, typed_of}
 use Rattle.c_types.proofs.CallsBelow.{Below, functions_below, safe}
 

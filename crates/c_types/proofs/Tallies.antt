@@ -5,9 +5,9 @@ use Rattle.c_tree.specs.View.{and_item, external_of, items_of, param_of, row_of}
 use Rattle.c_tree.specs.declared.external.External as externals
 use Rattle.c_tree.specs.declared.declaration.Param as params
 use Rattle.c_tree.specs.declared.statement.Item as items
-use Rattle.c_rules.specs.DeclarationRules.{is_no_list}
-use Rattle.c_rules.specs.Limits.{Tally, joined, nothing_counted, parameter_count, row_length, tally_external, tally_externals, tally_items}
-use Rattle.c_rules.specs.Scope.{or_else}
+use Rattle.types_rules.specs.DeclarationRules.{is_no_list}
+use Rattle.types_rules.specs.Limits.{Tally, joined, nothing_counted, parameter_count, row_length, tally_external, tally_externals, tally_items}
+use Rattle.types_rules.specs.Scope.{or_else}
 use Rattle.c_types.specs.Tally.{tally_item}
 
 abbrev pub tally_each : {A : Type 0} → (A → Tally) → List A → Tally → Tally

@@ -2,7 +2,7 @@
 use Rattle.std.specs.Prelude.{ℕ, List, [], ◌∷◌}
 use Rattle.c_tree.specs.declared.external.External as externals
 use Rattle.c_tree.specs.declared.external.External.TheVariants as external
-use Rattle.c_rules.specs.Scope.{Outline, with_number}
+use Rattle.types_rules.specs.Scope.{Outline, with_number}
 
 -- with one more definition
 abbrev pub with_defined : ℕ → Outline → Outline

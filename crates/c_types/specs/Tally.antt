@@ -1,7 +1,7 @@
 -- What is counted, as the code has it.
 use Rattle.c_tree.specs.View.{declaration_of, statement_of}
 use Rattle.c_tree.specs.declared.statement.Item as items
-use Rattle.c_rules.specs.Limits.{Tally, nothing_counted, one_restriction, tally_declaration, tally_statement}
+use Rattle.types_rules.specs.Limits.{Tally, nothing_counted, one_restriction, tally_declaration, tally_statement}
 use Rattle.c_types.specs.declared.tally.Tally as code
 
 abbrev pub tally_said : code.Tally → Tally

@@ -6,15 +6,15 @@ use Rattle.c_tree.specs.Names.{AreDistinct, AreListed, AreNames, name_of, names_
 use Rattle.c_tree.specs.Named.{named_unit}
 use Rattle.c_tree.specs.Size.{size_unit}
 use Rattle.c_tree.specs.Tree.{TranslationUnit}
-use Rattle.c_typed.specs.Tree.{Program}
-use Rattle.c_facts.specs.Calls.{function_calls}
-use Rattle.c_typed.specs.View.{external_of, function_of}
-use Rattle.c_rules.specs.Limits.{broken, limits_behind, unit_fault, variables_of}
-use Rattle.c_rules.specs.Scope.{Outline, or_else}
-use Rattle.c_rules.specs.Sights.{first_fault, outline_of, unit_nodes}
-use Rattle.c_rules.specs.Typing.{typed_unit}
-use Rattle.c_rules.specs.declared.fault.TypeFault.{TypeFault}
-use Rattle.c_rules.specs.declared.fault.TypeFault.TheVariants.{Limit, Rule, Memory}
+use Rattle.types_tree.specs.Tree.{Program}
+use Rattle.facts_definitions.specs.Calls.{function_calls}
+use Rattle.types_tree.specs.View.{external_of, function_of}
+use Rattle.types_rules.specs.Limits.{broken, limits_behind, unit_fault, variables_of}
+use Rattle.types_rules.specs.Scope.{Outline, or_else}
+use Rattle.types_rules.specs.Sights.{first_fault, outline_of, unit_nodes}
+use Rattle.types_rules.specs.Typing.{typed_unit}
+use Rattle.types_rules.specs.declared.fault.TypeFault.{TypeFault}
+use Rattle.types_rules.specs.declared.fault.TypeFault.TheVariants.{Limit, Rule, Memory}
 use Rattle.c_types.specs.declared.checker.Draft.{Draft}
 
 -- why a unit with these names has no typed tree

@@ -4,13 +4,13 @@ use Rattle.c_tree.specs.Tree.{Row, Nothing, Param}
 use Rattle.c_tree.specs.View.{external_of as source_external, function_of as source_function, row_of}
 use Rattle.c_tree.specs.declared.external.External as sources
 use Rattle.c_tree.specs.declared.external.Function as source_functions
-use Rattle.c_typed.specs.View.{external_of, function_of}
-use Rattle.c_typed.specs.declared.external.Function as functions
-use Rattle.c_rules.specs.DeclarationRules.{is_no_list}
-use Rattle.c_rules.specs.Scope.{Around}
-use Rattle.c_rules.specs.Sights.{after_external, after_externals, external_nodes, externals_nodes, first_fault, params_nodes}
-use Rattle.c_rules.specs.Typing.{and_external, typed_external, typed_function, typed_row}
-use Rattle.c_rules.specs.declared.fault.Fault.{Fault}
+use Rattle.types_tree.specs.View.{external_of, function_of}
+use Rattle.types_tree.specs.declared.external.Function as functions
+use Rattle.types_rules.specs.DeclarationRules.{is_no_list}
+use Rattle.types_rules.specs.Scope.{Around}
+use Rattle.types_rules.specs.Sights.{after_external, after_externals, external_nodes, externals_nodes, first_fault, params_nodes}
+use Rattle.types_rules.specs.Typing.{and_external, typed_external, typed_function, typed_row}
+use Rattle.types_rules.specs.declared.fault.Fault.{Fault}
 use Rattle.c_types.specs.declared.unit.CheckedExternal.{CheckedExternal}
 use Rattle.c_types.specs.declared.unit.CheckedExternals.{CheckedExternals}
 use Rattle.c_types.specs.declared.unit.CheckedFunction.{CheckedFunction}

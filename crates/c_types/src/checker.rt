@@ -4,10 +4,10 @@ ghost use Rattle.c_tree.specs.Size.{size_unit};
 ghost use Rattle.c_tree.specs.Tree.{Nothing};
 ghost use Rattle.c_tree.specs.Units.{tree_of};
 ghost use Rattle.c_tree.specs.View.{external_of, row_of};
-ghost use Rattle.c_typed.specs.View.{program_of};
-ghost use Rattle.c_rules.specs.Limits.{broken, limits_before, tally_unit};
-ghost use Rattle.c_rules.specs.Sights.{has_main, is_main};
-ghost use Rattle.c_rules.specs.declared.fault.Rule.TheVariants as rules;
+ghost use Rattle.types_tree.specs.View.{program_of};
+ghost use Rattle.types_rules.specs.Limits.{broken, limits_before, tally_unit};
+ghost use Rattle.types_rules.specs.Sights.{has_main, is_main};
+ghost use Rattle.types_rules.specs.declared.fault.Rule.TheVariants as rules;
 ghost use Rattle.c_types.specs.Typed.{IsDraft, Refuses, fault_of, typed_of};
 
 use super::limits::{fault_or, limits_before, limits_behind};
@@ -15,17 +15,17 @@ use super::outline::outline;
 use super::tally::tally_externals;
 use super::typed::Typed;
 use super::unit::check_externals;
-use c_rules::{Fault, Rule, TypeFault, kind_spelled};
-use c_scope::Table;
 use c_tree::external::External as Source;
 use c_tree::{Unit, nodes};
-use c_typed::external::{External, Function};
-use c_typed::program::Program;
-use c_typed::variable::Variable;
-use c_value::Kind;
-use check_declaration::{both, fault_at, is_no_list};
-use check_expression::first_of;
 use std::alloc::{AllocError, Global};
+use types_declaration::{both, fault_at, is_no_list};
+use types_expression::first_of;
+use types_rules::{Fault, Rule, TypeFault, kind_spelled};
+use types_scope::Table;
+use types_tree::external::{External, Function};
+use types_tree::program::Program;
+use types_tree::variable::Variable;
+use types_value::Kind;
 
 /// What was found in a unit.
 #[derive(Drop)]

@@ -11,6 +11,6 @@ mod tally;
 mod typed;
 mod unit;
 
-pub use c_facts::Ranks;
 pub use checker::check;
+pub use facts_definitions::Ranks;
 pub use typed::Typed;

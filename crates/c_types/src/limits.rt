@@ -1,14 +1,14 @@
 // The limits of a unit.
 ghost use Rattle.std.specs.Prelude.{◌≡◌, ◌+◌, IfOk};
-ghost use Rattle.c_rules.specs.Limits.{global_bytes, global_bytes_of, limit, limits_before, limits_behind, local_bytes, local_bytes_of, object_bytes, over};
-ghost use Rattle.c_rules.specs.Scope.{or_else};
+ghost use Rattle.types_rules.specs.Limits.{global_bytes, global_bytes_of, limit, limits_before, limits_behind, local_bytes, local_bytes_of, object_bytes, over};
+ghost use Rattle.types_rules.specs.Scope.{or_else};
 ghost use Rattle.c_types.specs.Tally.{tally_said};
 
 use super::tally::Tally;
-use c_rules::TypeFault;
-use c_typed::variable::{Duration, Extent, Variable};
-use c_value::Kind;
 use std::alloc::AllocError;
+use types_rules::TypeFault;
+use types_tree::variable::{Duration, Extent, Variable};
+use types_value::Kind;
 use wcc_base::{Bound, limit_of};
 
 /// A number that is over its limit.

@@ -2,13 +2,13 @@
 ghost use Rattle.std.specs.Prelude.{◌≡◌, nat_eq, IfOk, OnOk};
 ghost use Rattle.std.specs.Cmp.Lexicographic.{pointwise};
 ghost use Rattle.c_tree.specs.Units.{tree_of};
-ghost use Rattle.c_rules.specs.Sights.{number_of, outline_of};
+ghost use Rattle.types_rules.specs.Sights.{number_of, outline_of};
 ghost use Rattle.c_types.specs.Outline.{outline_from, with_external};
 
-use c_scope::{Known, narrow};
 use c_tree::Unit;
 use c_tree::external::External;
 use std::alloc::{AllocError, Global};
+use types_scope::{Known, narrow};
 use wcc_base::Text;
 
 fn is_named(text: &Text, name: &[u8]) -> bool

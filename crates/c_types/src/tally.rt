@@ -2,16 +2,16 @@
 ghost use Rattle.std.specs.Prelude.{◌≡◌, ◌+◌, IfOk};
 ghost use Rattle.c_tree.specs.Tree.{NoItem, Nothing};
 ghost use Rattle.c_tree.specs.View.{declaration_of, external_of, function_of, items_of, param_of, row_of, start_of, statement_of};
-ghost use Rattle.c_rules.specs.Limits.{joined, nothing_counted, one_function, one_marker, one_restriction, over, parameter_count, tally_declaration, tally_external, tally_externals, tally_items, tally_params, tally_start, tally_statement};
-ghost use Rattle.c_rules.specs.Scope.{or_else};
+ghost use Rattle.types_rules.specs.Limits.{joined, nothing_counted, one_function, one_marker, one_restriction, over, parameter_count, tally_declaration, tally_external, tally_externals, tally_items, tally_params, tally_start, tally_statement};
+ghost use Rattle.types_rules.specs.Scope.{or_else};
 ghost use Rattle.c_types.specs.Tally.{tally_item, tally_said};
 
 use super::limits::over;
 use c_tree::declaration::{Declaration, Param};
 use c_tree::external::{External, Function};
 use c_tree::statement::{ForStart, Item, Statement};
-use check_declaration::is_no_list;
 use std::alloc::AllocError;
+use types_declaration::is_no_list;
 use wcc_base::Bound;
 
 /// What is counted. Of the numbers of parameters it is the first above the limit.

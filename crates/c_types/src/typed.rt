@@ -1,8 +1,8 @@
 ghost use Rattle.std.specs.Prelude.{◌≡◌};
 ghost use Rattle.c_types.specs.Typed.{CallsDefined, IsTypedTree};
-ghost use Rattle.c_typed.specs.View.{program_of};
+ghost use Rattle.types_tree.specs.View.{program_of};
 
-use c_typed::program::Program;
+use types_tree::program::Program;
 
 /// A typed program. It is the typed tree of a well-formed unit that is at most 256 nodes deep, within the limits
 /// and fails no rule, and each call is of a function that it defines.

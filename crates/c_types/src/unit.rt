@@ -2,24 +2,24 @@
 ghost use Rattle.std.specs.Prelude.{◌≡◌, ◌++◌, ◌∷◌, [], IfOk, OnOk};
 ghost use Rattle.c_tree.specs.Tree.{Nothing};
 ghost use Rattle.c_tree.specs.View.{function_of as source_function, param_of as source_param, row_of};
-ghost use Rattle.c_rules.specs.DeclarationRules.{after_list, function_rule, redefines, routine};
-ghost use Rattle.c_rules.specs.Scope.{with_definition, with_routine};
+ghost use Rattle.types_rules.specs.DeclarationRules.{after_list, function_rule, redefines, routine};
+ghost use Rattle.types_rules.specs.Scope.{with_definition, with_routine};
 ghost use Rattle.c_types.specs.Unit.{AreExternals, IsExternal, IsFunction, definition_fault};
 
-use c_rules::{Fault, Rule, are_wrong, kind_spelled};
-use c_scope::{Table, narrow};
 use c_tree::declaration::Param;
 use c_tree::expression::{NameId, Specifier};
 use c_tree::external::{External as Source, Function as SourceFunction};
-use c_typed::expression::{FunctionId, ObjectId};
-use c_typed::external::{External, Function};
-use check_declaration::{
+use std::alloc::{AllocError, Global};
+use types_declaration::{
     check_declaration, check_params, copy_specifiers, declare_params, either, fault_at, is_no_list,
     redeclares, routine, rule_or, when,
 };
-use check_expression::first_of;
-use check_statement::{Within, check_body, copy_pragma};
-use std::alloc::{AllocError, Global};
+use types_expression::first_of;
+use types_rules::{Fault, Rule, are_wrong, kind_spelled};
+use types_scope::{Table, narrow};
+use types_statement::{Within, check_body, copy_pragma};
+use types_tree::expression::{FunctionId, ObjectId};
+use types_tree::external::{External, Function};
 
 /// What was found in a function.
 #[derive(Drop)]

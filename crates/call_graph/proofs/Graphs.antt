@@ -3,11 +3,11 @@ use Rattle.std.proofs.Common.{◌≡◌, refl, ap, ◌∙◌, sym, subst, ℕ, z
 use Rattle.std.proofs.Math.ListN.{drop_of_length-le}
 use Rattle.std.proofs.lemmas.List.{append-nil}
 use Rattle.std.proofs.lemmas.Bool.{ltb-true}
-use Rattle.c_facts.specs.Calls.{calls_below, function_calls, graph_of}
-use Rattle.c_facts.specs.Chains.{Among}
-use Rattle.c_typed.specs.Tree as typed
-use Rattle.c_typed.specs.View.{function_of}
-use Rattle.c_typed.specs.declared.external.Function as functions
+use Rattle.facts_definitions.specs.Calls.{calls_below, function_calls, graph_of}
+use Rattle.facts_definitions.specs.Chains.{Among}
+use Rattle.types_tree.specs.Tree as typed
+use Rattle.types_tree.specs.View.{function_of}
+use Rattle.types_tree.specs.declared.external.Function as functions
 use Rattle.call_graph.specs.Items.{kept_calls}
 use Rattle.call_graph.specs.Search.{IsInRange}
 

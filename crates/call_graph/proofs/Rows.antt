@@ -2,13 +2,13 @@
 use Rattle.std.proofs.Common.{◌≡◌, ap, ◌++◌, ℕ}
 use Rattle.std.specs.Prelude.{Vec}
 use Rattle.std.specs.Global.{Global}
-use Rattle.c_facts.specs.Calls.{called, expr_calls, exprs_calls, items_calls, statement_calls}
-use Rattle.c_typed.proofs.Rows.{block_view, call_view, switch_view}
-use Rattle.c_typed.specs.View.{expr_of, exprs_of, items_of, statement_of}
-use Rattle.c_typed.specs.declared.expression.Callee.{Callee}
-use Rattle.c_typed.specs.declared.expression.Expr as exprs
-use Rattle.c_typed.specs.declared.statement.Item as items
-use Rattle.c_typed.specs.declared.statement.Statement as statements
+use Rattle.facts_definitions.specs.Calls.{called, expr_calls, exprs_calls, items_calls, statement_calls}
+use Rattle.types_tree.proofs.Rows.{block_view, call_view, switch_view}
+use Rattle.types_tree.specs.View.{expr_of, exprs_of, items_of, statement_of}
+use Rattle.types_tree.specs.declared.expression.Callee.{Callee}
+use Rattle.types_tree.specs.declared.expression.Expr as exprs
+use Rattle.types_tree.specs.declared.statement.Item as items
+use Rattle.types_tree.specs.declared.statement.Statement as statements
 
 pub call_calls : (callee : Callee) (v : Vec exprs.Expr Global) (at : ℕ) → expr_calls (expr_of (exprs.Call callee v at)) ≡ called callee ++ exprs_calls (exprs_of v.items)
 call_calls callee v at = ap expr_calls (call_view callee v at)

@@ -1,10 +1,10 @@
 -- The calls in an item, as the code has it.
 use Rattle.std.specs.Prelude.{ℕ, List, []}
-use Rattle.c_facts.specs.Calls.{calls_below, declaration_calls, function_calls, label_calls, statement_calls}
-use Rattle.c_typed.specs.View.{declaration_of, function_of, label_of, statement_of}
-use Rattle.c_typed.specs.declared.external.Function as functions
-use Rattle.c_typed.specs.declared.statement.Item.{Item}
-use Rattle.c_typed.specs.declared.statement.Item.TheVariants.{Declaration, Statement, Restriction, Label}
+use Rattle.facts_definitions.specs.Calls.{calls_below, declaration_calls, function_calls, label_calls, statement_calls}
+use Rattle.types_tree.specs.View.{declaration_of, function_of, label_of, statement_of}
+use Rattle.types_tree.specs.declared.external.Function as functions
+use Rattle.types_tree.specs.declared.statement.Item.{Item}
+use Rattle.types_tree.specs.declared.statement.Item.TheVariants.{Declaration, Statement, Restriction, Label}
 
 abbrev pub item_calls : Item → List ℕ
 item_calls (Declaration declaration) = declaration_calls (declaration_of declaration)

@@ -1,14 +1,14 @@
 // The calls in expressions and statements.
 ghost use Rattle.std.specs.Prelude.{◌≡◌, ◌++◌, ◌∷◌, [], OnOk, map};
-ghost use Rattle.c_facts.specs.Calls.{called, declaration_calls, expr_calls, exprs_calls, initial_calls, items_calls, label_calls, object_calls, objects_calls, option_calls, param_calls, params_calls, place_calls, shape_calls, start_calls, statement_calls};
+ghost use Rattle.facts_definitions.specs.Calls.{called, declaration_calls, expr_calls, exprs_calls, initial_calls, items_calls, label_calls, object_calls, objects_calls, option_calls, param_calls, params_calls, place_calls, shape_calls, start_calls, statement_calls};
 ghost use Rattle.call_graph.specs.Items.{item_calls};
 ghost use Rattle.c_tree.specs.Named.{map_option};
-ghost use Rattle.c_typed.specs.View.{declaration_of, expr_of, exprs_of, initial_of, items_of, label_of, object_of, param_of, place_of, shape_of, start_of, statement_of};
+ghost use Rattle.types_tree.specs.View.{declaration_of, expr_of, exprs_of, initial_of, items_of, label_of, object_of, param_of, place_of, shape_of, start_of, statement_of};
 
-use c_typed::declaration::{Declaration, Initial, Object, Param, Shape};
-use c_typed::expression::{Callee, Expr, Place};
-use c_typed::statement::{ForStart, Item, Label, Statement};
 use std::alloc::AllocError;
+use types_tree::declaration::{Declaration, Initial, Object, Param, Shape};
+use types_tree::expression::{Callee, Expr, Place};
+use types_tree::statement::{ForStart, Item, Label, Statement};
 
 fn add(function: u32, calls: &mut Vec<usize>) -> Result<(), AllocError>
     ensures { OnOk result (calls.new.items ≡ calls.old.items ++ function ∷ []) }

@@ -1,14 +1,14 @@
 // Who calls whom.
 ghost use Rattle.std.specs.Prelude.{◌≡◌, ◌<◌, ◌++◌, ◌∷◌, [], length, IfOk, OnOk, filter, nat_lt};
-ghost use Rattle.c_facts.specs.Calls.{calls_below, function_calls, graph_of};
-ghost use Rattle.c_facts.specs.Chains.{Among};
-ghost use Rattle.c_typed.specs.View.{function_of, program_of};
+ghost use Rattle.facts_definitions.specs.Calls.{calls_below, function_calls, graph_of};
+ghost use Rattle.facts_definitions.specs.Chains.{Among};
+ghost use Rattle.types_tree.specs.View.{function_of, program_of};
 ghost use Rattle.call_graph.specs.Search.{IsInRange};
 
 use super::calls::{add_items, add_params};
-use c_typed::external::Function;
-use c_typed::program::Program;
 use std::alloc::{AllocError, Global};
+use types_tree::external::Function;
+use types_tree::program::Program;
 use wcc_base::Items;
 
 /// All calls in a function.

@@ -1,17 +1,17 @@
 // All ranks.
 ghost use Rattle.std.specs.Prelude.{◌≡◌, ◌<◌, ◌≤◌, length, List, ℕ, IfOk, IfErr, OnOk, ◌++◌, ◌∷◌, []};
-ghost use Rattle.c_facts.specs.Calls.{graph_of};
-ghost use Rattle.c_facts.specs.Chains.{AreRanks, IsCallFault, IsFirstCycle, Reaches};
-ghost use Rattle.c_typed.specs.View.{program_of};
+ghost use Rattle.facts_definitions.specs.Calls.{graph_of};
+ghost use Rattle.facts_definitions.specs.Chains.{AreRanks, IsCallFault, IsFirstCycle, Reaches};
+ghost use Rattle.types_tree.specs.View.{program_of};
 ghost use Rattle.call_graph.specs.Search.{IsInRange, IsRanking};
 
 use super::graph::{Mark, Stop, graph};
 use super::spread::reaches_itself;
 use super::visit::visit;
-use c_facts::{CallFault, Ranks};
-use c_typed::expression::FunctionId;
-use c_typed::program::Program;
+use facts_definitions::{CallFault, Ranks};
 use std::alloc::{AllocError, Global};
+use types_tree::expression::FunctionId;
+use types_tree::program::Program;
 use wcc_base::Items;
 
 /// The fault of a function; where its number has no 32 bits, memory would have run out before.

@@ -6,11 +6,11 @@ use Rattle.std.proofs.lemmas.List.{append-nil}
 use Rattle.std.proofs.lemmas.List.Elements.{All-head, All-tail, All-cons, All-nil, All-append, All-contains, Contains-append_cases}
 use Rattle.rv_core.specs.Instructions.{Instruction}
 use Rattle.rv_core.specs.Machine.{behind}
-use Rattle.flow_system.specs.declared.moves.Move.{Move}
-use Rattle.flow_system.specs.declared.moves.Way.{Way}
-use Rattle.flow_system.specs.declared.moves.Way.TheVariants.{Next, Branches, Jumps, Calls, Ends, Strays}
-use Rattle.flow_system.specs.Moves.{Code, move, moves_on, moves_at, moves_by}
-use Rattle.flow_system.specs.Systems.{ComesBefore, AreAscending, moves_from, has_moves}
+use Rattle.code_flow_system.specs.declared.moves.Move.{Move}
+use Rattle.code_flow_system.specs.declared.moves.Way.{Way}
+use Rattle.code_flow_system.specs.declared.moves.Way.TheVariants.{Next, Branches, Jumps, Calls, Ends, Strays}
+use Rattle.code_flow_system.specs.Moves.{Code, move, moves_on, moves_at, moves_by}
+use Rattle.code_flow_system.specs.Systems.{ComesBefore, AreAscending, moves_from, has_moves}
 use Rattle.code_flow.specs.Places.{address_at}
 use Rattle.code_flow.specs.Walks.{way_by_fetch, way_at}
 use Rattle.code_flow.specs.Faults.{collected, is_stray}

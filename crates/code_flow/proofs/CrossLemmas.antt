@@ -1,7 +1,7 @@
 -- Crossings from the end of the list of moves.
 use Rattle.std.proofs.Common.{◌≡◌, ℕ, suc, ◌+◌, ◌-◌, ◌<◌, arith, sym, ap, ◌∙◌, List, length, get_or, drop, drop-cons, Option}
-use Rattle.flow_system.specs.declared.moves.Move.{Move}
-use Rattle.flow_system.specs.Moves.{Code}
+use Rattle.code_flow_system.specs.declared.moves.Move.{Move}
+use Rattle.code_flow_system.specs.Moves.{Code}
 use Rattle.code_flow.specs.Faults.{lesser, crossing_of, crossing}
 
 pub crossing-back : (c : Code) (ms : List Move) (k : ℕ) (m : Move) (least : Option ℕ) → k < length ms → m ≡ get_or ms (length ms - 1 - k) m → least ≡ crossing c (drop (length ms - k) ms) → lesser (crossing_of c m) least ≡ crossing c (drop (length ms - (k + 1)) ms)

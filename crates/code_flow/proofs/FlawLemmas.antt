@@ -1,9 +1,9 @@
 -- The first test that holds, in one list behind another.
 use Rattle.std.proofs.Common.{◌≡◌, ℕ, suc, ◌+◌, arith, refl, ap, List, [], ◌∷◌, ◌++◌, length, Bool, true, false, Option, Some, None}
-use Rattle.flow_system.specs.declared.claims.Never.{Never}
-use Rattle.flow_system.specs.declared.claims.Within.{Within}
-use Rattle.flow_system.specs.declared.claims.LoopClaim.{LoopClaim}
-use Rattle.flow_system.specs.Claims.{exit_flaws, never_flaws, region_flaws, loop_flaws}
+use Rattle.code_flow_system.specs.declared.claims.Never.{Never}
+use Rattle.code_flow_system.specs.declared.claims.Within.{Within}
+use Rattle.code_flow_system.specs.declared.claims.LoopClaim.{LoopClaim}
+use Rattle.code_flow_system.specs.Claims.{exit_flaws, never_flaws, region_flaws, loop_flaws}
 use Rattle.code_flow.specs.Faults.{first_from}
 
 pub first_from-here : (xs ys : List Bool) (n k : ℕ) → Some k ≡ first_from n xs → Some k ≡ first_from n (xs ++ ys)

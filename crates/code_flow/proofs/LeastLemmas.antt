@@ -5,9 +5,9 @@ use Rattle.std.specs.Option.{option_to_list}
 use Rattle.std.proofs.lemmas.Bool.{and_parts}
 use Rattle.std.proofs.lemmas.Bool.Decides.{nat_tests}
 use Rattle.std.proofs.lemmas.List.Elements.{Contains-append_cases, Contains-append_left, Contains-append_right}
-use Rattle.flow_system.specs.declared.moves.Move.{Move}
-use Rattle.flow_system.specs.Moves.{Code, destinations}
-use Rattle.flow_system.specs.Reach.{IsLeast, is_resolved}
+use Rattle.code_flow_system.specs.declared.moves.Move.{Move}
+use Rattle.code_flow_system.specs.Moves.{Code, destinations}
+use Rattle.code_flow_system.specs.Reach.{IsLeast, is_resolved}
 use Rattle.code_flow.specs.Places.{address_at}
 use Rattle.code_flow.specs.Walks.{way_at}
 use Rattle.code_flow.specs.Faults.{first_from, lesser, IsLeastOf, is_stray, first_stray, crossing_to, crossing_of, crossing, entry_crossing}

@@ -13,8 +13,8 @@ use Rattle.rv_core.specs.Memory.{block_of, loaded, holds_span, number_at, read_f
 use Rattle.rv_core.specs.Machine.{fetched}
 use Rattle.rv_core.specs.Code.{decoded, word_in, instruction_in}
 use Rattle.rv_core.proofs.Framing.{block_of-length}
-use Rattle.flow_system.specs.Claims.{is_aligned}
-use Rattle.flow_system.specs.Systems.{IsPlaced}
+use Rattle.code_flow_system.specs.Claims.{is_aligned}
+use Rattle.code_flow_system.specs.Systems.{IsPlaced}
 use Rattle.code_flow.specs.Places.{place_of, address_at, all_places}
 
 pub place-address : (p : ℕ) → p < all_places → place_of (address_at p) ≡ Some p

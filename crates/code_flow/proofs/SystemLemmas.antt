@@ -11,15 +11,15 @@ use Rattle.std.proofs.lemmas.List.Elements.{All-cons, All-nil, All-contains, Con
 use Rattle.rv_core.specs.Instructions.{Instruction}
 use Rattle.rv_core.specs.Images.{Image}
 use Rattle.rv_core.specs.Code.{instruction_in}
-use Rattle.flow_system.specs.declared.moves.Move.{Move}
-use Rattle.flow_system.specs.declared.moves.Way.{Way}
-use Rattle.flow_system.specs.declared.moves.Way.TheVariants.{Next, Branches, Jumps, Calls, Ends, Strays}
-use Rattle.flow_system.specs.declared.claims.FactClaim.{FactClaim}
-use Rattle.flow_system.specs.Claims.{Claims, claim_count, is_listed, flaws, exit_flaws, never_flaws, region_flaws, loop_flaws, fact_flaws}
-use Rattle.flow_system.specs.Moves.{Code, code_by, code_of, move, way_of, moves_on, moves_at, moves_by, fetch_before, destinations, destinations_of}
-use Rattle.flow_system.specs.Reach.{GoesTo, IsReached, is_resolved, IsCode}
-use Rattle.flow_system.specs.Systems.{system_of, moves_from, has_moves, IsPlaced, AreOfInstruction, is_ecall, IsExit, IsSystem, IsFalseExit, IsBad, IsNoCode, IsFirstNoCode, IsSystemOf}
-use Rattle.flow_system.proofs.ReachLemmas.{in_destinations, from_moves, fetched_of}
+use Rattle.code_flow_system.specs.declared.moves.Move.{Move}
+use Rattle.code_flow_system.specs.declared.moves.Way.{Way}
+use Rattle.code_flow_system.specs.declared.moves.Way.TheVariants.{Next, Branches, Jumps, Calls, Ends, Strays}
+use Rattle.code_flow_system.specs.declared.claims.FactClaim.{FactClaim}
+use Rattle.code_flow_system.specs.Claims.{Claims, claim_count, is_listed, flaws, exit_flaws, never_flaws, region_flaws, loop_flaws, fact_flaws}
+use Rattle.code_flow_system.specs.Moves.{Code, code_by, code_of, move, way_of, moves_on, moves_at, moves_by, fetch_before, destinations, destinations_of}
+use Rattle.code_flow_system.specs.Reach.{GoesTo, IsReached, is_resolved, IsCode}
+use Rattle.code_flow_system.specs.Systems.{system_of, moves_from, has_moves, IsPlaced, AreOfInstruction, is_ecall, IsExit, IsSystem, IsFalseExit, IsBad, IsNoCode, IsFirstNoCode, IsSystemOf}
+use Rattle.code_flow_system.proofs.ReachLemmas.{in_destinations, from_moves, fetched_of}
 use Rattle.code_flow.specs.declared.walk.Walk.{Walk}
 use Rattle.code_flow.specs.Places.{place_of, address_at, all_places}
 use Rattle.code_flow.specs.Walks.{IsSeenAt, IsSeen, Found}

@@ -7,10 +7,10 @@ use Rattle.std.proofs.lemmas.List.Elements.{Contains-append_left, Contains-appen
 use Rattle.std.proofs.lemmas.List.Sums.{sum_by-set}
 use Rattle.std.proofs.lemmas.List.Sorted.{Contains-permutation, IsPermutation-sym}
 use Rattle.std.specs.List.Sorted.{IsPermutation}
-use Rattle.flow_system.specs.Moves.{Code, moves_at, moves_by, moves_on, destinations_of}
-use Rattle.flow_system.specs.declared.moves.Way.{Way}
-use Rattle.flow_system.specs.declared.moves.Way.TheVariants.{Next, Branches, Jumps, Calls, Ends, Strays}
-use Rattle.flow_system.specs.Reach.{GoesTo, ReachedIn, IsReached}
+use Rattle.code_flow_system.specs.Moves.{Code, moves_at, moves_by, moves_on, destinations_of}
+use Rattle.code_flow_system.specs.declared.moves.Way.{Way}
+use Rattle.code_flow_system.specs.declared.moves.Way.TheVariants.{Next, Branches, Jumps, Calls, Ends, Strays}
+use Rattle.code_flow_system.specs.Reach.{GoesTo, ReachedIn, IsReached}
 use Rattle.rv_core.specs.Instructions.{Instruction}
 use Rattle.code_flow.specs.declared.walk.Walk.{Walk}
 use Rattle.code_flow.specs.Places.{place_of, all_places}

@@ -1,7 +1,7 @@
 -- Why an image and claims have no system.
 use Rattle.rv_core.specs.Images.{Image}
-use Rattle.flow_system.specs.Claims.{Claims}
-use Rattle.flow_system.specs.Systems.{IsFirstBad, IsFirstNoCode}
+use Rattle.code_flow_system.specs.Claims.{Claims}
+use Rattle.code_flow_system.specs.Systems.{IsFirstBad, IsFirstNoCode}
 use Rattle.code_flow.specs.declared.finding.CodeFault.{CodeFault}
 use Rattle.code_flow.specs.declared.finding.CodeFault.TheVariants.{BadClaim, NotCode, Memory}
 

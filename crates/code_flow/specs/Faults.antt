@@ -1,12 +1,12 @@
 -- The first bad claim and the least address that is no code, as a pass finds them.
 use Rattle.std.specs.Prelude.{ℕ, ◌+◌, ◌==◌, ◌&&◌, not, List, [], ◌∷◌, ◌++◌, Bool, true, false, Option, Some, None, min, slice_index_or, if◌then◌else◌}
-use Rattle.flow_system.specs.declared.moves.Move.{Move}
-use Rattle.flow_system.specs.declared.moves.Way.{Way}
-use Rattle.flow_system.specs.declared.moves.Way.TheVariants.{Strays}
-use Rattle.flow_system.specs.Claims.{Claims, is_listed, flaws}
-use Rattle.flow_system.specs.Moves.{Code, moves_at}
-use Rattle.flow_system.specs.Reach.{is_resolved, IsLeast}
-use Rattle.flow_system.specs.Systems.{is_ecall}
+use Rattle.code_flow_system.specs.declared.moves.Move.{Move}
+use Rattle.code_flow_system.specs.declared.moves.Way.{Way}
+use Rattle.code_flow_system.specs.declared.moves.Way.TheVariants.{Strays}
+use Rattle.code_flow_system.specs.Claims.{Claims, is_listed, flaws}
+use Rattle.code_flow_system.specs.Moves.{Code, moves_at}
+use Rattle.code_flow_system.specs.Reach.{is_resolved, IsLeast}
+use Rattle.code_flow_system.specs.Systems.{is_ecall}
 use Rattle.code_flow.specs.declared.walk.Walk.{Walk}
 use Rattle.code_flow.specs.Places.{place_of, address_at}
 use Rattle.code_flow.specs.Walks.{way_at}

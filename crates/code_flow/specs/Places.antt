@@ -1,6 +1,6 @@
 -- Places: the words of flash and scratchpad, where code can stand, numbered from 0.
 use Rattle.std.specs.Prelude.{ℕ, ◌+◌, ◌-◌, ◌*◌, ◌/◌, ◌&&◌, Option, Some, None, nat_lt, nat_le, if◌then◌else◌}
-use Rattle.flow_system.specs.Claims.{is_aligned}
+use Rattle.code_flow_system.specs.Claims.{is_aligned}
 
 -- how many words flash has, and flash and scratchpad together
 abbrev pub flash_places : ℕ

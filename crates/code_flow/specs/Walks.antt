@@ -2,14 +2,14 @@
 use Rattle.std.specs.Prelude.{◌≡◌, ◌⊎◌, ℕ, ◌+◌, ◌*◌, ◌≤◌, List, [], ◌∷◌, length, Bool, true, false, not, Option, Some, None, Contains, slice_index_or, count_by}
 use Rattle.rv_core.specs.Machine.{behind}
 use Rattle.rv_core.specs.Instructions.{Instruction}
-use Rattle.flow_system.specs.declared.moves.Way.{Way}
-use Rattle.flow_system.specs.declared.moves.Way.TheVariants.{Next, Branches, Jumps, Calls, Ends, Strays}
+use Rattle.code_flow_system.specs.declared.moves.Way.{Way}
+use Rattle.code_flow_system.specs.declared.moves.Way.TheVariants.{Next, Branches, Jumps, Calls, Ends, Strays}
 use Rattle.std.specs.List.Sorted.{IsSorted}
 use Rattle.std.specs.Ordering.{nat_cmp}
 use Rattle.rv_core.specs.Images.{Image, AreLoadable}
-use Rattle.flow_system.specs.Claims.{Claims}
-use Rattle.flow_system.specs.Moves.{Code, code_of, way_of, fetch_before}
-use Rattle.flow_system.specs.Reach.{IsReached}
+use Rattle.code_flow_system.specs.Claims.{Claims}
+use Rattle.code_flow_system.specs.Moves.{Code, code_of, way_of, fetch_before}
+use Rattle.code_flow_system.specs.Reach.{IsReached}
 use Rattle.code_flow.specs.declared.walk.Walk.{Walk}
 use Rattle.code_flow.specs.Places.{place_of, all_places}
 

@@ -2,13 +2,13 @@
 ghost use Rattle.std.specs.Prelude.{◌≡◌, ◌∷◌, ◌++◌, [], length, OnOk, IfOk};
 ghost use Rattle.std.specs.List.Sorted.{IsSorted};
 ghost use Rattle.std.specs.Ordering.{nat_cmp};
-ghost use Rattle.flow_system.specs.Moves.{move, moves_on, moves_at, code_by};
+ghost use Rattle.code_flow_system.specs.Moves.{move, moves_on, moves_at, code_by};
 ghost use Rattle.code_flow.specs.Places.{all_places};
 ghost use Rattle.code_flow.specs.Faults.{collected};
 
 use crate::places::address;
 use crate::ways::{behind, way};
-use flow_system::{Move, Way};
+use code_flow_system::{Move, Way};
 use rv_core::{Image, Instr};
 use std::alloc::Global;
 use wcc_base::Memory;

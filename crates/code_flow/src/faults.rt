@@ -3,9 +3,9 @@ ghost use Rattle.std.specs.Prelude.{◌≡◌, ◌-◌, ◌<◌, ◌^◌, [], le
 ghost use Rattle.std.specs.List.Sorted.{IsSorted};
 ghost use Rattle.std.specs.Ordering.{nat_cmp};
 ghost use Rattle.rv_core.specs.Code.{instruction_in};
-ghost use Rattle.flow_system.specs.Moves.{code_by, code_of};
-ghost use Rattle.flow_system.specs.Reach.{resolves, is_resolved};
-ghost use Rattle.flow_system.specs.Systems.{is_ecall};
+ghost use Rattle.code_flow_system.specs.Moves.{code_by, code_of};
+ghost use Rattle.code_flow_system.specs.Reach.{resolves, is_resolved};
+ghost use Rattle.code_flow_system.specs.Systems.{is_ecall};
 ghost use Rattle.code_flow.specs.Places.{all_places};
 ghost use Rattle.code_flow.specs.Walks.{way_at};
 ghost use Rattle.code_flow.specs.Faults.{first_from, lesser, seen, false_exits, is_stray, first_stray, crossing_to, crossing_of, crossing, entry_crossing, first_of, first_bad, least_no_code};
@@ -15,7 +15,7 @@ use crate::places::{address, place};
 use crate::sorted::is_among;
 use crate::walk::Walk;
 use crate::ways::{instruction_before, sets_upper, way_at};
-use flow_system::{Claims, Move, Way};
+use code_flow_system::{Claims, Move, Way};
 use rv_core::{Effect, Image};
 
 /// Whether the walk has seen an address.

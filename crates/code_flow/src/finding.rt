@@ -2,8 +2,8 @@
 ghost use Rattle.std.specs.Prelude.{◌≡◌, ℕ, IfOk, IfErr};
 ghost use Rattle.std.specs.List.Sorted.{IsSorted};
 ghost use Rattle.std.specs.Ordering.{nat_cmp};
-ghost use Rattle.flow_system.specs.Claims.{is_listed};
-ghost use Rattle.flow_system.specs.Systems.{system_of, IsSystem, IsSystemOf};
+ghost use Rattle.code_flow_system.specs.Claims.{is_listed};
+ghost use Rattle.code_flow_system.specs.Systems.{system_of, IsSystem, IsSystemOf};
 ghost use Rattle.code_flow.specs.Walks.{Found};
 ghost use Rattle.code_flow.specs.CodeFaults.{IsFault};
 
@@ -11,7 +11,7 @@ use crate::collect::collect;
 use crate::faults::{first_bad, least_no_code};
 use crate::sorted::in_order;
 use crate::walk::{Walk, reach};
-use flow_system::{Claims, Move, System};
+use code_flow_system::{Claims, Move, System};
 use rv_core::Image;
 use std::alloc::Global;
 use thiserror::Error;

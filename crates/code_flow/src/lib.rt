@@ -3,7 +3,7 @@
 //! `system` walks from the image's entry over the moves of its instructions and collects the moves
 //! of all that is reached. It is refused with the first claim that is bad, or with the least reached
 //! address that is no code. What a system is, what claims, flows and certificates are, and what they
-//! say of runs, stands in `flow_system`, whose types are named here again.
+//! say of runs, stands in `code_flow_system`, whose types are named here again.
 //!
 //! Proved: an answered system is the one of the image and claims, a refusal is exactly the first
 //! fault, and neither can come in place of the other. `Memory` is free, so that a system is answered
@@ -27,8 +27,8 @@ mod tests;
 mod walk;
 mod ways;
 
-pub use finding::{CodeFault, system};
-pub use flow_system::{
+pub use code_flow_system::{
     Arrival, Cert, Claims, FactClaim, Flow, LoopClaim, LoopShape, Mark, Mention, Move, Never, Part,
     Span, System, Within,
 };
+pub use finding::{CodeFault, system};

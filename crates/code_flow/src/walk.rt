@@ -2,13 +2,13 @@
 ghost use Rattle.std.specs.Prelude.{◌≡◌, ◌<◌, ◌∷◌, [], length, Some, OnOk, IfOk};
 ghost use Rattle.std.specs.List.Sorted.{IsSorted};
 ghost use Rattle.std.specs.Ordering.{nat_cmp};
-ghost use Rattle.flow_system.specs.Moves.{code_by};
+ghost use Rattle.code_flow_system.specs.Moves.{code_by};
 ghost use Rattle.code_flow.specs.Places.{all_places, place_of};
 ghost use Rattle.code_flow.specs.Walks.{targets, Sees, AreUnmarked, IsFresh, IsReach};
 
 use crate::places::{PLACES, place};
 use crate::ways::{behind, way_at};
-use flow_system::Way;
+use code_flow_system::Way;
 use rv_core::Image;
 use std::alloc::Global;
 use wcc_base::Memory;

@@ -6,12 +6,12 @@ ghost use Rattle.rv_core.specs.Arithmetic.{displaced};
 ghost use Rattle.rv_core.specs.Code.{instruction_in};
 ghost use Rattle.rv_core.specs.Machine.{behind};
 ghost use Rattle.rv_core.specs.Runs.{sets_upper};
-ghost use Rattle.flow_system.specs.Claims.{is_listed};
-ghost use Rattle.flow_system.specs.Moves.{jump_way, far_target, register_way, way_of, moves_on, code_by, fetch_before};
+ghost use Rattle.code_flow_system.specs.Claims.{is_listed};
+ghost use Rattle.code_flow_system.specs.Moves.{jump_way, far_target, register_way, way_of, moves_on, code_by, fetch_before};
 ghost use Rattle.code_flow.specs.Walks.{way_at};
 
 use crate::sorted::is_among;
-use flow_system::{Move, Way};
+use code_flow_system::{Move, Way};
 use rv_core::{Effect, Image, Instr};
 use std::alloc::AllocError;
 

@@ -1,6 +1,6 @@
 // A compiler that always runs out of memory, for commands that don't compile.
 
-use source_compiler::{Built, Compiler, Options, Refusal};
+use promise_compiler::{Built, Compiler, Options, Refusal};
 use std::alloc::Global;
 
 pub struct Memoryless;

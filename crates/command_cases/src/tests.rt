@@ -1,10 +1,10 @@
 // Commands that run, evaluate, check and sum up, on stores and sinks in memory.
 
 use crate::memoryless::Memoryless;
+use command_perform::perform;
 use std::alloc::Global;
 use std::test::Fail;
 use wcc_base::{CalmSink, CalmStore, Status};
-use wcc_commands::perform;
 
 const SOURCE: &str = "int main(void) { putchar(72); return 7; }";
 

@@ -10,14 +10,14 @@ use Rattle.frac128.proofs.SignedLemmas.{mul-sub, add-mul, neg-mul}
 use Rattle.frac128.proofs.TermsLemmas.{applied-append}
 use Rattle.wcc_base.specs.declared.compare.Compare.{Compare}
 use Rattle.wcc_base.specs.declared.compare.Compare.TheVariants.{AtMost, AtLeast, Equal}
-use Rattle.flow_system.specs.declared.claims.Never.{Never}
-use Rattle.flow_system.specs.declared.claims.LoopClaim.{LoopClaim}
-use Rattle.flow_system.specs.declared.claims.FactClaim.{FactClaim}
-use Rattle.flow_system.specs.declared.cert.Cert.{Cert}
-use Rattle.flow_system.specs.Systems.{System}
-use Rattle.flow_system.specs.Counts.{KeepsNever, KeepsLoop, Compares, KeepsFact}
-use Rattle.flow_system.specs.Certificates.{Limit, never_limits, loop_limits, fact_limits, least_limit, most_limit, least_terms, most_terms, negated, size_by, IsNarrow, IsInForm}
-use Rattle.flow_system.proofs.LimitLemmas.{applied-negated}
+use Rattle.code_flow_system.specs.declared.claims.Never.{Never}
+use Rattle.code_flow_system.specs.declared.claims.LoopClaim.{LoopClaim}
+use Rattle.code_flow_system.specs.declared.claims.FactClaim.{FactClaim}
+use Rattle.code_flow_system.specs.declared.cert.Cert.{Cert}
+use Rattle.code_flow_system.specs.Systems.{System}
+use Rattle.code_flow_system.specs.Counts.{KeepsNever, KeepsLoop, Compares, KeepsFact}
+use Rattle.code_flow_system.specs.Certificates.{Limit, never_limits, loop_limits, fact_limits, least_limit, most_limit, least_terms, most_terms, negated, size_by, IsNarrow, IsInForm}
+use Rattle.code_flow_system.proofs.LimitLemmas.{applied-negated}
 use Rattle.dual_check.specs.declared.running.Running.{Running}
 use Rattle.dual_check.specs.Rows.{earlier, first_failing, breaks, fails_limit, fails_never, fails_loop, fails_fact, first_unmet, counts, AreMet, nevers_from, loops_from, facts_from}
 use Rattle.dual_check.specs.Tests.{breaks_sum}

@@ -7,18 +7,18 @@ use Rattle.std.proofs.lemmas.Bool.{cases_Bool}
 use Rattle.std.proofs.lemmas.Bool.Decides.{nat_tests, eqb_tells}
 use Rattle.std.proofs.lemmas.List.Elements.{All-head, All-tail, All-cons, All-nil, All-contains}
 use Rattle.frac128.specs.Terms.{int_sum_by, coefficient, when_same}
-use Rattle.flow_system.specs.declared.moves.Move.{Move}
-use Rattle.flow_system.specs.declared.index.Arrival.{Arrival}
-use Rattle.flow_system.specs.declared.cert.Part.{Part}
-use Rattle.flow_system.specs.declared.cert.Cert.{Cert}
-use Rattle.flow_system.specs.Moves.{destinations, destinations_of}
-use Rattle.flow_system.specs.Systems.{System, IsSystem, has_moves}
-use Rattle.flow_system.specs.Counts.{Amounts, amount, each_with, arrivals, inflow}
-use Rattle.flow_system.specs.Lookups.{amount_at, AddUpToArrivals}
-use Rattle.flow_system.specs.Certificates.{size_by, listed, has_move, IsBalanced}
-use Rattle.flow_lookup.specs.Runs.{those_at}
-use Rattle.flow_lookup.proofs.RunLemmas.{other_test}
-use Rattle.flow_lookup.proofs.LookLemmas.{is_nil, has_moves-those}
+use Rattle.code_flow_system.specs.declared.moves.Move.{Move}
+use Rattle.code_flow_system.specs.declared.index.Arrival.{Arrival}
+use Rattle.code_flow_system.specs.declared.cert.Part.{Part}
+use Rattle.code_flow_system.specs.declared.cert.Cert.{Cert}
+use Rattle.code_flow_system.specs.Moves.{destinations, destinations_of}
+use Rattle.code_flow_system.specs.Systems.{System, IsSystem, has_moves}
+use Rattle.code_flow_system.specs.Counts.{Amounts, amount, each_with, arrivals, inflow}
+use Rattle.code_flow_system.specs.Lookups.{amount_at, AddUpToArrivals}
+use Rattle.code_flow_system.specs.Certificates.{size_by, listed, has_move, IsBalanced}
+use Rattle.code_flow_lookup.specs.Runs.{those_at}
+use Rattle.code_flow_lookup.proofs.RunLemmas.{other_test}
+use Rattle.code_flow_lookup.proofs.LookLemmas.{is_nil, has_moves-those}
 use Rattle.dual_check.specs.Rows.{counts, IsFlowAt, FailsFlow}
 use Rattle.dual_check.specs.Leasts.{IsLeastOf, IsAtBad, lesser}
 use Rattle.dual_check.proofs.LeastLemmas.{least_either}

@@ -4,7 +4,7 @@ use Rattle.std.specs.Prelude.{min}
 use Rattle.std.specs.List.Sorted.{IsNonDecreasingBy}
 use Rattle.std.proofs.lemmas.List.{get_or_default, get_or-take, length-take, length-take-le}
 use Rattle.std.proofs.lemmas.List.Elements.{All-contains}
-use Rattle.flow_system.specs.Reach.{IsLeast}
+use Rattle.code_flow_system.specs.Reach.{IsLeast}
 use Rattle.dual_check.specs.Leasts.{IsLeastOf, IsAtBad, lesser}
 
 true_or_false : (b : Bool) → b ≡ true → b ≡ false → ⊥

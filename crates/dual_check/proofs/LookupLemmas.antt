@@ -5,17 +5,17 @@ use lib.IntN.{*ℤ-zero}
 use Rattle.std.proofs.lemmas.Int.{ints}
 use Rattle.std.proofs.lemmas.Bool.Decides.{eqb_tells}
 use Rattle.frac128.specs.Terms.{int_sum_by, when_same}
-use Rattle.flow_system.specs.declared.claims.Never.{Never}
-use Rattle.flow_system.specs.declared.claims.LoopClaim.{LoopClaim}
-use Rattle.flow_system.specs.declared.claims.FactClaim.{FactClaim}
-use Rattle.flow_system.specs.declared.moves.Move.{Move}
-use Rattle.flow_system.specs.declared.index.Arrival.{Arrival}
-use Rattle.flow_system.specs.declared.index.Mention.{Mention}
-use Rattle.flow_system.specs.Counts.{Amounts, amount, count}
-use Rattle.flow_system.specs.Lookups.{by_at, amount_at, arriving, holding, sizes}
-use Rattle.flow_system.specs.Certificates.{Limit, never_limits, loop_limits, fact_limits, size_by}
-use Rattle.flow_lookup.specs.Runs.{those_at}
-use Rattle.flow_lookup.proofs.RunLemmas.{same_test, other_test}
+use Rattle.code_flow_system.specs.declared.claims.Never.{Never}
+use Rattle.code_flow_system.specs.declared.claims.LoopClaim.{LoopClaim}
+use Rattle.code_flow_system.specs.declared.claims.FactClaim.{FactClaim}
+use Rattle.code_flow_system.specs.declared.moves.Move.{Move}
+use Rattle.code_flow_system.specs.declared.index.Arrival.{Arrival}
+use Rattle.code_flow_system.specs.declared.index.Mention.{Mention}
+use Rattle.code_flow_system.specs.Counts.{Amounts, amount, count}
+use Rattle.code_flow_system.specs.Lookups.{by_at, amount_at, arriving, holding, sizes}
+use Rattle.code_flow_system.specs.Certificates.{Limit, never_limits, loop_limits, fact_limits, size_by}
+use Rattle.code_flow_lookup.specs.Runs.{those_at}
+use Rattle.code_flow_lookup.proofs.RunLemmas.{same_test, other_test}
 use Rattle.dual_check.specs.Multipliers.{fact_by, loop_by, never_by}
 
 -- multipliers by the numbers of limits

@@ -4,11 +4,11 @@ use Rattle.std.specs.Prelude.{◌==◌, not, if◌then◌else◌}
 use Rattle.std.proofs.lemmas.Bool.{cases_Bool}
 use Rattle.std.proofs.lemmas.Bool.Decides.{eqb_tells}
 use Rattle.frac128.specs.Terms.{Terms}
-use Rattle.flow_system.specs.declared.moves.Move.{Move}
-use Rattle.flow_system.specs.declared.cert.Cert.{Cert}
-use Rattle.flow_system.specs.Systems.{System, has_moves}
-use Rattle.flow_system.specs.Certificates.{is_given}
-use Rattle.flow_lookup.proofs.RunLemmas.{same_test, other_test}
+use Rattle.code_flow_system.specs.declared.moves.Move.{Move}
+use Rattle.code_flow_system.specs.declared.cert.Cert.{Cert}
+use Rattle.code_flow_system.specs.Systems.{System, has_moves}
+use Rattle.code_flow_system.specs.Certificates.{is_given}
+use Rattle.code_flow_lookup.proofs.RunLemmas.{same_test, other_test}
 use Rattle.dual_check.specs.Rows.{FailsMissing}
 use Rattle.dual_check.specs.Leasts.{IsLeastOf, IsAtBad, lesser}
 use Rattle.dual_check.proofs.LeastLemmas.{least_either}

@@ -4,8 +4,8 @@ use Rattle.std.specs.Prelude.{nat_le, int_lt, if◌then◌else◌}
 use Rattle.std.proofs.lemmas.Int.{ints}
 use Rattle.std.proofs.lemmas.Bool.Decides.{nat_tests}
 use Rattle.std.proofs.lemmas.List.Elements.{All-head, All-tail, All-cons, All-nil}
-use Rattle.flow_system.specs.declared.moves.Move.{Move as Step}
-use Rattle.flow_system.specs.Certificates.{Limit, held, fall, row_size, IsNarrow, IsCovered}
+use Rattle.code_flow_system.specs.declared.moves.Move.{Move as Step}
+use Rattle.code_flow_system.specs.Certificates.{Limit, held, fall, row_size, IsNarrow, IsCovered}
 use Rattle.dual_check.specs.declared.row.Row.{Row}
 use Rattle.dual_check.specs.declared.row.Row.TheVariants.{Missing, Sign, Wide, Move, Value, Flow, Unmet, Greatest, Empty}
 use Rattle.dual_check.specs.Rows.{earlier, move_fault, first_move_fault}

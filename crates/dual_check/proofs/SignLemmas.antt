@@ -5,12 +5,12 @@ use Rattle.std.proofs.lemmas.Int.{ints}
 use Rattle.std.proofs.lemmas.List.Elements.{All-head, All-tail, All-cons, All-nil, All-append}
 use Rattle.wcc_base.specs.declared.compare.Compare.{Compare}
 use Rattle.wcc_base.specs.declared.compare.Compare.TheVariants.{AtMost, AtLeast, Equal}
-use Rattle.flow_system.specs.declared.claims.Never.{Never}
-use Rattle.flow_system.specs.declared.claims.LoopClaim.{LoopClaim}
-use Rattle.flow_system.specs.declared.claims.FactClaim.{FactClaim}
-use Rattle.flow_system.specs.declared.cert.Cert.{Cert}
-use Rattle.flow_system.specs.Claims.{Claims}
-use Rattle.flow_system.specs.Certificates.{Limit, limits, never_limits, loop_limits, fact_limits, least_limit, most_limit, negated, FitsSign, IsSigned, IsInForm}
+use Rattle.code_flow_system.specs.declared.claims.Never.{Never}
+use Rattle.code_flow_system.specs.declared.claims.LoopClaim.{LoopClaim}
+use Rattle.code_flow_system.specs.declared.claims.FactClaim.{FactClaim}
+use Rattle.code_flow_system.specs.declared.cert.Cert.{Cert}
+use Rattle.code_flow_system.specs.Claims.{Claims}
+use Rattle.code_flow_system.specs.Certificates.{Limit, limits, never_limits, loop_limits, fact_limits, least_limit, most_limit, negated, FitsSign, IsSigned, IsInForm}
 use Rattle.dual_check.specs.Rows.{earlier, first_failing, is_negative, is_negative_pair, is_wrong_for, first_wrong_fact, first_wrong_sign, nevers_from, loops_from, facts_from}
 
 pub earlier_none : {X : Type 0} (a b : Option X) → earlier a b ≡ None → (a ≡ None) × (b ≡ None)

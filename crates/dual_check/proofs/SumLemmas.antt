@@ -2,7 +2,7 @@
 use Rattle.std.proofs.Common.{◌≡◌, ℕ, zero, suc, ◌+◌, ◌≤◌, ◌<◌, ◌^◌, ℤ, pos, ◌+ℤ◌, ◌≤ℤ◌, arith, refl, subst, List, [], ◌∷◌, ◌++◌, length, drop, get_or, unsigned_abs}
 use Rattle.std.proofs.lemmas.Int.{ints}
 use Rattle.frac128.specs.Terms.{int_sum_by}
-use Rattle.flow_system.specs.Certificates.{size_by}
+use Rattle.code_flow_system.specs.Certificates.{size_by}
 
 module _ {X : Type 0} (f : X → ℤ) where
   -- what a list from a place on adds up to

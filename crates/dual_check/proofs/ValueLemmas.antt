@@ -5,13 +5,13 @@ use Rattle.std.proofs.lemmas.Int.{ints}
 use Rattle.frac128.specs.Terms.{int_sum_by}
 use Rattle.frac128.proofs.SignedLemmas.{mul-add, mul-mul_swap, neg-mul}
 use Rattle.rv_core.specs.Table.{Table}
-use Rattle.flow_system.specs.declared.moves.Move.{Move}
-use Rattle.flow_system.specs.declared.cert.Cert.{Cert}
-use Rattle.flow_system.specs.Systems.{System}
-use Rattle.flow_system.specs.Counts.{Amounts, amount, total}
-use Rattle.flow_system.specs.MoveCosts.{move_cost}
-use Rattle.flow_system.specs.Flows.{price}
-use Rattle.flow_system.specs.Certificates.{size_by, scaled_price}
+use Rattle.code_flow_system.specs.declared.moves.Move.{Move}
+use Rattle.code_flow_system.specs.declared.cert.Cert.{Cert}
+use Rattle.code_flow_system.specs.Systems.{System}
+use Rattle.code_flow_system.specs.Counts.{Amounts, amount, total}
+use Rattle.code_flow_system.specs.MoveCosts.{move_cost}
+use Rattle.code_flow_system.specs.Flows.{price}
+use Rattle.code_flow_system.specs.Certificates.{size_by, scaled_price}
 use Rattle.dual_check.proofs.SumLemmas.{size_of_positive}
 
 pub scaled_total : (t : Table) (s : System) (c : Cert) (x : Amounts) (ms : List Move) → int_sum_by (λ m. amount x m *ℤ scaled_price t s c m) ms ≡ pos c.scale *ℤ total (price t s) x ms

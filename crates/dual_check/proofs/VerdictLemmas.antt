@@ -6,13 +6,13 @@ use Rattle.rv_core.specs.Images.{Image, AreLoadable}
 use Rattle.rv_core.specs.Runs.{setup}
 use Rattle.rv_core.specs.Code.{decoded}
 use Rattle.rv_core.proofs.Constancy.{mrun-fetched}
-use Rattle.flow_system.specs.declared.cert.Cert.{Cert}
-use Rattle.flow_system.specs.declared.cert.Mark.TheVariants.{Greatest as MarkedGreatest}
-use Rattle.flow_system.specs.Systems.{System, IsSystemOf}
-use Rattle.flow_system.specs.KeptRuns.{BoundsRuns}
-use Rattle.flow_system.specs.Certificates.{limits, potential, scaled_price, has_move, IsInForm, IsGreatest, KeepsMark, Accepts}
-use Rattle.flow_system.proofs.DualityLemmas.{bounds_runs}
-use Rattle.flow_system.proofs.RunLemmas.{runs_are_flows}
+use Rattle.code_flow_system.specs.declared.cert.Cert.{Cert}
+use Rattle.code_flow_system.specs.declared.cert.Mark.TheVariants.{Greatest as MarkedGreatest}
+use Rattle.code_flow_system.specs.Systems.{System, IsSystemOf}
+use Rattle.code_flow_system.specs.KeptRuns.{BoundsRuns}
+use Rattle.code_flow_system.specs.Certificates.{limits, potential, scaled_price, has_move, IsInForm, IsGreatest, KeepsMark, Accepts}
+use Rattle.code_flow_system.proofs.DualityLemmas.{bounds_runs}
+use Rattle.code_flow_system.proofs.RunLemmas.{runs_are_flows}
 use Rattle.dual_check.specs.declared.row.Row.{Row}
 use Rattle.dual_check.specs.declared.row.Row.TheVariants.{Missing, Sign, Wide, Move, Value, Flow, Unmet, Greatest, Empty}
 use Rattle.dual_check.specs.Rows.{AreGiven, FailsMissing, AreSigned, AreCovered, IsFlowAt, AreMet, IsReached}

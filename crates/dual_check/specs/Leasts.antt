@@ -1,6 +1,6 @@
 -- The least address of those in an ascending list that are bad.
 use Rattle.std.specs.Prelude.{◌≡◌, ℕ, List, Bool, true, Option, Some, None, Contains, min}
-use Rattle.flow_system.specs.Reach.{IsLeast}
+use Rattle.code_flow_system.specs.Reach.{IsLeast}
 
 -- the least number with the property, if there is one
 abbrev pub IsLeastOf : (ℕ → Type 0) → Option ℕ → Type 0

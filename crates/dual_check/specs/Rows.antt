@@ -5,16 +5,16 @@ use Rattle.frac128.specs.Terms.{Terms, coefficient, applied}
 use Rattle.wcc_base.specs.declared.compare.Compare.{Compare}
 use Rattle.wcc_base.specs.declared.compare.Compare.TheVariants.{AtMost, AtLeast, Equal}
 use Rattle.rv_core.specs.Table.{Table}
-use Rattle.flow_system.specs.declared.claims.Never.{Never}
-use Rattle.flow_system.specs.declared.claims.LoopClaim.{LoopClaim}
-use Rattle.flow_system.specs.declared.claims.FactClaim.{FactClaim}
-use Rattle.flow_system.specs.declared.moves.Move.{Move}
-use Rattle.flow_system.specs.declared.cert.Cert.{Cert}
-use Rattle.flow_system.specs.Claims.{Claims}
-use Rattle.flow_system.specs.Systems.{System, has_moves}
-use Rattle.flow_system.specs.Counts.{count, inflow, KeepsCounts}
-use Rattle.flow_system.specs.Flows.{value}
-use Rattle.flow_system.specs.Certificates.{Limit, limits, held, fall, negated, least_terms, most_terms, size_by, row_size, is_given, potential, scaled_price, whole_part, listed, has_move, IsBalanced, IsNarrow, IsSigned, IsCovered}
+use Rattle.code_flow_system.specs.declared.claims.Never.{Never}
+use Rattle.code_flow_system.specs.declared.claims.LoopClaim.{LoopClaim}
+use Rattle.code_flow_system.specs.declared.claims.FactClaim.{FactClaim}
+use Rattle.code_flow_system.specs.declared.moves.Move.{Move}
+use Rattle.code_flow_system.specs.declared.cert.Cert.{Cert}
+use Rattle.code_flow_system.specs.Claims.{Claims}
+use Rattle.code_flow_system.specs.Systems.{System, has_moves}
+use Rattle.code_flow_system.specs.Counts.{count, inflow, KeepsCounts}
+use Rattle.code_flow_system.specs.Flows.{value}
+use Rattle.code_flow_system.specs.Certificates.{Limit, limits, held, fall, negated, least_terms, most_terms, size_by, row_size, is_given, potential, scaled_price, whole_part, listed, has_move, IsBalanced, IsNarrow, IsSigned, IsCovered}
 use Rattle.dual_check.specs.declared.row.Row.{Row}
 use Rattle.dual_check.specs.declared.row.Row.TheVariants.{Wide, Move as MoveRow}
 

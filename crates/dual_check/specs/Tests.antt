@@ -3,10 +3,10 @@ use Rattle.std.specs.Ordering.{int_eq}
 use Rattle.std.specs.Prelude.{ℕ, ◌+◌, ◌^◌, ◌&&◌, ℤ, unsigned_abs, nat_lt, Bool, true, Option, Some, None}
 use Rattle.frac128.specs.Terms.{coefficient}
 use Rattle.wcc_base.specs.declared.compare.Compare.{Compare}
-use Rattle.flow_system.specs.declared.cert.Cert.{Cert}
-use Rattle.flow_system.specs.Systems.{System}
-use Rattle.flow_system.specs.Counts.{inflow}
-use Rattle.flow_system.specs.Certificates.{listed}
+use Rattle.code_flow_system.specs.declared.cert.Cert.{Cert}
+use Rattle.code_flow_system.specs.Systems.{System}
+use Rattle.code_flow_system.specs.Counts.{inflow}
+use Rattle.code_flow_system.specs.Certificates.{listed}
 use Rattle.dual_check.specs.declared.running.Running.{Running}
 use Rattle.dual_check.specs.Rows.{counts, breaks}
 

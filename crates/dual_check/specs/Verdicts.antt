@@ -1,12 +1,12 @@
 -- The verdict on a certificate: yes, or the first row that fails.
 use Rattle.std.specs.Prelude.{◌≡◌, ℕ, Bool, true, false, Option, Some}
 use Rattle.rv_core.specs.Table.{Table}
-use Rattle.flow_system.specs.declared.cert.Cert.{Cert}
-use Rattle.flow_system.specs.declared.cert.Mark.{Mark}
-use Rattle.flow_system.specs.declared.cert.Mark.TheVariants.{Greatest as MarkedGreatest, Empty as MarkedEmpty, Neither}
-use Rattle.flow_system.specs.Reach.{IsLeast}
-use Rattle.flow_system.specs.Systems.{System}
-use Rattle.flow_system.specs.Certificates.{limits, potential, scaled_price, Accepts}
+use Rattle.code_flow_system.specs.declared.cert.Cert.{Cert}
+use Rattle.code_flow_system.specs.declared.cert.Mark.{Mark}
+use Rattle.code_flow_system.specs.declared.cert.Mark.TheVariants.{Greatest as MarkedGreatest, Empty as MarkedEmpty, Neither}
+use Rattle.code_flow_system.specs.Reach.{IsLeast}
+use Rattle.code_flow_system.specs.Systems.{System}
+use Rattle.code_flow_system.specs.Certificates.{limits, potential, scaled_price, Accepts}
 use Rattle.dual_check.specs.declared.row.Row.{Row}
 use Rattle.dual_check.specs.declared.row.Row.TheVariants.{Missing, Sign, Wide, Move, Value, Flow, Unmet, Greatest, Empty}
 use Rattle.dual_check.specs.declared.row.Verdict.{Verdict}

@@ -2,10 +2,10 @@
 ghost use Rattle.std.specs.Prelude.{◌≡◌, ◌↔◌, true, IfSome, IsNone};
 ghost use Rattle.rv_core.specs.Table.{table_of};
 ghost use Rattle.rv_core.specs.Images.{Image, AreLoadable};
-ghost use Rattle.flow_system.specs.declared.cert.Mark.{Mark};
-ghost use Rattle.flow_system.specs.Systems.{IsSystemOf};
-ghost use Rattle.flow_system.specs.KeptRuns.{BoundsRuns};
-ghost use Rattle.flow_system.specs.Certificates.{IsInForm, Accepts, IsGreatest, KeepsMark};
+ghost use Rattle.code_flow_system.specs.declared.cert.Mark.{Mark};
+ghost use Rattle.code_flow_system.specs.Systems.{IsSystemOf};
+ghost use Rattle.code_flow_system.specs.KeptRuns.{BoundsRuns};
+ghost use Rattle.code_flow_system.specs.Certificates.{IsInForm, Accepts, IsGreatest, KeepsMark};
 ghost use Rattle.dual_check.specs.Verdicts.{IsBound, IsFirst, IsVerdict, is_yes, is_greatest};
 
 use crate::flows::first_flow_fault;
@@ -16,7 +16,7 @@ use crate::rows::first_of_moves;
 use crate::signs::first_wrong_sign;
 use crate::unmet::first_unmet;
 use crate::{Row, Verdict};
-use flow_system::{Cert, Mark, System};
+use code_flow_system::{Cert, Mark, System};
 use rv_core::Costs;
 
 /// The first row that fails of those that every certificate has.

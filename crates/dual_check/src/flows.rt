@@ -1,10 +1,10 @@
 // The listed flow: its moves are in the system, and what leaves an address is what arrives there.
 ghost use Rattle.std.specs.Prelude.{◌≡◌, ◌+◌, ◌<◌, ◌≤◌, ◌^◌, pos, neg_ℤ, ◌+ℤ◌, ◌-ℤ◌, ◌*ℤ◌, unsigned_abs, IfSome, IsNone, ◌↔◌, not};
 ghost use Rattle.frac128.specs.Terms.{int_sum_by, coefficient, when_same};
-ghost use Rattle.flow_system.specs.Counts.{amount, inflow};
-ghost use Rattle.flow_system.specs.Lookups.{amount_at};
-ghost use Rattle.flow_system.specs.Certificates.{listed, has_move, size_by, IsInForm, PartsAscend};
-ghost use Rattle.flow_system.specs.Systems.{AreAscending};
+ghost use Rattle.code_flow_system.specs.Counts.{amount, inflow};
+ghost use Rattle.code_flow_system.specs.Lookups.{amount_at};
+ghost use Rattle.code_flow_system.specs.Certificates.{listed, has_move, size_by, IsInForm, PartsAscend};
+ghost use Rattle.code_flow_system.specs.Systems.{AreAscending};
 ghost use Rattle.dual_check.specs.Verdicts.{IsFlowEverywhere};
 ghost use Rattle.dual_check.specs.Rows.{counts, FailsFlow};
 ghost use Rattle.dual_check.specs.Leasts.{IsLeastOf, IsAtBad};
@@ -12,8 +12,8 @@ ghost use Rattle.dual_check.specs.Tests.{is_balanced_at};
 
 use crate::missing::lesser;
 use crate::running::{Running, add_term, nothing};
-use flow_lookup::{amount, arrivals_at, has_move, moves_at};
-use flow_system::{Arrival, Cert, Move, Part, System};
+use code_flow_lookup::{amount, arrivals_at, has_move, moves_at};
+use code_flow_system::{Arrival, Cert, Move, Part, System};
 
 /// How often the listed flow makes a move.
 pub fn amount_of(system: &System, cert: &Cert, step: &Move) -> i128

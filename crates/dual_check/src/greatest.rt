@@ -2,9 +2,9 @@
 ghost use Rattle.std.specs.Prelude.{◌≡◌, ◌+◌, ◌<◌, ◌≤◌, ◌^◌, pos, ◌+ℤ◌, ◌-ℤ◌, ◌*ℤ◌, unsigned_abs, IfSome, IsNone, ◌↔◌, true};
 ghost use Rattle.frac128.specs.Terms.{int_sum_by};
 ghost use Rattle.rv_core.specs.Table.{table_of};
-ghost use Rattle.flow_system.specs.Counts.{amount};
-ghost use Rattle.flow_system.specs.Flows.{value};
-ghost use Rattle.flow_system.specs.Certificates.{listed, size_by, potential, scaled_price, whole_part, IsInForm};
+ghost use Rattle.code_flow_system.specs.Counts.{amount};
+ghost use Rattle.code_flow_system.specs.Flows.{value};
+ghost use Rattle.code_flow_system.specs.Certificates.{listed, size_by, potential, scaled_price, whole_part, IsInForm};
 ghost use Rattle.dual_check.specs.Rows.{HasValue, IsReached};
 
 use crate::flows::amount_of;
@@ -12,8 +12,8 @@ use crate::potentials::potential_of;
 use crate::rows::price;
 use crate::running::{Running, add_term, nothing};
 use crate::wide::negated;
-use flow_lookup::move_cost;
-use flow_system::{Cert, System};
+use code_flow_lookup::move_cost;
+use code_flow_system::{Cert, System};
 use rv_core::Costs;
 
 /// What the listed flow pays for its moves.

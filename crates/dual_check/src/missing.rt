@@ -1,12 +1,12 @@
 // Which addresses have moves and no potential, or the reverse.
 ghost use Rattle.std.specs.Prelude.{◌≡◌, not};
-ghost use Rattle.flow_system.specs.Systems.{AreAscending, has_moves};
-ghost use Rattle.flow_system.specs.Certificates.{AddressesAscend, is_given, IsInForm};
+ghost use Rattle.code_flow_system.specs.Systems.{AreAscending, has_moves};
+ghost use Rattle.code_flow_system.specs.Certificates.{AddressesAscend, is_given, IsInForm};
 ghost use Rattle.dual_check.specs.Rows.{FailsMissing};
 ghost use Rattle.dual_check.specs.Leasts.{IsLeastOf, IsAtBad, lesser};
 
-use flow_lookup::{has_moves, is_given};
-use flow_system::{Cert, Move, System};
+use code_flow_lookup::{has_moves, is_given};
+use code_flow_system::{Cert, Move, System};
 
 /// The first address with moves that has no potential.
 fn first_ungiven(moves: &[Move], potentials: &[(u32, i128)]) -> Option<u32>

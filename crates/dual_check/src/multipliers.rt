@@ -1,10 +1,10 @@
 // The multipliers of a certificate, by the numbers of limits.
 ghost use Rattle.std.specs.Prelude.{◌≡◌, ◌%◌, ◌==◌, if◌then◌else◌};
-ghost use Rattle.flow_system.specs.Certificates.{limits};
-ghost use Rattle.flow_system.specs.Lookups.{by_at, HasMultipliers};
+ghost use Rattle.code_flow_system.specs.Certificates.{limits};
+ghost use Rattle.code_flow_system.specs.Lookups.{by_at, HasMultipliers};
 ghost use Rattle.dual_check.specs.Multipliers.{never_by, loop_by, fact_by};
 
-use flow_system::{Cert, System};
+use code_flow_system::{Cert, System};
 
 /// A fact's multiplier, 0 where there is none of that number.
 fn fact_multiplier(facts: &[i128], n: usize) -> i128

@@ -2,7 +2,7 @@
 ghost use Rattle.std.specs.Prelude.{◌≡◌, ◌+◌, ◌<◌, ◌^◌, length};
 ghost use Rattle.dual_check.specs.Rows.{nevers_from, loops_from, facts_from};
 
-use flow_system::Claims;
+use code_flow_system::Claims;
 
 /// The number of the first never claim.
 pub fn nevers_from(claims: &Claims) -> u32

@@ -1,9 +1,9 @@
 // The potentials of a certificate.
 ghost use Rattle.std.specs.Prelude.{◌≡◌};
-ghost use Rattle.flow_system.specs.Certificates.{potential, AddressesAscend};
+ghost use Rattle.code_flow_system.specs.Certificates.{potential, AddressesAscend};
 
-use flow_lookup::potential;
-use flow_system::Cert;
+use code_flow_lookup::potential;
+use code_flow_system::Cert;
 
 /// The potential of an address, 0 where none is given.
 pub fn potential_of(cert: &Cert, at: u32) -> i128

@@ -3,10 +3,10 @@ ghost use Rattle.std.specs.Prelude.{◌≡◌, ℕ, ◌+◌, ◌*◌, ◌<◌, �
 ghost use Rattle.std.specs.Option.{option_to_list};
 ghost use Rattle.frac128.specs.Terms.{int_sum_by, coefficient};
 ghost use Rattle.rv_core.specs.Table.{table_of};
-ghost use Rattle.flow_system.specs.Moves.{destinations};
-ghost use Rattle.flow_system.specs.Systems.{IsPlaced};
-ghost use Rattle.flow_system.specs.Lookups.{by_at, HasMultipliers};
-ghost use Rattle.flow_system.specs.Certificates.{limits, held, fall, size_by, row_size, potential, scaled_price, AddressesAscend, IsInForm};
+ghost use Rattle.code_flow_system.specs.Moves.{destinations};
+ghost use Rattle.code_flow_system.specs.Systems.{IsPlaced};
+ghost use Rattle.code_flow_system.specs.Lookups.{by_at, HasMultipliers};
+ghost use Rattle.code_flow_system.specs.Certificates.{limits, held, fall, size_by, row_size, potential, scaled_price, AddressesAscend, IsInForm};
 ghost use Rattle.dual_check.specs.declared.row.Row.{Row};
 ghost use Rattle.dual_check.specs.Rows.{move_fault};
 ghost use Rattle.dual_check.specs.Verdicts.{first_of_moves};
@@ -15,8 +15,8 @@ use crate::Row;
 use crate::multipliers::multiplier;
 use crate::potentials::potential_of;
 use crate::running::{Running, add_term, nothing};
-use flow_lookup::{mentions_at, move_cost};
-use flow_system::{Cert, Mention, Move, System};
+use code_flow_lookup::{mentions_at, move_cost};
+use code_flow_system::{Cert, Mention, Move, System};
 use rv_core::Costs;
 
 /// Less the potential of an address at which a move arrives, if it does.

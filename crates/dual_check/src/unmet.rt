@@ -1,7 +1,7 @@
 // Whether the counts of the listed flow keep the claims.
 ghost use Rattle.std.specs.Prelude.{◌≡◌, ◌+◌, ◌<◌, ◌≤◌, ◌^◌, pos, ◌+ℤ◌, ◌*ℤ◌, neg_ℤ, unsigned_abs, IfSome, IsNone, ◌↔◌, length, ◌++◌, [], ◌∷◌};
 ghost use Rattle.frac128.specs.Terms.{applied, int_sum_by};
-ghost use Rattle.flow_system.specs.Certificates.{size_by, least_terms, most_terms, negated, IsInForm};
+ghost use Rattle.code_flow_system.specs.Certificates.{size_by, least_terms, most_terms, negated, IsInForm};
 ghost use Rattle.dual_check.specs.Rows.{counts, first_failing, fails_never, fails_loop, fails_fact, first_unmet};
 ghost use Rattle.dual_check.specs.Tests.{breaks_sum};
 ghost use Rattle.dual_check.specs.Verdicts.{IsFlowEverywhere};
@@ -10,8 +10,8 @@ use crate::flows::add_moves;
 use crate::numbers::{facts_from, loops_from, nevers_from};
 use crate::running::{Running, add_term, nothing};
 use crate::wide::{difference, negated, opposite, whole};
-use flow_lookup::moves_at;
-use flow_system::{Cert, FactClaim, LoopClaim, Never, System};
+use code_flow_lookup::moves_at;
+use code_flow_system::{Cert, FactClaim, LoopClaim, Never, System};
 use wcc_base::Compare;
 
 /// The count of an address in the listed flow.

@@ -2,7 +2,7 @@
 use Rattle.std.proofs.Common.{◌≡◌, ap, List, [], ◌∷◌, ◌++◌, append_assoc}
 use Rattle.std.specs.Prelude.{Option, Some, None}
 use Rattle.std.proofs.lemmas.List.{append-nil}
-use Rattle.c_facts.specs.FlowFacts.{and_one}
+use Rattle.facts_definitions.specs.FlowFacts.{and_one}
 
 pub kept_before : {A : Type 0} (xs : List A) (o : Option A) (rest : List A) → (xs ++ and_one o []) ++ rest ≡ xs ++ and_one o rest
 kept_before xs None rest = ap (λ ys. ys ++ rest) (append-nil xs)

@@ -1,10 +1,10 @@
 -- Restrictions by the numbers of their names.
 use Rattle.std.proofs.Common.{◌≡◌, refl, ap, ◌∙◌, ℕ, List, [], ◌∷◌, map}
 use Rattle.std.specs.Prelude.{◌&&◌, Option, Some, None}
-use Rattle.c_facts.specs.FlowFacts.{Known, are_counted, id_in, is_counted, numbered_restriction, term_of, when_not}
-use Rattle.c_facts.specs.FlowFacts as whole
-use Rattle.c_facts.specs.PragmaTexts.{Written, WrittenTerm}
-use Rattle.c_facts.specs.declared.facts.FlowFault.TheVariants.{UnknownName}
+use Rattle.facts_definitions.specs.FlowFacts.{Known, are_counted, id_in, is_counted, numbered_restriction, term_of, when_not}
+use Rattle.facts_definitions.specs.FlowFacts as whole
+use Rattle.facts_definitions.specs.PragmaTexts.{Written, WrittenTerm}
+use Rattle.facts_definitions.specs.declared.facts.FlowFault.TheVariants.{UnknownName}
 use Rattle.flow_facts.specs.Sums.{all_counted, restriction_fault}
 
 all_counted-terms : (known : Known) (ts : List WrittenTerm) → all_counted known (map (term_of known.names) ts) ≡ are_counted known ts

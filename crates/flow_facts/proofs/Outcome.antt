@@ -2,17 +2,17 @@
 use Rattle.std.proofs.Common.{◌≡◌, refl, ap, ◌∙◌, sym, ℕ, ◌<◌, ◌≤◌, List, arith, Bool}
 use Rattle.std.specs.Prelude.{◌^◌, None, Result, Ok, Err, if◌then◌else◌}
 use Rattle.std.proofs.lemmas.Bool.{le-ltb, lt-ltb}
-use Rattle.c_facts.specs.FlowFacts.{IsFlowFault, Known, bounds_in, bounds_of, facts_of, first_fault, flow_facts, known_of, most_main, unless_faulty, unless_too_often}
-use Rattle.c_facts.specs.Most.{cut}
-use Rattle.c_facts.specs.Sites.{sites_of}
-use Rattle.c_facts.specs.declared.facts.Bounds.{Bounds}
-use Rattle.c_facts.specs.declared.facts.Derived.{Derived}
-use Rattle.c_facts.specs.declared.facts.Facts.{Facts}
-use Rattle.c_facts.specs.declared.facts.FlowFault.{FlowFault}
-use Rattle.c_facts.specs.declared.facts.FlowFault.TheVariants.{BadPragma, UnknownName, NoBound, TooOften, Memory}
-use Rattle.c_facts.specs.declared.ranks.Ranks.{Ranks}
-use Rattle.c_facts.specs.declared.site.Site.{Site}
-use Rattle.c_typed.specs.Tree.{Program}
+use Rattle.facts_definitions.specs.FlowFacts.{IsFlowFault, Known, bounds_in, bounds_of, facts_of, first_fault, flow_facts, known_of, most_main, unless_faulty, unless_too_often}
+use Rattle.facts_definitions.specs.Most.{cut}
+use Rattle.facts_definitions.specs.Sites.{sites_of}
+use Rattle.facts_definitions.specs.declared.facts.Bounds.{Bounds}
+use Rattle.facts_definitions.specs.declared.facts.Derived.{Derived}
+use Rattle.facts_definitions.specs.declared.facts.Facts.{Facts}
+use Rattle.facts_definitions.specs.declared.facts.FlowFault.{FlowFault}
+use Rattle.facts_definitions.specs.declared.facts.FlowFault.TheVariants.{BadPragma, UnknownName, NoBound, TooOften, Memory}
+use Rattle.facts_definitions.specs.declared.ranks.Ranks.{Ranks}
+use Rattle.facts_definitions.specs.declared.site.Site.{Site}
+use Rattle.types_tree.specs.Tree.{Program}
 use Rattle.flow_facts.specs.Making.{facts_with, sound_outcome}
 
 pub says : (fault : FlowFault) → IsFlowFault fault (Err fault)

@@ -2,14 +2,14 @@
 use Rattle.std.proofs.Common.{◌≡◌, refl, ap, ◌<◌, ◌≤◌, ℕ, zero, suc, List, [], ◌∷◌, length, map, get_or, ◌∙◌, sym, arith}
 use Rattle.std.specs.Prelude.{Vec, Some, None, slice_get}
 use Rattle.std.specs.Global.{Global}
-use Rattle.c_facts.specs.Sites.{count_exprs, items_sites, statement_sites}
-use Rattle.c_typed.proofs.Rows.{block_view, switch_view}
-use Rattle.c_typed.specs.View.{exprs_of, function_of, items_of, statement_of}
-use Rattle.c_typed.specs.declared.expression.Expr as exprs
-use Rattle.c_typed.specs.declared.external.Function as functions
-use Rattle.c_typed.specs.declared.statement.Item as items
-use Rattle.c_typed.specs.declared.statement.Statement as statements
-use Rattle.c_typed.specs.declared.variable.Variable.{Variable}
+use Rattle.facts_definitions.specs.Sites.{count_exprs, items_sites, statement_sites}
+use Rattle.types_tree.proofs.Rows.{block_view, switch_view}
+use Rattle.types_tree.specs.View.{exprs_of, function_of, items_of, statement_of}
+use Rattle.types_tree.specs.declared.expression.Expr as exprs
+use Rattle.types_tree.specs.declared.external.Function as functions
+use Rattle.types_tree.specs.declared.statement.Item as items
+use Rattle.types_tree.specs.declared.statement.Statement as statements
+use Rattle.types_tree.specs.declared.variable.Variable.{Variable}
 
 pub block_sites : (variables : List Variable) (v : Vec items.Item Global) (at : ℕ) → statement_sites variables (statement_of (statements.Block v at)) ≡ items_sites variables (items_of v.items)
 block_sites variables v at = ap (statement_sites variables) (block_view v at)

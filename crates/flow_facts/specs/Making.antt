@@ -1,13 +1,13 @@
 -- Facts from what is known of a program.
 use Rattle.std.specs.Prelude.{ℕ, List, map, Result}
-use Rattle.c_facts.specs.FlowFacts.{Known, bounds_in, facts_of, most_main, name_id, restrictions_of, unless_too_often}
-use Rattle.c_facts.specs.declared.facts.Bounds.{Bounds}
-use Rattle.c_facts.specs.declared.facts.Derived.{Derived}
-use Rattle.c_facts.specs.declared.facts.Facts.{Facts}
-use Rattle.c_facts.specs.declared.facts.FlowFault.{FlowFault}
-use Rattle.c_facts.specs.declared.ranks.Ranks.{Ranks}
-use Rattle.c_facts.specs.declared.site.Site.{Site}
-use Rattle.c_typed.specs.Tree.{Program}
+use Rattle.facts_definitions.specs.FlowFacts.{Known, bounds_in, facts_of, most_main, name_id, restrictions_of, unless_too_often}
+use Rattle.facts_definitions.specs.declared.facts.Bounds.{Bounds}
+use Rattle.facts_definitions.specs.declared.facts.Derived.{Derived}
+use Rattle.facts_definitions.specs.declared.facts.Facts.{Facts}
+use Rattle.facts_definitions.specs.declared.facts.FlowFault.{FlowFault}
+use Rattle.facts_definitions.specs.declared.ranks.Ranks.{Ranks}
+use Rattle.facts_definitions.specs.declared.site.Site.{Site}
+use Rattle.types_tree.specs.Tree.{Program}
 
 abbrev pub facts_with : Known → List Site → List Bounds → Ranks → (most : ℕ) → Facts
 facts_with known sites bounds ranks most = record {

@@ -1,10 +1,10 @@
 -- Whether what restrictions name is counted, by the numbers of the names.
 use Rattle.std.specs.Prelude.{ℕ, Bool, true, not, ◌&&◌, List, [], ◌∷◌, Option, Some, None}
-use Rattle.c_facts.specs.FlowFacts.{Known, is_among, is_counted, is_twice, when_not}
-use Rattle.c_facts.specs.declared.facts.FlowFault.{FlowFault}
-use Rattle.c_facts.specs.declared.facts.FlowFault.TheVariants.{BadPragma, UnknownName}
-use Rattle.c_facts.specs.declared.facts.Restriction.{Restriction}
-use Rattle.c_facts.specs.declared.facts.Term.{Term}
+use Rattle.facts_definitions.specs.FlowFacts.{Known, is_among, is_counted, is_twice, when_not}
+use Rattle.facts_definitions.specs.declared.facts.FlowFault.{FlowFault}
+use Rattle.facts_definitions.specs.declared.facts.FlowFault.TheVariants.{BadPragma, UnknownName}
+use Rattle.facts_definitions.specs.declared.facts.Restriction.{Restriction}
+use Rattle.facts_definitions.specs.declared.facts.Term.{Term}
 
 abbrev pub all_counted : Known → List Term → Bool
 all_counted known [] = true

@@ -1,9 +1,9 @@
 -- Restrictions over places: each name is replaced by the sum of its places (Kirner 2003).
 use Rattle.std.specs.Prelude.{◌≡◌, ℕ, ℤ, pos, nat_eq, nat_lt, ◌+◌, if◌then◌else◌, List, [], ◌∷◌, ◌++◌, length, map}
 use Rattle.std.proofs.Math.ListN.{get_or}
-use Rattle.c_facts.specs.declared.facts.Facts.{Facts}
-use Rattle.c_facts.specs.declared.facts.Restriction.{Restriction}
-use Rattle.c_facts.specs.declared.facts.Term.{Term}
+use Rattle.facts_definitions.specs.declared.facts.Facts.{Facts}
+use Rattle.facts_definitions.specs.declared.facts.Restriction.{Restriction}
+use Rattle.facts_definitions.specs.declared.facts.Term.{Term}
 use Rattle.c_tree.specs.declared.expression.NameId.{NameId}
 use Rattle.flow_facts.specs.declared.places.AddressFact.{AddressFact}
 use Rattle.flow_facts.specs.declared.places.Places.{Places}

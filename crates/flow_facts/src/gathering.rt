@@ -1,14 +1,14 @@
 // What sites give, in their order.
 ghost use Rattle.std.specs.Prelude.{◌≡◌, ◌++◌, ◌∷◌, [], map, IfOk, OnOk, List, Option};
-ghost use Rattle.c_facts.specs.FlowFacts.{and_one, bounds_at_site, bounds_of, function_at, function_ids, function_name, marker_at, marker_ids, name_id, restriction_at, restrictions_of};
-ghost use Rattle.c_typed.specs.View.{function_of};
+ghost use Rattle.facts_definitions.specs.FlowFacts.{and_one, bounds_at_site, bounds_of, function_at, function_ids, function_name, marker_at, marker_ids, name_id, restriction_at, restrictions_of};
+ghost use Rattle.types_tree.specs.View.{function_of};
 
 use super::known::derived_bounds;
-use c_facts::{Bounds, Derived, Restriction, Site};
 use c_tree::expression::NameId;
-use c_typed::external::Function;
-use flow_pragma::{loop_bounds, marker_name, name_id, restriction};
+use facts_definitions::{Bounds, Derived, Restriction, Site};
+use facts_pragma::{loop_bounds, marker_name, name_id, restriction};
 use std::alloc::{AllocError, Global};
+use types_tree::external::Function;
 use wcc_base::Text;
 
 const NO_BOUNDS: Bounds = Bounds { min: 0, max: 0 };

@@ -1,12 +1,12 @@
 // What names in pragmas may stand for, and what is wrong at a site.
 ghost use Rattle.std.specs.Prelude.{◌≡◌, IfOk, Option, None, Some};
-ghost use Rattle.c_facts.specs.FlowFacts.{derived_bounds, first_fault, is_among, is_counted, is_library, is_marker, is_twice, site_fault, when_not};
-ghost use Rattle.c_facts.specs.PragmaTexts.{marker_name};
+ghost use Rattle.facts_definitions.specs.FlowFacts.{derived_bounds, first_fault, is_among, is_counted, is_library, is_marker, is_twice, site_fault, when_not};
+ghost use Rattle.facts_definitions.specs.PragmaTexts.{marker_name};
 ghost use Rattle.flow_facts.specs.Sums.{all_counted, marks_once, restriction_fault};
 
-use c_facts::{Bounds, Derived, FlowFault, Restriction, Site, Term};
 use c_tree::Pragma;
-use flow_pragma::{loop_bounds, marker_name, name_id, restriction};
+use facts_definitions::{Bounds, Derived, FlowFault, Restriction, Site, Term};
+use facts_pragma::{loop_bounds, marker_name, name_id, restriction};
 use std::alloc::{AllocError, Global};
 use std::marker::Model;
 use wcc_base::Text;
@@ -22,7 +22,7 @@ pub struct Known<'a> {
 }
 
 impl<'a> Model for Known<'a> {
-    ghost use Rattle.c_facts.specs.FlowFacts.{Known};
+    ghost use Rattle.facts_definitions.specs.FlowFacts.{Known};
 
     ghost Value = { Known };
 

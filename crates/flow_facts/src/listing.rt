@@ -1,16 +1,16 @@
 // Sites, one behind the other.
 ghost use Rattle.std.specs.Prelude.{◌≡◌, ◌-◌, ◌++◌, ◌∷◌, [], IfOk, OnOk, length, slice_get, Option};
-ghost use Rattle.c_facts.specs.Sites.{count_exprs, elements_of, filling_sites, loop_site};
-ghost use Rattle.c_facts.specs.declared.site.Site.TheVariants.{Function, Marker, Restriction};
+ghost use Rattle.facts_definitions.specs.Sites.{count_exprs, elements_of, filling_sites, loop_site};
+ghost use Rattle.facts_definitions.specs.declared.site.Site.TheVariants.{Function, Marker, Restriction};
 ghost use Rattle.c_tree.specs.Named.{map_option};
-ghost use Rattle.c_typed.specs.View.{loop_of};
+ghost use Rattle.types_tree.specs.View.{loop_of};
 
-use c_facts::Site;
 use c_tree::Pragma;
 use c_tree::expression::NameId;
-use c_typed::statement::LoopId;
-use c_typed::variable::{Extent, Variable};
+use facts_definitions::Site;
 use std::alloc::{AllocError, Global};
+use types_tree::statement::LoopId;
+use types_tree::variable::{Extent, Variable};
 use wcc_base::Text;
 
 /// A pragma of its own.

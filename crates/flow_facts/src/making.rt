@@ -1,12 +1,12 @@
 // The facts of a program.
 ghost use Rattle.std.specs.Prelude.{◌≡◌, [], map, IfOk, IfErr, Ok};
 ghost use Rattle.std.proofs.Math.ListN.{get_or};
-ghost use Rattle.c_facts.specs.Calls.{graph_of};
-ghost use Rattle.c_facts.specs.Chains.{AreRanks};
-ghost use Rattle.c_facts.specs.FlowFacts.{IsFlowFault, flow_facts, function_name, index_of, known_of, main_of, most_main};
-ghost use Rattle.c_facts.specs.Most.{cut};
-ghost use Rattle.c_facts.specs.Sites.{sites_of};
-ghost use Rattle.c_typed.specs.View.{function_of, program_of};
+ghost use Rattle.facts_definitions.specs.Calls.{graph_of};
+ghost use Rattle.facts_definitions.specs.Chains.{AreRanks};
+ghost use Rattle.facts_definitions.specs.FlowFacts.{IsFlowFault, flow_facts, function_name, index_of, known_of, main_of, most_main};
+ghost use Rattle.facts_definitions.specs.Most.{cut};
+ghost use Rattle.facts_definitions.specs.Sites.{sites_of};
+ghost use Rattle.types_tree.specs.View.{function_of, program_of};
 ghost use Rattle.flow_facts.specs.Making.{facts_with, sound_outcome};
 
 use super::gathering::{
@@ -14,11 +14,11 @@ use super::gathering::{
 };
 use super::known::Known;
 use super::sites::sites_of;
-use c_facts::{Bounds, Derived, Facts, FlowFault, Ranks, Site};
-use c_typed::program::Program;
-use flow_most::most_of_functions;
-use flow_pragma::name_id;
+use facts_definitions::{Bounds, Derived, Facts, FlowFault, Ranks, Site};
+use facts_most::most_of_functions;
+use facts_pragma::name_id;
 use std::alloc::{AllocError, Global};
+use types_tree::program::Program;
 use wcc_base::Items;
 
 const TOO_OFTEN: u64 = 1 << 40;

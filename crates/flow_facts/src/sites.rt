@@ -1,19 +1,19 @@
 // What stands in a program that facts are read from.
 ghost use Rattle.std.specs.Prelude.{◌≡◌, ◌++◌, Some, IfOk, OnOk, map};
-ghost use Rattle.c_facts.specs.Sites.{declaration_sites, external_sites, externals_sites, function_sites, initial_sites, items_sites, object_sites, objects_sites, sites_of, start_sites, statement_sites};
-ghost use Rattle.c_typed.specs.View.{declaration_of, external_of, function_of, initial_of, items_of, object_of, program_of, start_of, statement_of};
+ghost use Rattle.facts_definitions.specs.Sites.{declaration_sites, external_sites, externals_sites, function_sites, initial_sites, items_sites, object_sites, objects_sites, sites_of, start_sites, statement_sites};
+ghost use Rattle.types_tree.specs.View.{declaration_of, external_of, function_of, initial_of, items_of, object_of, program_of, start_of, statement_of};
 ghost use Rattle.flow_facts.specs.Items.{item_sites};
 
 use super::listing::{
     elements_of, push_filling, push_function, push_loop, push_marker, push_restriction,
 };
-use c_facts::Site;
-use c_typed::declaration::{Declaration, Initial, Object};
-use c_typed::external::{External, Function};
-use c_typed::program::Program;
-use c_typed::statement::{ForStart, Item, Statement};
-use c_typed::variable::Variable;
+use facts_definitions::Site;
 use std::alloc::{AllocError, Global};
+use types_tree::declaration::{Declaration, Initial, Object};
+use types_tree::external::{External, Function};
+use types_tree::program::Program;
+use types_tree::statement::{ForStart, Item, Statement};
+use types_tree::variable::Variable;
 
 #[tactic(auto, using(crate::proofs::Rows::count_all))]
 fn push_initial(initial: &Initial, elements: u32, sites: &mut Vec<Site>) -> Result<(), AllocError>

@@ -2,20 +2,20 @@
 use Rattle.std.proofs.Common.{ℕ, List, All}
 use Rattle.std.proofs.Math.Logic.{∥∥₁_elim, ∥∥₁_map}
 use Rattle.std.proofs.Props.{props}
-use Rattle.c_facts.specs.FlowFacts.{AreFacts, main_of}
-use Rattle.c_facts.specs.declared.facts.Facts.{Facts}
-use Rattle.c_facts.specs.declared.facts.Bounds.{Bounds}
-use Rattle.c_typed.specs.Tree.{Program}
+use Rattle.facts_definitions.specs.FlowFacts.{AreFacts, main_of}
+use Rattle.facts_definitions.specs.declared.facts.Facts.{Facts}
+use Rattle.facts_definitions.specs.declared.facts.Bounds.{Bounds}
+use Rattle.types_tree.specs.Tree.{Program}
 use Rattle.c_types.specs.Typed.{IsTypedTree}
 use Rattle.high_ir.specs.Formed.{IsHigh}
 use Rattle.high_ir.specs.Tree as high
-use Rattle.high_carried.specs.Sources.{planned_listing}
-use Rattle.high_plan.specs.Programs.{program_planned}
-use Rattle.high_law.specs.Plans.{KeepsSource}
-use Rattle.high_law.proofs.Law.{planned_keeps}
-use Rattle.high_planned.specs.Checked.{IsChecked}
-use Rattle.high_planned.proofs.Operations.{operations_most}
-use Rattle.high_planned.proofs.Planned.{planned_is_high}
+use Rattle.plan_carried.specs.Sources.{planned_listing}
+use Rattle.plan_definition.specs.Programs.{program_planned}
+use Rattle.plan_law.specs.Plans.{KeepsSource}
+use Rattle.plan_law.proofs.Law.{planned_keeps}
+use Rattle.plan_formed.specs.Checked.{IsChecked}
+use Rattle.plan_formed.proofs.Operations.{operations_most}
+use Rattle.plan_formed.proofs.Planned.{planned_is_high}
 use Rattle.make_statement.specs.Planned.{IsSmall}
 use Rattle.high_make.specs.Trees.{FitsTree}
 use Rattle.high_make.proofs.Small.{small_facts}

@@ -2,13 +2,13 @@
 use Rattle.std.proofs.Common.{◌≡◌, ap, ◌∙◌, sym, ℕ, ◌+◌, List, [], ◌∷◌, ◌++◌, map, arith}
 use Rattle.std.proofs.lemmas.List.{map-append}
 use Rattle.std.proofs.lemmas.List.FromFn.{map-range_with_len_more}
-use Rattle.c_facts.specs.declared.facts.Facts.{Facts}
-use Rattle.c_typed.specs.Tree.{Program}
+use Rattle.facts_definitions.specs.declared.facts.Facts.{Facts}
+use Rattle.types_tree.specs.Tree.{Program}
 use Rattle.high_ir.specs.declared.copies.MarkCopies.{MarkCopies}
 use Rattle.high_ir.specs.declared.copies.NeverMark.{NeverMark}
-use Rattle.high_carried.specs.Sources.{planned_listing}
+use Rattle.plan_carried.specs.Sources.{planned_listing}
 use Rattle.high_pass.specs.Listing.{Listing, LoopEntry, MarkEntry, mark_entry}
-use Rattle.high_program.specs.Kept.{same_mark, same_marks}
+use Rattle.plan_runs.specs.Kept.{same_mark, same_marks}
 
 pub one_more : (copies : List MarkCopies) (c : MarkCopies) (m : ℕ) → map mark_entry copies ≡ same_marks m → mark_entry c ≡ same_mark m → map mark_entry (copies ++ c ∷ []) ≡ same_marks (m + 1)
 one_more copies c m e f =

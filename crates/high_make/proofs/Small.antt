@@ -1,14 +1,14 @@
 -- The bounds of loops are small enough for one start more.
 use Rattle.std.proofs.Common.{ℕ, List, [], ◌∷◌, All}
 use Rattle.std.proofs.lemmas.List.Elements.{All-cons, All-head, All-nil, All-tail}
-use Rattle.c_facts.specs.FlowFacts.{AreFacts}
-use Rattle.c_facts.specs.declared.facts.Bounds.{Bounds}
-use Rattle.c_facts.specs.declared.facts.Facts.{Facts}
-use Rattle.c_typed.specs.Tree.{Program}
+use Rattle.facts_definitions.specs.FlowFacts.{AreFacts}
+use Rattle.facts_definitions.specs.declared.facts.Bounds.{Bounds}
+use Rattle.facts_definitions.specs.declared.facts.Facts.{Facts}
+use Rattle.types_tree.specs.Tree.{Program}
 use Rattle.c_types.specs.Typed.{IsTypedTree}
 use Rattle.make_statement.specs.Planned.{IsSmall}
-use Rattle.high_bounds.specs.Small.{Small}
-use Rattle.high_bounds.proofs.Bounds.{bounds_small}
+use Rattle.plan_bounds.specs.Small.{Small}
+use Rattle.plan_bounds.proofs.Bounds.{bounds_small}
 
 each_small : (bounds : List Bounds) → All Small bounds → All IsSmall bounds
 each_small [] h = All-nil IsSmall

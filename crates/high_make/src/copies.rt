@@ -1,17 +1,17 @@
 // What becomes of the marks and loops of a source.
 ghost use Rattle.std.specs.Prelude.{◌≡◌, IfOk, map};
-ghost use Rattle.c_typed.specs.View.{program_of};
-ghost use Rattle.high_carried.specs.Sources.{planned_listing};
+ghost use Rattle.types_tree.specs.View.{program_of};
+ghost use Rattle.plan_carried.specs.Sources.{planned_listing};
 ghost use Rattle.high_make.specs.Entries.{once};
 ghost use Rattle.high_pass.specs.Listing.{listing_of, loop_entry, mark_entry};
-ghost use Rattle.high_program.specs.Kept.{same_mark, same_marks};
+ghost use Rattle.plan_runs.specs.Kept.{same_mark, same_marks};
 
-use c_facts::Facts;
-use c_typed::program::Program;
+use facts_definitions::Facts;
 use high_ir::{Copies, LoopCopies, LoopCopy, MarkCopies};
 use make_loops::{Renumbered, loops_of};
 use make_pieces::numbers::offset;
 use std::alloc::Global;
+use types_tree::program::Program;
 use wcc_base::Memory;
 
 /// A mark that is its own copy.

@@ -1,18 +1,18 @@
 // The program of a source.
 ghost use Rattle.std.specs.Prelude.{◌≡◌, IfOk};
-ghost use Rattle.c_facts.specs.FlowFacts.{AreFacts, main_of};
-ghost use Rattle.c_typed.specs.View.{program_of as source_of};
-ghost use Rattle.high_carried.specs.Sources.{planned_listing};
+ghost use Rattle.facts_definitions.specs.FlowFacts.{AreFacts, main_of};
+ghost use Rattle.types_tree.specs.View.{program_of as source_of};
+ghost use Rattle.plan_carried.specs.Sources.{planned_listing};
 ghost use Rattle.high_ir.specs.Programs.{program_of};
-ghost use Rattle.high_law.specs.Plans.{KeepsSource};
+ghost use Rattle.plan_law.specs.Plans.{KeepsSource};
 ghost use Rattle.high_pass.specs.Listing.{listing_of};
-ghost use Rattle.high_plan.specs.Programs.{program_planned};
+ghost use Rattle.plan_definition.specs.Programs.{program_planned};
 ghost use Rattle.high_make.specs.Trees.{FitsTree};
 
 use super::copies::copies;
-use c_facts::Facts;
 use c_meaning::main_of;
 use c_types::Typed;
+use facts_definitions::Facts;
 use high_ir::{Carried, High};
 use make_pieces::numbers::offset;
 use make_program::{Planned, program};

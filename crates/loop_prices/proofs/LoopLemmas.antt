@@ -7,13 +7,13 @@ use Rattle.std.proofs.lemmas.List.Elements.{All-head, All-tail}
 use Rattle.frac128.specs.Terms.{Terms, int_sum_by, coefficient, applied, when_same}
 use Rattle.frac128.proofs.SignedLemmas.{mul-add, mul-le, mul_assoc, mul-le-mul_right}
 use Rattle.frac128.proofs.TermsLemmas.{applied-coefficient, int_sum_by-add, coefficient-append}
-use Rattle.flow_system.specs.declared.claims.LoopClaim.{LoopClaim}
-use Rattle.flow_system.specs.declared.moves.Move.{Move}
-use Rattle.flow_system.specs.Moves.{destinations}
-use Rattle.flow_system.specs.Systems.{System}
-use Rattle.flow_system.specs.Counts.{Amounts, amount, departures, each_with, arrivals, count, inflow, total}
-use Rattle.flow_system.specs.Loose.{moves_elsewhere, most_turns, KeepsTurns}
-use Rattle.flow_system.proofs.DualityLemmas.{applied-each_with}
+use Rattle.code_flow_system.specs.declared.claims.LoopClaim.{LoopClaim}
+use Rattle.code_flow_system.specs.declared.moves.Move.{Move}
+use Rattle.code_flow_system.specs.Moves.{destinations}
+use Rattle.code_flow_system.specs.Systems.{System}
+use Rattle.code_flow_system.specs.Counts.{Amounts, amount, departures, each_with, arrivals, count, inflow, total}
+use Rattle.code_flow_system.specs.Loose.{moves_elsewhere, most_turns, KeepsTurns}
+use Rattle.code_flow_system.proofs.DualityLemmas.{applied-each_with}
 use Rattle.loop_prices.specs.LoopPrices.{Worths, turns_at, starts, starts_from, IsPaid, BoundsLooseFlows}
 
 -- sums

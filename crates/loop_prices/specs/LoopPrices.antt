@@ -1,12 +1,12 @@
 -- Prices over a nest of loops: what is still to come at each address, and what a turn of each loop adds at its header (Li and Malik 1995, loop bounds; Schrijver 1986, weak duality).
 use Rattle.std.specs.Prelude.{ℕ, ◌*◌, ◌==◌, ℤ, pos, ◌+ℤ◌, ◌*ℤ◌, ◌≤ℤ◌, List, [], ◌∷◌, All, if◌then◌else◌}
 use Rattle.frac128.specs.Terms.{Terms, int_sum_by, coefficient, when_same}
-use Rattle.flow_system.specs.declared.claims.LoopClaim.{LoopClaim}
-use Rattle.flow_system.specs.declared.moves.Move.{Move}
-use Rattle.flow_system.specs.Moves.{destinations}
-use Rattle.flow_system.specs.Systems.{System}
-use Rattle.flow_system.specs.Counts.{Amounts, total}
-use Rattle.flow_system.specs.Loose.{most_turns, IsLoose}
+use Rattle.code_flow_system.specs.declared.claims.LoopClaim.{LoopClaim}
+use Rattle.code_flow_system.specs.declared.moves.Move.{Move}
+use Rattle.code_flow_system.specs.Moves.{destinations}
+use Rattle.code_flow_system.specs.Systems.{System}
+use Rattle.code_flow_system.specs.Counts.{Amounts, total}
+use Rattle.code_flow_system.specs.Loose.{most_turns, IsLoose}
 
 -- the worths of addresses, and one number for each loop claim, the worth of a turn
 pub record Worths : Type 0 where

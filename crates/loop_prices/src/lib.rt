@@ -10,7 +10,7 @@
 
 ghost use Rattle.loop_prices.specs.LoopPrices.{BoundsLooseFlows};
 
-use flow_system::System;
+use code_flow_system::System;
 
 /// Prices over a nest of loops bound every loose flow.
 pub fn loose_flows_are_bounded(system: &System)

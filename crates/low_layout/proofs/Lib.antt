@@ -1,2 +1,3 @@
-pub mod LayingLemmas
-pub mod RegionLemmas
+pub mod WordLemmas
+pub mod SpotLemmas
+pub mod LaidLemmas

@@ -1,146 +1,199 @@
-// The memory, the layout and the image of a program.
-ghost use Rattle.std.specs.Prelude.{◌≡◌, slice_index, IfOk};
+// A laid program.
+ghost use Rattle.std.specs.Prelude.{◌≡◌, IfOk};
 ghost use Rattle.low_ir.specs.Programs.{low_of};
-ghost use Rattle.low_ir.specs.Placings.{placed_of};
-ghost use Rattle.code_forms.specs.Laid.{IsFormed};
-ghost use Rattle.data_segments.specs.Views.{data_of};
-ghost use Rattle.low_frames.specs.Memories.{memory_of};
-ghost use Rattle.low_image.specs.Images.{data_in, rows_in, items_in, entry_in, flash_bytes, scratchpad_bytes, image_in, FitsImage};
-ghost use Rattle.low_saving.specs.Walks.{HaveSpots};
+ghost use Rattle.low_ir.specs.Placings.{placed_of, placings_of};
+ghost use Rattle.image_definition.specs.Images.{FitsImage, items_in, rows_in};
+ghost use Rattle.asm_forms.specs.Laid.{IsFormed};
+ghost use Rattle.image_saving.specs.Walks.{HaveSpots};
+ghost use Rattle.image_sizes.specs.Sizes.{HasSizes};
+ghost use Rattle.claims_lists.specs.Places.{IsRoomy};
+ghost use Rattle.claims_image.specs.Images.{laid_of};
+ghost use Rattle.layout_law.specs.Kept.{KeepsLow};
+ghost use Rattle.claims_definition.specs.Listed.{Laid as Whole};
+ghost use Rattle.claims_making.specs.Whole.{IsWhole};
+ghost use Rattle.image_frames.specs.Memories.{memory_of};
+ghost use Rattle.low_layout.specs.Laid.{AreClaimed, AreListed, IsLaid};
 
-use code_forms::{Layout, Regions, form};
-use code_rows::row;
-use data_segments::{Code, Data as Segments, image, placed_end};
-use low_code::items_of;
-use low_data::Data;
+use super::words::has_words;
+use asm_data::Data;
+use claims_lists::{CodeRange, Laying, code_ranges, shapes_of, spans};
+use claims_making::claims_of;
+use claims_movables::{LaidItem, items};
+use claims_places::places_by_mark;
+use claims_touches::{Touch, touches_of};
+use code_flow_system::{Claims, LoopShape, Span};
+use image_making::{Assembly, array_regions, assemble};
+use image_memory::Placement;
 use low_ir::LowReg;
-use low_memory::{Placement, array_addresses, frames};
-use rv_core::Image;
+use rv_core::{Image, Region};
 use std::alloc::Global;
-use wcc_base::Memory;
+use wcc_base::{Items, Memory};
+
+/// What is claimed of the code of a program.
+#[derive(Drop)]
+pub struct Claimed {
+    pub claims: Claims,
+    /// By loop claim.
+    pub shapes: Vec<LoopShape>,
+}
+
+/// How the code and the arrays of a program lie.
+#[derive(Drop)]
+pub struct Lists {
+    /// By function, callees first and the start code last.
+    pub spans: Vec<Span>,
+    /// The code of functions, in the order of addresses.
+    pub ranges: Vec<CodeRange>,
+    /// By mark, the addresses of its blocks, in ascending order.
+    pub places: Vec<Items<u32>>,
+    /// What may be moved into the scratchpad: the functions, and then the arrays that aren't local.
+    pub items: Vec<LaidItem>,
+}
 
 /// A program in memory.
 #[derive(Drop)]
-pub struct Assembly {
-    /// Its frames and arrays.
-    pub memory: Data,
-    /// Its items in their forms, those of the start code last, and where they lie.
-    pub layout: Layout,
+pub struct Laid {
     pub image: Image,
+    pub claimed: Claimed,
+    pub lists: Lists,
 }
 
-/// The items of a program, each in the shortest form with which it reaches its target, and where they lie.
-fn layout(
-    alloc: Global,
-    code: &LowReg,
-    placement: &Placement,
-    memory: &Data,
-    placed_end: u32,
-) -> Result<Layout, Memory>
-    requires memory { memory.now ≡ memory_of placement.now (placed_of code.now) }
-    requires end { placed_end ≡ (rows_in placement.now (placed_of code.now)).scratchpad }
-    requires fit { FitsImage placement.now (placed_of code.now) }
-    ensures { IfOk result (λ l. IsFormed (rows_in placement.now (placed_of code.now)) (items_in placement.now (placed_of code.now)) l) }
-{
-    let items = items_of(alloc, code, memory)?;
-    let regions = Regions {
-        placed: &placement.functions,
-        flash: 0,
-        scratchpad: placed_end,
-    };
-    form(alloc, regions, &items)
+/// What there is of it beside the image.
+#[derive(Drop)]
+struct Parts {
+    claimed: Claimed,
+    lists: Lists,
 }
 
-/// The bytes of the code in flash and in the scratchpad.
-fn code_of(
-    alloc: Global,
-    code: &LowReg,
-    placement: &Placement,
-    layout: &Layout,
-) -> Result<Code, Memory>
-    requires formed { IsFormed (rows_in placement.now (placed_of code.now)) (items_in placement.now (placed_of code.now)) layout.now }
-    requires fit { FitsImage placement.now (placed_of code.now) }
-    ensures flash { IfOk result (λ c. c.flash.items ≡ flash_bytes placement.now (placed_of code.now)) }
-    ensures scratchpad { IfOk result (λ c. c.scratchpad.items ≡ scratchpad_bytes placement.now (placed_of code.now)) }
-{
-    let flash = row(alloc, layout, &placement.functions, false)?;
-    let scratchpad = row(alloc, layout, &placement.functions, true)?;
-    Ok(Code { flash, scratchpad })
+/// Where frames and arrays lie, and what items touch.
+#[derive(Clone, Copy)]
+struct Seen<'a> {
+    memory: &'a Data,
+    /// By array.
+    regions: &'a [Region],
+    /// By function, block and item, those of the start code last.
+    touches: &'a [Items<Items<Touch>>],
 }
 
-fn base_of(layout: &Layout, function: usize) -> u32
-    ensures { result ≡ slice_index layout.now.bases.items function }
+fn claims_in(alloc: Global, laying: &Laying<'_>, seen: &Seen<'_>) -> Result<Claimed, Memory>
+    requires { IsRoomy laying.now.layout.now }
+    ensures { IfOk result (λ y. (l : Whole) → IsWhole laying.now seen.now.regions.now seen.now.touches.now l → AreClaimed l y) }
 {
-    match layout.bases.get(function) {
-        Some(base) => *base,
-        None => 0,
+    let claims = claims_of(alloc, laying, seen.regions, seen.touches)?;
+    match shapes_of(alloc, claims.loops()) {
+        Ok(shapes) => Ok(Claimed { claims, shapes }),
+        Err(memory) => {
+            drop(claims);
+            Err(memory)
+        }
     }
 }
 
-/// Where the start code begins, behind the functions of the program.
-fn entry_of(code: &LowReg, placement: &Placement, layout: &Layout) -> u32
-    requires { IsFormed (rows_in placement.now (placed_of code.now)) (items_in placement.now (placed_of code.now)) layout.now }
-    ensures { result ≡ entry_in placement.now (placed_of code.now) }
+fn lists_in(alloc: Global, laying: &Laying<'_>, seen: &Seen<'_>) -> Result<Lists, Memory>
+    requires { IsRoomy laying.now.layout.now }
+    ensures { IfOk result (λ y. (l : Whole) → IsWhole laying.now seen.now.regions.now seen.now.touches.now l → l.memory ≡ seen.now.memory.now → AreListed laying.now.code.now l y) }
 {
-    base_of(layout, code.low.functions.len())
-}
-
-/// The image of a layout.
-fn image_of(
-    alloc: Global,
-    code: &LowReg,
-    placement: &Placement,
-    layout: &Layout,
-    segments: Segments<'_>,
-) -> Result<Image, Memory>
-    requires formed { IsFormed (rows_in placement.now (placed_of code.now)) (items_in placement.now (placed_of code.now)) layout.now }
-    requires segments { data_of segments ≡ data_in placement.now (placed_of code.now) }
-    requires fit { FitsImage placement.now (placed_of code.now) }
-    ensures { IfOk result (λ i. i ≡ image_in placement.now (placed_of code.now)) }
-{
-    let bytes = code_of(alloc, code, placement, layout)?;
-    image(alloc, entry_of(code, placement, layout), bytes, segments)
-}
-
-/// A program in this memory.
-fn assembled(
-    alloc: Global,
-    code: &LowReg,
-    placement: &Placement,
-    memory: Data,
-    segments: Segments<'_>,
-) -> Result<Assembly, Memory>
-    requires memory { memory ≡ memory_of placement.now (placed_of code.now) }
-    requires segments { data_of segments ≡ data_in placement.now (placed_of code.now) }
-    requires fit { FitsImage placement.now (placed_of code.now) }
-    ensures memory { IfOk result (λ a. a.memory ≡ memory_of placement.now (placed_of code.now)) }
-    ensures layout { IfOk result (λ a. IsFormed (rows_in placement.now (placed_of code.now)) (items_in placement.now (placed_of code.now)) a.layout) }
-    ensures image { IfOk result (λ a. a.image ≡ image_in placement.now (placed_of code.now)) }
-{
-    let layout = layout(alloc, code, placement, &memory, placed_end(segments))?;
-    let image = image_of(alloc, code, placement, &layout, segments)?;
-    Ok(Assembly {
-        memory,
-        layout,
-        image,
+    let spans = spans(alloc, laying)?;
+    let ranges = code_ranges(alloc, laying)?;
+    let places = places_by_mark(alloc, laying, laying.code.low.marks)?;
+    let items = items(alloc, laying, seen.memory, seen.regions, seen.touches)?;
+    Ok(Lists {
+        spans,
+        ranges,
+        places,
+        items,
     })
 }
 
-/// The memory, the layout and the image of a program.
-pub fn assemble(alloc: Global, code: &LowReg, placement: &Placement) -> Result<Assembly, Memory>
+fn parts_in(alloc: Global, laying: &Laying<'_>, seen: &Seen<'_>) -> Result<Parts, Memory>
+    requires { IsRoomy laying.now.layout.now }
+    ensures claimed { IfOk result (λ y. (l : Whole) → IsWhole laying.now seen.now.regions.now seen.now.touches.now l → AreClaimed l y.claimed) }
+    ensures lists { IfOk result (λ y. (l : Whole) → IsWhole laying.now seen.now.regions.now seen.now.touches.now l → l.memory ≡ seen.now.memory.now → AreListed laying.now.code.now l y.lists) }
+{
+    let claimed = claims_in(alloc, laying, seen)?;
+    match lists_in(alloc, laying, seen) {
+        Ok(lists) => Ok(Parts { claimed, lists }),
+        Err(memory) => {
+            drop(claimed);
+            Err(memory)
+        }
+    }
+}
+
+/// What is claimed of a program in this memory and layout, and how it lies.
+fn parts_of(
+    alloc: Global,
+    code: &LowReg,
+    placement: &Placement,
+    assembly: &Assembly,
+) -> Result<Parts, Memory>
+    requires memory { assembly.now.memory ≡ memory_of placement.now (placed_of code.now) }
+    requires formed { IsFormed (rows_in placement.now (placed_of code.now)) (items_in placement.now (placed_of code.now)) assembly.now.layout }
+    requires fit { FitsImage placement.now (placed_of code.now) }
+    ensures claimed { IfOk result (λ y. AreClaimed (laid_of placement.now (placed_of code.now)) y.claimed) }
+    ensures lists { IfOk result (λ y. AreListed code.now (laid_of placement.now (placed_of code.now)) y.lists) }
+{
+    let regions = array_regions(alloc, code, placement)?;
+    let touches = touches_of(alloc, code, &assembly.memory)?;
+    let areas = regions.as_slice();
+    let touched = touches.as_slice();
+    let laying = Laying {
+        code,
+        layout: &assembly.layout,
+        placed: &placement.functions,
+    };
+    let seen = Seen {
+        memory: &assembly.memory,
+        regions: areas,
+        touches: touched,
+    };
+    let parts = parts_in(alloc, &laying, &seen)?;
+    Ok(parts)
+}
+
+fn joined(assembly: Assembly, parts: Parts) -> Laid
+    ensures image { result.image ≡ assembly.image }
+    ensures claimed { result.claimed ≡ parts.claimed }
+    ensures lists { result.lists ≡ parts.lists }
+{
+    let Assembly {
+        memory,
+        layout,
+        image,
+    } = assembly;
+    drop(memory);
+    drop(layout);
+    let Parts { claimed, lists } = parts;
+    Laid {
+        image,
+        claimed,
+        lists,
+    }
+}
+
+/// A program that has room.
+fn laid_whole(alloc: Global, code: &LowReg, placement: &Placement) -> Result<Laid, Memory>
     requires spots { HaveSpots (low_of code.now.low).functions }
     requires fit { FitsImage placement.now (placed_of code.now) }
-    ensures memory { IfOk result (λ a. a.memory ≡ memory_of placement.now (placed_of code.now)) }
-    ensures layout { IfOk result (λ a. IsFormed (rows_in placement.now (placed_of code.now)) (items_in placement.now (placed_of code.now)) a.layout) }
-    ensures image { IfOk result (λ a. a.image ≡ image_in placement.now (placed_of code.now)) }
+    ensures { IfOk result (λ y. IsLaid placement.now code.now y) }
 {
-    let frames = frames(alloc, code)?;
-    let segments = Segments {
-        frames_end: frames.end,
-        placed: &placement.objects,
-        objects: &code.low.objects,
-    };
-    let objects = array_addresses(alloc, frames.end, code, placement)?;
-    let memory = Data::new(alloc, frames.frames, objects);
-    assembled(alloc, code, placement, memory, segments)
+    let assembly = assemble(alloc, code, placement)?;
+    match parts_of(alloc, code, placement, &assembly) {
+        Ok(parts) => Ok(joined(assembly, parts)),
+        Err(memory) => {
+            drop(assembly);
+            Err(memory)
+        }
+    }
+}
+
+/// The image of a program, with the claims on it and its lists. The functions and arrays that the placement names lie in
+/// the scratchpad.
+pub fn lay(alloc: Global, code: &LowReg, placement: &Placement) -> Result<Laid, Memory>
+    requires { HasSizes placement.now (placed_of code.now) }
+    ensures exact { IfOk result (λ y. IsLaid placement.now code.now y) }
+    ensures keeps { KeepsLow placement.now (placings_of code.now) (low_of code.now.low) }
+{
+    has_words(code);
+    laid_whole(alloc, code, placement)
 }

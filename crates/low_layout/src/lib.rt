@@ -1,19 +1,16 @@
-//! Lays a program: its image, with code, frames and arrays where a placement puts them.
+//! Lays a program: its image, the claims on it, and the lists that a search for the greatest flow and a choice of what to
+//! place want.
 //!
-//! The memory is that of `low_memory`, the items those of `low_code` over it; `code_forms` gives them their forms, behind
-//! the arrays of the scratchpad and from the beginning of flash, `code_rows` writes both rows, and `data_segments` makes
-//! the image. The start code is the last function, and where the image begins to run. The time is linear in the items, the
-//! bytes of the arrays, and the calls and functions for each register.
+//! `words` shows that displacements are words, `laying` makes the parts, one after the other: the image with its memory and
+//! layout (`image_making`), what its items touch (`claims_touches`), and by these the claims and the lists. Nothing is laid out
+//! twice. The time is linear in the items, but for the calls and functions for each register.
 //!
-//! Proved: [`assemble`] gives the memory, the layout and the image that `low_frames`, `code_forms` and `low_image` define
-//! of the program over its places, wherever that has room, so their laws hold of them; [`array_regions`] the region of each
-//! array. `Memory` is free.
-//!
-//! The crate knows no instruction and no claim.
+//! Proved: [`lay`] gives what `image_definition`, `claims_definition`, `claims_shapes` and `claims_items` define of the program over its
+//! places (`specs/Laid.antt`), wherever code and data keep to the bounds of `image_sizes`, or memory ran out; and the image
+//! and its claims then keep of the program what `layout_law` says in one record.
 #![tactic(auto)]
 
 mod laying;
-mod regions;
+mod words;
 
-pub use laying::{Assembly, assemble};
-pub use regions::array_regions;
+pub use laying::{Claimed, Laid, Lists, lay};

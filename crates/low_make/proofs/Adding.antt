@@ -11,9 +11,9 @@ use Rattle.high_ir.specs.View as views
 use Rattle.low_ir.specs.declared.low.Function as lows
 use Rattle.low_ir.specs.Code.{Function, Note}
 use Rattle.low_ir.specs.View as low
-use Rattle.low_plan.specs.Calls.{Passed, claims_among, numbered}
-use Rattle.low_plan.specs.Programs.{lowered_function, lowered_functions, lowered_in, scope_of}
-use Rattle.low_plan.specs.Values.{Scope}
+use Rattle.lower_definition.specs.Calls.{Passed, claims_among, numbered}
+use Rattle.lower_definition.specs.Programs.{lowered_function, lowered_functions, lowered_in, scope_of}
+use Rattle.lower_definition.specs.Values.{Scope}
 
 pub rank_at : (fs : List functions.Function) (f : ℕ) (h : functions.Function) → f < length fs → h ≡ get_or fs f h → rank_or (map views.function_of fs) f 0 ≡ h.rank
 rank_at fs f h lt read =

@@ -7,7 +7,7 @@ use Rattle.std.specs.Prelude.{Vec}
 use Rattle.std.specs.Global.{Global}
 use Rattle.low_ir.specs.View.{claim_of}
 use Rattle.low_make.specs.View.{claims_of}
-use Rattle.low_plan.specs.Calls.{Passed, Site, at_site, at_sites, meant, noted, passed_to}
+use Rattle.lower_definition.specs.Calls.{Passed, Site, at_site, at_sites, meant, noted, passed_to}
 
 pub at_sites_append : (objects : ℕ) (own : List (List ℕ)) (passed : Passed) (xs ys : List Site) → at_sites objects own passed (xs ++ ys) ≡ at_sites objects own (at_sites objects own passed xs) ys
 at_sites_append objects own passed [] ys = refl

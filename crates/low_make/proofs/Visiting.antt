@@ -6,7 +6,7 @@ use Rattle.high_ir.specs.declared.high.Function as functions
 use Rattle.high_ir.specs.Standing.{callees_of}
 use Rattle.high_ir.specs.View.{function_of, statement_of}
 use Rattle.low_ir.specs.Effects.{is_member}
-use Rattle.low_plan.specs.Calls.{behind_callees, visited, visited_all}
+use Rattle.lower_definition.specs.Calls.{behind_callees, visited, visited_all}
 
 pub visited_more : (fs : List functions.Function) (depth f : ℕ) (done found now pushed : List ℕ) (h : functions.Function) → 0 < depth → is_member done f ≡ false → slice_get fs f ≡ Some h →
     found ≡ callees_of (statement_of h.body) → now ≡ visited_all (visited (map function_of fs) (depth - 1)) found done → pushed ≡ now ++ f ∷ [] → pushed ≡ visited (map function_of fs) depth f done

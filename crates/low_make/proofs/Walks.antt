@@ -7,7 +7,7 @@ use Rattle.high_ir.specs.Standing.{callees_of, callees_of_all}
 use Rattle.high_ir.specs.Tree.{Then}
 use Rattle.high_ir.specs.View.{statement_of, statements_of}
 use Rattle.high_ir.proofs.Rows.{statement_of-Seq}
-use Rattle.low_plan.specs.Calls.{Passed, at_sites, sites_of, sites_of_all}
+use Rattle.lower_definition.specs.Calls.{Passed, at_sites, sites_of, sites_of_all}
 use Rattle.low_make.proofs.Sites.{at_sites_append}
 
 statements_at : (xs : List statements.Statement) (i : ℕ) (x : statements.Statement) → i < length xs → x ≡ get_or xs i x → statements_of (drop i xs) ≡ Then (statement_of x) (statements_of (drop (i + 1) xs))

@@ -2,9 +2,9 @@
 ghost use Rattle.std.specs.Prelude.{◌≡◌, ◌++◌, IfOk, map};
 ghost use Rattle.low_ir.specs.View.{claim_of};
 ghost use Rattle.low_make.specs.View.{claims_of};
-ghost use Rattle.low_plan.specs.Calls.{claims_among, numbered};
+ghost use Rattle.lower_definition.specs.Calls.{claims_among, numbered};
 
-use low_coder::numbers::sum;
+use lower_coder::numbers::sum;
 use std::alloc::Global;
 use wcc_base::Memory;
 

@@ -2,17 +2,17 @@
 ghost use Rattle.std.specs.Prelude.{◌≡◌, ◌++◌, IfOk, map, reverse};
 ghost use Rattle.std.specs.List.{range_with_len};
 ghost use Rattle.high_ir.specs.View.{function_of as high_function};
-ghost use Rattle.low_expression.specs.View.{scope_of};
+ghost use Rattle.lower_expression.specs.View.{scope_of};
 ghost use Rattle.low_ir.specs.View.{block_of, end_of, function_of, loop_of};
-ghost use Rattle.low_plan.specs.Programs as programs;
-ghost use Rattle.low_plan.specs.Programs.{lowered_function, turned, turned_end, turned_loop};
-ghost use Rattle.low_statement.specs.View.{piece_of};
+ghost use Rattle.lower_definition.specs.Programs as programs;
+ghost use Rattle.lower_definition.specs.Programs.{lowered_function, turned, turned_end, turned_loop};
+ghost use Rattle.lower_statement.specs.View.{piece_of};
 
 use high_ir::Function as HighFunction;
-use low_coder::numbers::{count, sum};
-use low_expression::Scope;
 use low_ir::{Block, End, Function, Loop};
-use low_statement::{Emitter, body};
+use lower_coder::numbers::{count, sum};
+use lower_expression::Scope;
+use lower_statement::{Emitter, body};
 use std::alloc::Global;
 use wcc_base::Memory;
 

@@ -2,8 +2,8 @@
 ghost use Rattle.std.specs.Prelude.{◌≡◌, IfOk};
 ghost use Rattle.high_ir.specs.Programs.{program_of};
 ghost use Rattle.low_ir.specs.Programs.{low_of};
-ghost use Rattle.low_law.specs.Programs.{KeepsProgram};
-ghost use Rattle.low_plan.specs.Programs.{lowered};
+ghost use Rattle.lower_law.specs.Programs.{KeepsProgram};
+ghost use Rattle.lower_definition.specs.Programs.{lowered};
 
 use super::program::parts_of;
 use high_ir::High;

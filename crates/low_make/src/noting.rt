@@ -2,7 +2,7 @@
 ghost use Rattle.std.specs.Prelude.{◌≡◌, ◌∷◌, [], IfOk, slice_set, true};
 ghost use Rattle.low_ir.specs.Effects.{is_member};
 ghost use Rattle.low_make.specs.Marks.{Marks};
-ghost use Rattle.low_plan.specs.Calls.{noted};
+ghost use Rattle.lower_definition.specs.Calls.{noted};
 
 use super::order::is_member;
 use std::alloc::Global;

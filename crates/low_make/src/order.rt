@@ -3,7 +3,7 @@ ghost use Rattle.std.specs.Prelude.{◌≡◌, ◌++◌, IfOk, map};
 ghost use Rattle.high_ir.specs.Standing.{callees_of, callees_of_all};
 ghost use Rattle.high_ir.specs.View.{function_of, statement_of, statements_of};
 ghost use Rattle.low_ir.specs.Effects.{is_member};
-ghost use Rattle.low_plan.specs.Calls.{visited, visited_all};
+ghost use Rattle.lower_definition.specs.Calls.{visited, visited_all};
 
 use high_ir::Function;
 use high_ir::statement::Statement;

@@ -3,17 +3,17 @@ use Rattle.std.proofs.Common.{◌≡◌, ℕ, ◌+◌, ◌<◌, ◌≤◌, true,
 use Rattle.std.specs.Prelude.{Vec, sum_by}
 use Rattle.std.specs.Global.{Global}
 use Rattle.std.proofs.lemmas.List.Sums.{get_or-le-sum_by, sum_by-cons}
-use Rattle.c_typed.proofs.Rows.{call_view}
-use Rattle.c_typed.specs.declared.expression.Callee.{Callee}
-use Rattle.c_typed.specs.declared.expression.Expr as exprs
-use Rattle.c_typed.specs.View.{expr_of, exprs_of}
-use Rattle.c_value.specs.declared.kind.Kind.{Kind as CType}
-use Rattle.high_plan.specs.declared.home.Home.{Home}
-use Rattle.high_plan.specs.declared.purpose.Purpose.{Purpose}
-use Rattle.high_plan.specs.declared.purpose.Purpose.TheVariants.{Value, Effect, Unless, When}
-use Rattle.high_plan.specs.Operators.{convert}
-use Rattle.high_plan.specs.Values as values
-use Rattle.high_plan.specs.Values.{called, changed_by, finished, made, passing, plain}
+use Rattle.types_tree.proofs.Rows.{call_view}
+use Rattle.types_tree.specs.declared.expression.Callee.{Callee}
+use Rattle.types_tree.specs.declared.expression.Expr as exprs
+use Rattle.types_tree.specs.View.{expr_of, exprs_of}
+use Rattle.types_value.specs.declared.kind.Kind.{Kind as CType}
+use Rattle.plan_definition.specs.declared.home.Home.{Home}
+use Rattle.plan_definition.specs.declared.purpose.Purpose.{Purpose}
+use Rattle.plan_definition.specs.declared.purpose.Purpose.TheVariants.{Value, Effect, Unless, When}
+use Rattle.plan_definition.specs.Operators.{convert}
+use Rattle.plan_definition.specs.Values as values
+use Rattle.plan_definition.specs.Values.{called, changed_by, finished, made, passing, plain}
 use Rattle.make_pieces.specs.declared.valued.Valued.{Valued}
 use Rattle.make_pieces.specs.View.{valued_of}
 use Rattle.make_expression.specs.Makes.{Makes}

@@ -1,19 +1,19 @@
 -- What the code makes of expressions and their parts.
 use Rattle.std.specs.Prelude.{◌≡◌, ℕ, ◌+◌, Bool, true, false, List, map}
-use Rattle.c_typed.specs.Tree as c
-use Rattle.c_value.specs.Kinds.{is_signed, promoted}
-use Rattle.c_value.specs.declared.kind.Kind.{Kind as CType}
-use Rattle.c_value.specs.declared.operator.Operator.{Operator}
+use Rattle.types_tree.specs.Tree as c
+use Rattle.types_value.specs.Kinds.{is_signed, promoted}
+use Rattle.types_value.specs.declared.kind.Kind.{Kind as CType}
+use Rattle.types_value.specs.declared.operator.Operator.{Operator}
 use Rattle.high_ir.specs.declared.object.Array.{Array}
 use Rattle.high_ir.specs.Tree.{Expr, Constant, Variable, Element, Set, Keep, Statements, Then}
 use Rattle.high_ir.specs.View.{expr_of}
 use Rattle.high_code.specs.Code.{joined, alone}
-use Rattle.high_plan.specs.declared.home.Home.{Home}
-use Rattle.high_plan.specs.declared.purpose.Purpose.{Purpose}
-use Rattle.high_plan.specs.declared.purpose.Purpose.TheVariants.{Value, Effect, Unless, When}
-use Rattle.high_plan.specs.Operators.{convert, operated}
-use Rattle.high_plan.specs.Values as values
-use Rattle.high_plan.specs.Values.{finished, made, only_code, placed}
+use Rattle.plan_definition.specs.declared.home.Home.{Home}
+use Rattle.plan_definition.specs.declared.purpose.Purpose.{Purpose}
+use Rattle.plan_definition.specs.declared.purpose.Purpose.TheVariants.{Value, Effect, Unless, When}
+use Rattle.plan_definition.specs.Operators.{convert, operated}
+use Rattle.plan_definition.specs.Values as values
+use Rattle.plan_definition.specs.Values.{finished, made, only_code, placed}
 use Rattle.make_pieces.specs.declared.valued.Valued.{Valued}
 use Rattle.make_pieces.specs.View.{code_of, valued_of}
 use Rattle.make_expression.specs.declared.assigning.Change.{Change}

@@ -1,6 +1,6 @@
 -- How large typed expressions are, their conversions included.
 use Rattle.std.specs.Prelude.{ℕ, ◌+◌}
-use Rattle.c_typed.specs.Tree.{Place, Scalar, Element, Within, Expr, Number, Character, Read, Array, Paren, Call, Step, Signed, Cast, Convert, Operate, And, Or, Comma, Conditional, Assign, Update, Exprs, NoExpr, WithExpr}
+use Rattle.types_tree.specs.Tree.{Place, Scalar, Element, Within, Expr, Number, Character, Read, Array, Paren, Call, Step, Signed, Cast, Convert, Operate, And, Or, Comma, Conditional, Assign, Update, Exprs, NoExpr, WithExpr}
 
 abbrev mutual
   pub place_size : Place → ℕ

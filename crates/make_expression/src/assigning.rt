@@ -4,22 +4,22 @@ ghost use Rattle.make_expression.specs.Makes.{Makes, from_next, updated_word};
 ghost use Rattle.make_pieces.specs.View.{aimed_of, code_of, leaf_expr, steady_of, valued_of};
 ghost use Rattle.high_ir.specs.Tree.{Element, Variable};
 ghost use Rattle.high_ir.specs.View.{expr_of};
-ghost use Rattle.high_plan.specs.declared.purpose.Purpose.TheVariants.{Value, Effect};
-ghost use Rattle.high_plan.specs.Homes as homes;
-ghost use Rattle.high_plan.specs.Operators.{convert};
-ghost use Rattle.high_plan.specs.Values.{assigned, changed_in, kept_in, set_to, updated};
+ghost use Rattle.plan_definition.specs.declared.purpose.Purpose.TheVariants.{Value, Effect};
+ghost use Rattle.plan_definition.specs.Homes as homes;
+ghost use Rattle.plan_definition.specs.Operators.{convert};
+ghost use Rattle.plan_definition.specs.Values.{assigned, changed_in, kept_in, set_to, updated};
 
 use super::operating::new_value;
-use c_value::{Kind, Operator};
 use high_ir::expression::Expr;
 use high_ir::object::Array;
 use high_ir::statement::Statement;
-use high_plan::Purpose;
 use make_pieces::expr::{Leaf, element, let_go};
 use make_pieces::numbers::sum;
 use make_pieces::operators::convert;
 use make_pieces::{Aimed, Code, Steady, Target, Valued};
+use plan_definition::Purpose;
 use std::alloc::Global;
+use types_value::{Kind, Operator};
 use wcc_base::Memory;
 
 /// A value that is stored in a variable.

@@ -2,21 +2,21 @@
 ghost use Rattle.std.specs.Prelude.{◌≡◌, IfOk};
 ghost use Rattle.make_expression.specs.Makes.{passing_of};
 ghost use Rattle.make_pieces.specs.View.{code_of, valued_of};
-ghost use Rattle.c_typed.specs.declared.expression.Callee.TheVariants.{Function as Own};
+ghost use Rattle.types_tree.specs.declared.expression.Callee.TheVariants.{Function as Own};
 ghost use Rattle.high_code.specs.Code.{alone, joined};
 ghost use Rattle.high_ir.specs.Tree.{Get, Variable};
-ghost use Rattle.high_plan.specs.declared.purpose.Purpose.TheVariants.{Value, Effect};
-ghost use Rattle.high_plan.specs.Values.{called, first_value, put};
+ghost use Rattle.plan_definition.specs.declared.purpose.Purpose.TheVariants.{Value, Effect};
+ghost use Rattle.plan_definition.specs.Values.{called, first_value, put};
 
 use super::passing::{Passing, first_value};
-use c_typed::expression::{Callee, FunctionId};
-use c_value::Kind;
 use high_ir::expression::Expr;
 use high_ir::statement::Statement;
-use high_plan::Purpose;
 use make_pieces::operators::convert;
 use make_pieces::{Code, Steady, Valued};
+use plan_definition::Purpose;
 use std::alloc::Global;
+use types_tree::expression::{Callee, FunctionId};
+use types_value::Kind;
 use wcc_base::Memory;
 
 /// A byte that is written; its value is that of the byte.

@@ -4,7 +4,7 @@ ghost use Rattle.make_pieces.specs.View.{code_of, valued_of};
 ghost use Rattle.high_code.specs.Code.{alone, joined};
 ghost use Rattle.high_ir.specs.Tree.{Block, Constant, Leave, Seq, Set};
 ghost use Rattle.high_ir.specs.View.{statement_of};
-ghost use Rattle.high_plan.specs.Values.{chosen, chosen_by_jumps, noted};
+ghost use Rattle.plan_definition.specs.Values.{chosen, chosen_by_jumps, noted};
 
 use high_ir::expression::Expr;
 use high_ir::statement::Statement;

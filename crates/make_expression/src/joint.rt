@@ -1,10 +1,10 @@
 // Tests that are made of jumps.
 ghost use Rattle.std.specs.Prelude.{◌≡◌};
-ghost use Rattle.c_typed.specs.View.{expr_of};
-ghost use Rattle.high_plan.specs.Values.{is_joint};
+ghost use Rattle.types_tree.specs.View.{expr_of};
+ghost use Rattle.plan_definition.specs.Values.{is_joint};
 
-use c_typed::expression::Expr;
-use c_value::Sign;
+use types_tree::expression::Expr;
+use types_value::Sign;
 
 /// Whether a test is made of jumps: of `&&`, `||`, and `!` of one of these.
 pub fn is_joint(test: &Expr) -> bool

@@ -1,6 +1,6 @@
 //! What expressions of a typed tree become in the high form: code, and then a value that it leaves.
 //!
-//! Proved: `value`, `code` and `choose` make the code and the value that `high_plan` defines, or memory ran out. Each
+//! Proved: `value`, `code` and `choose` make the code and the value that `plan_definition` defines, or memory ran out. Each
 //! expression is visited once; code is moved and never copied.
 //!
 //! This crate knows no statement of the source.

@@ -1,17 +1,17 @@
 // Operators between two values.
 ghost use Rattle.std.specs.Prelude.{◌≡◌, IfOk};
-ghost use Rattle.c_value.specs.Kinds.{is_signed};
+ghost use Rattle.types_value.specs.Kinds.{is_signed};
 ghost use Rattle.make_pieces.specs.View.{code_of, valued_of};
 ghost use Rattle.high_ir.specs.View.{expr_of};
-ghost use Rattle.high_plan.specs.Operators.{convert, operated};
-ghost use Rattle.high_plan.specs.Values.{operated_on};
+ghost use Rattle.plan_definition.specs.Operators.{convert, operated};
+ghost use Rattle.plan_definition.specs.Values.{operated_on};
 
-use c_value::{Kind, Operator};
 use high_ir::expression::Expr;
 use make_pieces::Valued;
 use make_pieces::expr::let_go;
 use make_pieces::operators::{convert, operated};
 use std::alloc::Global;
+use types_value::{Kind, Operator};
 use wcc_base::Memory;
 
 /// An operator on two values, where the code of both was made.

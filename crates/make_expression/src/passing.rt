@@ -2,18 +2,18 @@
 ghost use Rattle.std.specs.Prelude.{◌≡◌, ◌∷◌, [], IfOk, None, map};
 ghost use Rattle.make_expression.specs.Makes.{passing_of};
 ghost use Rattle.make_pieces.specs.View.{valued_of};
-ghost use Rattle.c_typed.specs.View.{expr_of as source_of};
+ghost use Rattle.types_tree.specs.View.{expr_of as source_of};
 ghost use Rattle.high_ir.specs.Tree.{End};
 ghost use Rattle.high_ir.specs.View.{expr_of};
-ghost use Rattle.high_plan.specs.Values.{argument, array_named, first_value};
+ghost use Rattle.plan_definition.specs.Values.{argument, array_named, first_value};
 
-use c_typed::expression::Expr as Source;
 use high_ir::expression::Expr;
 use high_ir::object::Base;
-use high_plan::Home;
 use make_pieces::homes::{base_at, home_of};
 use make_pieces::{Code, Valued};
+use plan_definition::Home;
 use std::alloc::Global;
+use types_tree::expression::Expr as Source;
 use wcc_base::Memory;
 
 /// Code, and what it leaves for a call: values, and which arrays.

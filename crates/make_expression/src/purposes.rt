@@ -1,14 +1,14 @@
 // What parts of an expression are for.
 ghost use Rattle.std.specs.Prelude.{◌≡◌, IfOk};
 ghost use Rattle.make_pieces.specs.View.{valued_of};
-ghost use Rattle.high_plan.specs.Operators.{convert, signed};
-ghost use Rattle.high_plan.specs.Values.{changed_by, finished, for_operand, plain, signed_for};
+ghost use Rattle.plan_definition.specs.Operators.{convert, signed};
+ghost use Rattle.plan_definition.specs.Values.{changed_by, finished, for_operand, plain, signed_for};
 
-use c_value::{Kind, Sign};
-use high_plan::Purpose;
 use make_pieces::Valued;
 use make_pieces::operators::{convert, signed};
+use plan_definition::Purpose;
 use std::alloc::Global;
+use types_value::{Kind, Sign};
 use wcc_base::Memory;
 
 /// A value that is converted is dropped where the conversion is.

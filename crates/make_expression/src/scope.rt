@@ -1,4 +1,4 @@
-use high_plan::Home;
+use plan_definition::Home;
 use std::alloc::Global;
 
 /// Where pieces are made: the allocator, and where the objects live.

@@ -4,23 +4,23 @@ ghost use Rattle.make_expression.specs.Makes.{element_behind, stepped_word};
 ghost use Rattle.make_pieces.specs.View.{aimed_of, code_of, leaf_expr, steady_of, valued_of};
 ghost use Rattle.high_ir.specs.Tree.{Element, Keep, Set};
 ghost use Rattle.high_ir.specs.View.{expr_of, statement_of};
-ghost use Rattle.high_plan.specs.Homes as homes;
-ghost use Rattle.high_plan.specs.Operators.{convert};
-ghost use Rattle.high_plan.specs.Values.{step_operator, stepped, stepped_behind};
+ghost use Rattle.plan_definition.specs.Homes as homes;
+ghost use Rattle.plan_definition.specs.Operators.{convert};
+ghost use Rattle.plan_definition.specs.Values.{step_operator, stepped, stepped_behind};
 
 use super::assigning::{Change, updated};
 use c_tree::expression::PostfixOperator;
-use c_typed::expression::Fix;
-use c_value::{Kind, Operator};
 use high_ir::expression::Expr;
 use high_ir::object::Array;
 use high_ir::statement::Statement;
-use high_plan::Purpose;
 use make_pieces::expr::{element, let_go};
 use make_pieces::numbers::sum;
 use make_pieces::operators::{convert, operated};
 use make_pieces::{Aimed, Code, Leaf, Steady, Target, Valued};
+use plan_definition::Purpose;
 use std::alloc::Global;
+use types_tree::expression::Fix;
+use types_value::{Kind, Operator};
 use wcc_base::Memory;
 
 fn step_operator(operator: PostfixOperator) -> Operator

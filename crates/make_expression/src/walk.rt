@@ -1,15 +1,15 @@
 // The walk over an expression.
 ghost use Rattle.std.specs.Prelude.{◌≡◌, ◌+◌, ℕ, IfOk, zero};
-ghost use Rattle.c_typed.specs.Tree as trees;
-ghost use Rattle.c_typed.specs.Tree.{And, Assign, Conditional, Or, Update};
-ghost use Rattle.c_typed.specs.View.{expr_of, exprs_of, place_of};
+ghost use Rattle.types_tree.specs.Tree as trees;
+ghost use Rattle.types_tree.specs.Tree.{And, Assign, Conditional, Or, Update};
+ghost use Rattle.types_tree.specs.View.{expr_of, exprs_of, place_of};
 ghost use Rattle.make_expression.specs.Makes.{Makes, chosen_for, passing_of, way};
 ghost use Rattle.make_pieces.specs.View.{aimed_of, code_of, valued_of};
 ghost use Rattle.high_code.specs.Code.{joined};
 ghost use Rattle.high_ir.specs.View.{expr_of as value_of};
-ghost use Rattle.high_plan.specs.declared.purpose.Purpose.TheVariants.{Value, Unless};
-ghost use Rattle.high_plan.specs.Homes.{loaded};
-ghost use Rattle.high_plan.specs.Values.{aimed, argument, array_named, both, choice, is_joint, made, passing};
+ghost use Rattle.plan_definition.specs.declared.purpose.Purpose.TheVariants.{Value, Unless};
+ghost use Rattle.plan_definition.specs.Homes.{loaded};
+ghost use Rattle.plan_definition.specs.Values.{aimed, argument, array_named, both, choice, is_joint, made, passing};
 
 use super::assigning::{Change, assigned, updated};
 use super::calling::called;
@@ -20,14 +20,14 @@ use super::passing::{Passing, array_named};
 use super::purposes::{converted, for_operand, plain, signed_for};
 use super::scope::Scope;
 use super::stepping::{Step, stepped};
-use c_typed::expression::{Expr, Place};
 use high_ir::expression::Expr as Made;
-use high_plan::Purpose;
 use make_pieces::expr::let_go;
 use make_pieces::homes::{array_at, home_of, scalar_at};
 use make_pieces::numbers::{offset, sum};
 use make_pieces::{Aimed, Code, Target, Valued};
+use plan_definition::Purpose;
 use std::alloc::Global;
+use types_tree::expression::{Expr, Place};
 use wcc_base::Memory;
 
 /// What a target holds.

@@ -2,11 +2,11 @@
 use Rattle.std.proofs.Common.{◌≡◌, ap, ℕ}
 use Rattle.std.specs.Prelude.{Vec}
 use Rattle.std.specs.Global.{Global}
-use Rattle.c_typed.proofs.Rows.{block_view, switch_view}
-use Rattle.c_typed.specs.View.{items_of, statement_of}
-use Rattle.c_typed.specs.declared.expression.Expr as exprs
-use Rattle.c_typed.specs.declared.statement.Item as items
-use Rattle.c_typed.specs.declared.statement.Statement as statements
+use Rattle.types_tree.proofs.Rows.{block_view, switch_view}
+use Rattle.types_tree.specs.View.{items_of, statement_of}
+use Rattle.types_tree.specs.declared.expression.Expr as exprs
+use Rattle.types_tree.specs.declared.statement.Item as items
+use Rattle.types_tree.specs.declared.statement.Statement as statements
 use Rattle.make_loops.specs.Numbers.{items_numbers, statement_numbers}
 
 pub block_numbers : (v : Vec items.Item Global) (at : ℕ) → statement_numbers (statement_of (statements.Block v at)) ≡ items_numbers (items_of v.items)

@@ -1,10 +1,10 @@
 -- The loops of a typed program in the order of the source, fillings included, with the numbers that they have in the plan.
 use Rattle.std.specs.Prelude.{ℕ, ◌+◌, ◌-◌, List, [], ◌∷◌, ◌++◌, Option, Some, None}
-use Rattle.c_typed.specs.Tree as c
-use Rattle.c_typed.specs.View.{declaration_of, statement_of}
-use Rattle.c_typed.specs.declared.statement.Item.{Item}
-use Rattle.c_typed.specs.declared.statement.Item.TheVariants as item
-use Rattle.high_plan.specs.Statements.{loops_before}
+use Rattle.types_tree.specs.Tree as c
+use Rattle.types_tree.specs.View.{declaration_of, statement_of}
+use Rattle.types_tree.specs.declared.statement.Item.{Item}
+use Rattle.types_tree.specs.declared.statement.Item.TheVariants as item
+use Rattle.plan_definition.specs.Statements.{loops_before}
 use Rattle.make_loops.specs.declared.renumbered.Renumbered.{Renumbered}
 
 abbrev pub renumbered : (old new : ℕ) → Renumbered

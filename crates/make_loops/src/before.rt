@@ -1,11 +1,11 @@
 // Loops that stand in the head of another.
 ghost use Rattle.std.specs.Prelude.{◌≡◌, IfOk, map};
-ghost use Rattle.c_typed.specs.View.{initial_of, object_of, start_of};
-ghost use Rattle.high_plan.specs.Statements.{fillings_in, fillings_of, loops_before};
+ghost use Rattle.types_tree.specs.View.{initial_of, object_of, start_of};
+ghost use Rattle.plan_definition.specs.Statements.{fillings_in, fillings_of, loops_before};
 
-use c_typed::declaration::{Declaration, Initial, Object};
-use c_typed::statement::ForStart;
 use make_pieces::numbers::sum;
+use types_tree::declaration::{Declaration, Initial, Object};
+use types_tree::statement::ForStart;
 use wcc_base::Memory;
 
 fn fillings_of(initial: &Initial) -> u32

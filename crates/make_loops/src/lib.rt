@@ -3,7 +3,7 @@
 //! A loop keeps its number, but that of a `for` stands behind the fillings in its head.
 //!
 //! Proved: `loops_of` lists each loop of the functions once, in source order, with both numbers (`specs/Numbers`), or memory
-//! ran out; `loops_before` is the number of fillings that `high_plan` defines. Each statement is visited once.
+//! ran out; `loops_before` is the number of fillings that `plan_definition` defines. Each statement is visited once.
 //!
 //! This crate knows no code of the plan.
 #![tactic(auto)]

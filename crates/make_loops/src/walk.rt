@@ -1,16 +1,16 @@
 // The loops of statements, one behind the other.
 ghost use Rattle.std.specs.Prelude.{◌≡◌, ◌-◌, ◌++◌, ◌∷◌, [], IfOk, OnOk, map};
 ghost use Rattle.c_tree.specs.Named.{map_option};
-ghost use Rattle.c_typed.specs.View.{declaration_of, function_of, initial_of, items_of, loop_of, object_of, start_of, statement_of};
+ghost use Rattle.types_tree.specs.View.{declaration_of, function_of, initial_of, items_of, loop_of, object_of, start_of, statement_of};
 ghost use Rattle.make_loops.specs.Numbers.{declaration_numbers, filling_numbers, for_numbers, functions_numbers, initial_numbers, item_numbers, items_numbers, objects_numbers, renumbered, start_numbers, statement_numbers};
 
 use super::before::loops_before;
 use super::renumbered::Renumbered;
-use c_typed::declaration::{Declaration, Initial, Object};
-use c_typed::external::Function;
-use c_typed::statement::{ForStart, Item, LoopId, Statement};
 use make_pieces::numbers::sum;
 use std::alloc::Global;
+use types_tree::declaration::{Declaration, Initial, Object};
+use types_tree::external::Function;
+use types_tree::statement::{ForStart, Item, LoopId, Statement};
 use wcc_base::Memory;
 
 fn push(old: u32, new: u32, loops: &mut Vec<Renumbered>) -> Result<(), Memory>

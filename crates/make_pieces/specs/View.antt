@@ -2,10 +2,10 @@
 use Rattle.std.specs.Prelude.{ℕ, ◌+◌, Bool, not, ◌||◌}
 use Rattle.high_ir.specs.Tree.{Expr, Constant, Variable, Binary, Statements}
 use Rattle.high_ir.specs.View.{expr_of, statements_of}
-use Rattle.high_plan.specs.Homes as homes
-use Rattle.high_plan.specs.Homes.{InFrame, InMemory}
-use Rattle.high_plan.specs.Values as values
-use Rattle.high_plan.specs.Values.{is_changed, is_leaf, is_variable}
+use Rattle.plan_definition.specs.Homes as homes
+use Rattle.plan_definition.specs.Homes.{InFrame, InMemory}
+use Rattle.plan_definition.specs.Values as values
+use Rattle.plan_definition.specs.Values.{is_changed, is_leaf, is_variable}
 use Rattle.make_pieces.specs.declared.code.Code.{Code}
 use Rattle.make_pieces.specs.declared.expr.Leaf.{Leaf}
 use Rattle.make_pieces.specs.declared.expr.Leaf.TheVariants as leaf

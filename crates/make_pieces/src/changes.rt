@@ -3,7 +3,7 @@ ghost use Rattle.std.specs.Prelude.{◌≡◌, ◌+◌};
 ghost use Rattle.make_pieces.specs.View.{code_of};
 ghost use Rattle.high_code.specs.Code.{assigns, assigns_any, assigns_into};
 ghost use Rattle.high_ir.specs.View.{expr_of, statement_of, statements_of};
-ghost use Rattle.high_plan.specs.Values.{is_changed, is_variable};
+ghost use Rattle.plan_definition.specs.Values.{is_changed, is_variable};
 
 use super::code::Code;
 use high_ir::expression::Expr;

@@ -3,7 +3,7 @@ ghost use Rattle.std.specs.Prelude.{◌≡◌, IfNone, IfOk, IfSome, false};
 ghost use Rattle.high_ir.specs.Tree.{Binary, Element, Unary};
 ghost use Rattle.high_ir.specs.View.{expr_of};
 ghost use Rattle.make_pieces.specs.View.{leaf_expr};
-ghost use Rattle.high_plan.specs.Values.{is_leaf};
+ghost use Rattle.plan_definition.specs.Values.{is_leaf};
 
 use high_ir::expression::{BinaryOperator, Expr, UnaryOperator};
 use high_ir::object::Array;

@@ -2,14 +2,14 @@
 ghost use Rattle.std.specs.Prelude.{◌≡◌, IfOk};
 ghost use Rattle.make_pieces.specs.View.{target_of};
 ghost use Rattle.high_ir.specs.View.{expr_of, statement_of};
-ghost use Rattle.high_plan.specs.Homes.{array_at, base_at, home_of, loaded, scalar_at, stored};
+ghost use Rattle.plan_definition.specs.Homes.{array_at, base_at, home_of, loaded, scalar_at, stored};
 
 use super::code::Code;
 use super::expr::{element, let_go};
 use high_ir::expression::Expr;
 use high_ir::object::{Array, Base, Kind};
 use high_ir::statement::Statement;
-use high_plan::Home;
+use plan_definition::Home;
 use std::alloc::Global;
 use wcc_base::Memory;
 

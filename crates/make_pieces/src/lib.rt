@@ -3,7 +3,7 @@
 //! `Code` is a list of statements, `Valued` code and the value that it leaves, `Target` an element or a variable.
 //! `specs/View` sees each without where it lies in memory.
 //!
-//! Proved: every function makes the piece that `high_plan` defines, or memory ran out. A piece is moved into the one
+//! Proved: every function makes the piece that `plan_definition` defines, or memory ran out. A piece is moved into the one
 //! that it becomes a part of, and never copied; numbers past 32 bits are answered as want of memory.
 //!
 //! This crate knows no tree of the source.

@@ -3,13 +3,13 @@ ghost use Rattle.std.specs.Prelude.{◌≡◌, IfOk};
 ghost use Rattle.make_pieces.specs.View.{ordered};
 ghost use Rattle.high_ir.specs.Tree as trees;
 ghost use Rattle.high_ir.specs.View.{expr_of};
-ghost use Rattle.high_plan.specs.Operators.{convert, convert_to, kind_of, operated, signed};
+ghost use Rattle.plan_definition.specs.Operators.{convert, convert_to, kind_of, operated, signed};
 
 use super::expr::{binary, unary};
-use c_value::{Kind as Type, Operator, Sign};
 use high_ir::expression::{BinaryOperator, Expr, UnaryOperator};
 use high_ir::object::Kind;
 use std::alloc::Global;
+use types_value::{Kind as Type, Operator, Sign};
 use wcc_base::Memory;
 
 /// What elements of a type are.

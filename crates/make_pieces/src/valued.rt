@@ -4,7 +4,7 @@ ghost use Rattle.make_pieces.specs.View.{code_of, is_loose, leaf_expr, steady_of
 ghost use Rattle.high_code.specs.Code.{alone, joined, nothing};
 ghost use Rattle.high_ir.specs.Tree.{Leave};
 ghost use Rattle.high_ir.specs.View.{expr_of, statement_of};
-ghost use Rattle.high_plan.specs.Values.{finished, firm, held, jumping, kept, known, leaf, only_code, placed};
+ghost use Rattle.plan_definition.specs.Values.{finished, firm, held, jumping, kept, known, leaf, only_code, placed};
 
 use super::changes::{is_changed, is_next};
 use super::code::Code;
@@ -12,7 +12,7 @@ use super::expr::{Leaf, leaf_of};
 use super::statements::{choice, nothing};
 use high_ir::expression::Expr;
 use high_ir::statement::Statement;
-use high_plan::Purpose;
+use plan_definition::Purpose;
 use std::alloc::Global;
 use wcc_base::Memory;
 

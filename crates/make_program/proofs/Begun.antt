@@ -3,11 +3,11 @@ use Rattle.std.proofs.Common.{◌≡◌, ℕ, suc, ◌+◌, ◌<◌, ◌≤◌, 
 use Rattle.std.proofs.lemmas.List.{drop-drop, drop_more}
 use Rattle.std.specs.List.{prefix_len}
 use Rattle.std.specs.Prelude.{Bool, true, false, nat_le, ◌==◌, if◌then◌else◌}
-use Rattle.c_typed.specs.View.{function_of}
-use Rattle.c_typed.specs.declared.external.Function.{Function}
-use Rattle.c_typed.specs.declared.variable.Variable.{Variable}
-use Rattle.high_plan.specs.declared.home.Home.{Home}
-use Rattle.high_plan.specs.Layouts.{Next, ahead, begun, firsts_of, home_by, homes_from, next_by}
+use Rattle.types_tree.specs.View.{function_of}
+use Rattle.types_tree.specs.declared.external.Function.{Function}
+use Rattle.types_tree.specs.declared.variable.Variable.{Variable}
+use Rattle.plan_definition.specs.declared.home.Home.{Home}
+use Rattle.plan_definition.specs.Layouts.{Next, ahead, begun, firsts_of, home_by, homes_from, next_by}
 
 abbrev pub firsts : List Function → List ℕ
 firsts fs = firsts_of (map function_of fs)

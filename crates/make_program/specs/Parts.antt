@@ -1,6 +1,6 @@
 -- Parts of a program, as the code has them.
 use Rattle.std.specs.Prelude.{[], false, Option, Some, None}
-use Rattle.high_plan.specs.Layouts as layouts
+use Rattle.plan_definition.specs.Layouts as layouts
 use Rattle.make_program.specs.declared.givens.Given.{Given}
 use Rattle.make_program.specs.declared.homes.Next.{Next}
 

@@ -1,20 +1,20 @@
 // The functions of a program.
 ghost use Rattle.std.specs.Prelude.{◌≡◌, ◌+◌, All, IfOk, map, slice_index_or};
-ghost use Rattle.c_typed.specs.View.{function_of as defined_of, param_of};
+ghost use Rattle.types_tree.specs.View.{function_of as defined_of, param_of};
 ghost use Rattle.high_ir.specs.View.{function_of};
-ghost use Rattle.high_plan.specs.Layouts.{frame_scalars, is_frame, is_passed, passed_arrays};
-ghost use Rattle.high_plan.specs.Programs.{between, end_of, function_planned, functions_planned, named_params};
+ghost use Rattle.plan_definition.specs.Layouts.{frame_scalars, is_frame, is_passed, passed_arrays};
+ghost use Rattle.plan_definition.specs.Programs.{between, end_of, function_planned, functions_planned, named_params};
 ghost use Rattle.make_statement.specs.Planned.{IsSmall, plan_said};
 
 use super::frames::frame_needed;
-use c_typed::declaration::Param;
-use c_typed::external::Function as Defined;
-use c_typed::variable::{Duration, Extent, Variable};
 use high_ir::Function;
 use make_pieces::numbers::{offset, sum};
 use make_pieces::statements::let_go;
 use make_statement::{Plan, body};
 use std::alloc::Global;
+use types_tree::declaration::Param;
+use types_tree::external::Function as Defined;
+use types_tree::variable::{Duration, Extent, Variable};
 use wcc_base::Memory;
 
 /// The objects from one number up to another.

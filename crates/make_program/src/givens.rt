@@ -1,20 +1,20 @@
 // The first values of a program's objects.
 ghost use Rattle.std.specs.Prelude.{◌≡◌, ◌++◌, ◌∷◌, List, IfOk, OnOk, map};
 ghost use Rattle.std.specs.List.{list_any};
-ghost use Rattle.c_facts.specs.Starts.{word};
-ghost use Rattle.c_typed.specs.Tree as trees;
-ghost use Rattle.c_typed.specs.View.{expr_of, exprs_of, external_of, initial_of, object_of};
-ghost use Rattle.high_plan.specs.Layouts as layouts;
-ghost use Rattle.high_plan.specs.Layouts.{givens, givens_of, initial_words, is_const, word_or_zero, words_of};
+ghost use Rattle.facts_definitions.specs.Starts.{word};
+ghost use Rattle.types_tree.specs.Tree as trees;
+ghost use Rattle.types_tree.specs.View.{expr_of, exprs_of, external_of, initial_of, object_of};
+ghost use Rattle.plan_definition.specs.Layouts as layouts;
+ghost use Rattle.plan_definition.specs.Layouts.{givens, givens_of, initial_words, is_const, word_or_zero, words_of};
 ghost use Rattle.make_program.specs.Parts.{given_of};
 
 use c_tree::expression::Specifier;
-use c_typed::declaration::{Declaration, Initial, Object};
-use c_typed::expression::Expr;
-use c_typed::external::External;
-use flow_most::word;
+use facts_most::word;
 use std::alloc::Global;
 use std::collections::VecDeque;
+use types_tree::declaration::{Declaration, Initial, Object};
+use types_tree::expression::Expr;
+use types_tree::external::External;
 use wcc_base::Memory;
 
 /// What file level gives an object: whether it is a constant, and its first values.

@@ -1,18 +1,18 @@
 // Where the objects of a program live.
 ghost use Rattle.std.specs.Prelude.{◌≡◌, ◌≤◌, IfOk, length, nat_le};
 ghost use Rattle.std.specs.List.{prefix_len};
-ghost use Rattle.c_typed.specs.View.{program_of};
-ghost use Rattle.high_plan.specs.Layouts.{begun, home_by, homes_of, in_array, next_by, one_object};
+ghost use Rattle.types_tree.specs.View.{program_of};
+ghost use Rattle.plan_definition.specs.Layouts.{begun, home_by, homes_of, in_array, next_by, one_object};
 ghost use Rattle.make_program.specs.Parts.{next_of};
 
-use c_typed::external::Function;
-use c_typed::program::Program;
-use c_typed::variable::{Duration, Extent, Variable};
 use high_ir::object::{Array, Base};
-use high_plan::Home;
 use make_pieces::numbers::{offset, sum};
 use make_pieces::operators::kind_of;
+use plan_definition::Home;
 use std::alloc::Global;
+use types_tree::external::Function;
+use types_tree::program::Program;
+use types_tree::variable::{Duration, Extent, Variable};
 use wcc_base::Memory;
 
 /// The next variable of the frame, the next array parameter, and the next array of the program.

@@ -1,7 +1,7 @@
 //! The parts of the program in the high form that a typed program becomes: where its objects live, their first values,
 //! and its functions.
 //!
-//! Proved: `program` answers the parts of the program that `high_plan` defines, or memory ran out. Each object and each
+//! Proved: `program` answers the parts of the program that `plan_definition` defines, or memory ran out. Each object and each
 //! function is visited once.
 //!
 //! This crate knows no pass, and nothing of copies.

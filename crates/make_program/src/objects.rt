@@ -1,18 +1,18 @@
 // The arrays of a program, and what they hold at first.
 ghost use Rattle.std.specs.Prelude.{◌≡◌, ◌++◌, ◌∷◌, List, IfOk, OnOk, map};
-ghost use Rattle.c_typed.specs.View.{external_of};
-ghost use Rattle.c_typed.specs.declared.variable.Variable.{Variable};
+ghost use Rattle.types_tree.specs.View.{external_of};
+ghost use Rattle.types_tree.specs.declared.variable.Variable.{Variable};
 ghost use Rattle.high_ir.specs.View.{object_of};
-ghost use Rattle.high_plan.specs.Layouts.{elements_of, given_object, givens, local_object, objects_from, storage_of};
+ghost use Rattle.plan_definition.specs.Layouts.{elements_of, given_object, givens, local_object, objects_from, storage_of};
 ghost use Rattle.make_program.specs.Parts.{given_of, given_or_none};
 
 use super::givens::{Given, givens};
-use c_typed::external::External;
-use c_typed::variable::{Duration, Extent, Variable};
 use high_ir::object::{Object, Storage};
 use make_pieces::operators::kind_of;
 use std::alloc::Global;
 use std::collections::VecDeque;
+use types_tree::external::External;
+use types_tree::variable::{Duration, Extent, Variable};
 use wcc_base::Memory;
 
 fn storage_of(constant: bool) -> Storage

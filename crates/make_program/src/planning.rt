@@ -1,23 +1,23 @@
 // The parts of the program that a typed program becomes.
 ghost use Rattle.std.specs.Prelude.{ℕ, ◌≡◌, All, IfOk, map};
-ghost use Rattle.c_typed.specs.View.{program_of};
+ghost use Rattle.types_tree.specs.View.{program_of};
 ghost use Rattle.high_ir.specs.View.{function_of, program};
-ghost use Rattle.high_plan.specs.Layouts.{homes_of};
-ghost use Rattle.high_plan.specs.Programs.{functions_planned, plan_of, program_planned};
+ghost use Rattle.plan_definition.specs.Layouts.{homes_of};
+ghost use Rattle.plan_definition.specs.Programs.{functions_planned, plan_of, program_planned};
 ghost use Rattle.make_statement.specs.Planned.{IsSmall};
 
 use super::functions::functions;
 use super::homes::homes;
 use super::objects::objects;
-use c_facts::Facts;
-use c_typed::program::Program;
+use facts_definitions::Facts;
 use high_ir::Function;
 use high_ir::object::Object;
-use high_plan::Home;
 use make_expression::Scope;
 use make_pieces::numbers::{offset, sum};
 use make_statement::Plan;
+use plan_definition::Home;
 use std::alloc::Global;
+use types_tree::program::Program;
 use wcc_base::Memory;
 
 /// The parts of a program in the high form.

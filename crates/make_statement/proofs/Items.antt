@@ -1,14 +1,14 @@
 -- Items, one after another.
 use Rattle.std.proofs.Common.{◌≡◌, ℕ, suc, ◌+◌, ◌<◌, true, false, List, ◌∷◌, length, drop, get_or, refl, sym, ap, ◌∙◌, arith}
 use Rattle.std.proofs.lemmas.List.{drop_more}
-use Rattle.c_typed.specs.Tree.{Items}
-use Rattle.c_typed.specs.View.{items_of, with_item}
-use Rattle.c_typed.specs.declared.statement.Item.{Item}
-use Rattle.c_typed.specs.declared.statement.Item.TheVariants as item
+use Rattle.types_tree.specs.Tree.{Items}
+use Rattle.types_tree.specs.View.{items_of, with_item}
+use Rattle.types_tree.specs.declared.statement.Item.{Item}
+use Rattle.types_tree.specs.declared.statement.Item.TheVariants as item
 use Rattle.high_ir.specs.Tree.{Statements, End, Then}
 use Rattle.high_code.specs.Code.{is_empty, joined}
-use Rattle.high_plan.specs.Statements as plans
-use Rattle.high_plan.specs.Statements.{all_planned, at_label, guarded, parts_planned}
+use Rattle.plan_definition.specs.Statements as plans
+use Rattle.plan_definition.specs.Statements.{all_planned, at_label, guarded, parts_planned}
 use Rattle.make_pieces.proofs.Lists.{joined_end, joined_joined}
 use Rattle.make_statement.specs.Parts.{item_parts, labels_in}
 use Rattle.make_statement.specs.Planned.{is_label, item_planned}

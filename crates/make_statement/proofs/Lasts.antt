@@ -4,7 +4,7 @@ use Rattle.high_ir.specs.Tree.{Block, Then}
 use Rattle.high_ir.specs.View.{statement_of, statements_of}
 use Rattle.high_ir.specs.declared.statement.Statement as statements
 use Rattle.high_code.specs.Code.{joined, alone}
-use Rattle.high_plan.specs.Statements.{last_in_block}
+use Rattle.plan_definition.specs.Statements.{last_in_block}
 
 pub last_view : (xs : List statements.Statement) (x : statements.Statement) → last_in_block (statements_of (xs ++ x ∷ [])) ≡ joined (statements_of xs) (alone (Block (statement_of x)))
 last_view [] x = refl

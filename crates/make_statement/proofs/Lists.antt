@@ -1,17 +1,17 @@
 -- Elements and objects, one after another.
 use Rattle.std.proofs.Common.{◌≡◌, ℕ, ◌+◌, ◌<◌, List, [], ◌∷◌, length, drop, get_or, map, refl, sym, ap, ◌∙◌, arith}
 use Rattle.std.proofs.lemmas.List.{drop_more}
-use Rattle.c_facts.specs.Sites.{count_exprs}
-use Rattle.c_typed.specs.declared.declaration.Object.{Object}
-use Rattle.c_typed.specs.declared.expression.Expr as exprs
-use Rattle.c_typed.specs.View.{expr_of, exprs_of, object_of}
+use Rattle.facts_definitions.specs.Sites.{count_exprs}
+use Rattle.types_tree.specs.declared.declaration.Object.{Object}
+use Rattle.types_tree.specs.declared.expression.Expr as exprs
+use Rattle.types_tree.specs.View.{expr_of, exprs_of, object_of}
 use Rattle.high_ir.specs.Tree.{Constant, Statement, Statements}
 use Rattle.high_code.specs.Code.{alone, joined}
-use Rattle.high_plan.specs.declared.home.Home.{Home}
-use Rattle.high_plan.specs.declared.purpose.Purpose.TheVariants.{Value}
-use Rattle.high_plan.specs.Statements as plans
-use Rattle.high_plan.specs.Statements.{all_declared, listed, stored_at}
-use Rattle.high_plan.specs.Values.{made}
+use Rattle.plan_definition.specs.declared.home.Home.{Home}
+use Rattle.plan_definition.specs.declared.purpose.Purpose.TheVariants.{Value}
+use Rattle.plan_definition.specs.Statements as plans
+use Rattle.plan_definition.specs.Statements.{all_declared, listed, stored_at}
+use Rattle.plan_definition.specs.Values.{made}
 use Rattle.make_pieces.proofs.Lists.{joined_joined}
 use Rattle.make_statement.specs.Planned.{element_planned, object_planned}
 

@@ -3,13 +3,13 @@ use Rattle.std.proofs.Common.{◌≡◌, ℕ, ◌+◌, ◌<◌, ◌≤◌, List,
 use Rattle.std.specs.Prelude.{Vec, sum_by}
 use Rattle.std.specs.Global.{Global}
 use Rattle.std.proofs.lemmas.List.Sums.{get_or-le-sum_by, sum_by-cons}
-use Rattle.c_typed.proofs.Rows.{block_view, switch_view}
-use Rattle.c_typed.specs.Tree.{Items}
-use Rattle.c_typed.specs.View.{items_of, statement_of, with_item}
-use Rattle.c_typed.specs.declared.expression.Expr as exprs
-use Rattle.c_typed.specs.declared.statement.Item.{Item}
-use Rattle.c_typed.specs.declared.statement.Item.TheVariants as item
-use Rattle.c_typed.specs.declared.statement.Statement as statements
+use Rattle.types_tree.proofs.Rows.{block_view, switch_view}
+use Rattle.types_tree.specs.Tree.{Items}
+use Rattle.types_tree.specs.View.{items_of, statement_of, with_item}
+use Rattle.types_tree.specs.declared.expression.Expr as exprs
+use Rattle.types_tree.specs.declared.statement.Item.{Item}
+use Rattle.types_tree.specs.declared.statement.Item.TheVariants as item
+use Rattle.types_tree.specs.declared.statement.Statement as statements
 use Rattle.make_statement.specs.Sizes.{item_size, items_size, statement_size}
 
 pub size_of_block : (s : statements.Statement) (v : Vec Item Global) (at : ℕ) (xs : List Item) → s ≡ statements.Block v at → xs ≡ v.items → statement_size (statement_of s) ≡ items_size (items_of xs) + 1

@@ -1,14 +1,14 @@
 -- The labels of a switch, one after another.
 use Rattle.std.proofs.Common.{◌≡◌, ℕ, zero, suc, ◌+◌, ◌<◌, ◌≤◌, List, [], ◌∷◌, length, drop, get_or, sym, ap, ◌∙◌, arith}
 use Rattle.std.proofs.lemmas.List.{drop_more}
-use Rattle.c_typed.specs.Tree.{Items}
-use Rattle.c_typed.specs.View.{items_of, with_item}
-use Rattle.c_typed.specs.declared.statement.Item.{Item}
-use Rattle.c_typed.specs.declared.statement.Item.TheVariants as item
-use Rattle.c_typed.specs.declared.statement.Label.TheVariants as label
+use Rattle.types_tree.specs.Tree.{Items}
+use Rattle.types_tree.specs.View.{items_of, with_item}
+use Rattle.types_tree.specs.declared.statement.Item.{Item}
+use Rattle.types_tree.specs.declared.statement.Item.TheVariants as item
+use Rattle.types_tree.specs.declared.statement.Label.TheVariants as label
 use Rattle.high_ir.specs.Tree.{Expr, Statements}
 use Rattle.high_code.specs.Code.{joined}
-use Rattle.high_plan.specs.Statements.{label_count, label_tests}
+use Rattle.plan_definition.specs.Statements.{label_count, label_tests}
 use Rattle.make_pieces.proofs.Lists.{joined_end}
 use Rattle.make_statement.specs.Parts.{labels_in}
 use Rattle.make_statement.specs.Planned.{item_tests}

@@ -2,14 +2,14 @@
 use Rattle.std.proofs.Common.{◌≡◌, ℕ, ap, ◌∙◌}
 use Rattle.std.specs.Prelude.{Vec}
 use Rattle.std.specs.Global.{Global}
-use Rattle.c_typed.proofs.Rows.{block_view, switch_view}
-use Rattle.c_typed.specs.View.{expr_of, items_of, statement_of}
-use Rattle.c_typed.specs.declared.expression.Expr as exprs
-use Rattle.c_typed.specs.declared.statement.Item as items
-use Rattle.c_typed.specs.declared.statement.Statement as statements
-use Rattle.high_plan.specs.Statements as plans
-use Rattle.high_plan.specs.Statements.{all_planned, continues, items_continue, planned}
-use Rattle.c_typed.specs.Tree as c
+use Rattle.types_tree.proofs.Rows.{block_view, switch_view}
+use Rattle.types_tree.specs.View.{expr_of, items_of, statement_of}
+use Rattle.types_tree.specs.declared.expression.Expr as exprs
+use Rattle.types_tree.specs.declared.statement.Item as items
+use Rattle.types_tree.specs.declared.statement.Statement as statements
+use Rattle.plan_definition.specs.Statements as plans
+use Rattle.plan_definition.specs.Statements.{all_planned, continues, items_continue, planned}
+use Rattle.types_tree.specs.Tree as c
 
 pub block_continues : (s : statements.Statement) (v : Vec items.Item Global) (at : ℕ) → s ≡ statements.Block v at → continues (statement_of s) ≡ items_continue (items_of v.items)
 block_continues s v at is = ap (λ s. continues (statement_of s)) is ∙ ap continues (block_view v at)

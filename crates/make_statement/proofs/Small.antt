@@ -3,8 +3,8 @@ use Rattle.std.proofs.Common.{ℕ, ◌-◌, inl, inr, List, length, All, sym, su
 use Rattle.std.proofs.Math.ListN.{get_or-eq_default}
 use Rattle.std.proofs.lemmas.Bool.{cases_lt}
 use Rattle.std.proofs.lemmas.List.Elements.{All-get_or}
-use Rattle.c_facts.specs.Most.{bounds_at, no_bounds}
-use Rattle.c_facts.specs.declared.facts.Bounds.{Bounds}
+use Rattle.facts_definitions.specs.Most.{bounds_at, no_bounds}
+use Rattle.facts_definitions.specs.declared.facts.Bounds.{Bounds}
 use Rattle.make_statement.specs.Planned.{IsSmall}
 
 pub small_bounds : (bs : List Bounds) (number : ℕ) → All IsSmall bs → IsSmall (bounds_at bs number)

@@ -1,12 +1,12 @@
 -- The parts of a switch, as far as they are made.
 use Rattle.std.specs.Prelude.{ℕ}
-use Rattle.c_typed.specs.View.{declaration_of, statement_of}
-use Rattle.c_typed.specs.declared.statement.Item.{Item}
-use Rattle.c_typed.specs.declared.statement.Item.TheVariants as item
+use Rattle.types_tree.specs.View.{declaration_of, statement_of}
+use Rattle.types_tree.specs.declared.statement.Item.{Item}
+use Rattle.types_tree.specs.declared.statement.Item.TheVariants as item
 use Rattle.high_ir.specs.Tree.{Statements}
 use Rattle.high_code.specs.Code.{joined}
-use Rattle.high_plan.specs.Statements as plans
-use Rattle.high_plan.specs.Statements.{and_before, at_label, declared, guarded, planned}
+use Rattle.plan_definition.specs.Statements as plans
+use Rattle.plan_definition.specs.Statements.{and_before, at_label, declared, guarded, planned}
 use Rattle.make_pieces.specs.View.{code_of}
 use Rattle.make_statement.specs.declared.parts.Parts.{Parts}
 

@@ -1,21 +1,21 @@
 -- The parts of statements, as the code has them.
 use Rattle.std.specs.Prelude.{ℕ, ◌≤◌, Bool, true, false, List, [], Option}
-use Rattle.c_facts.specs.Sites.{count_exprs}
-use Rattle.c_facts.specs.declared.facts.Bounds.{Bounds}
-use Rattle.c_typed.specs.Tree as c
-use Rattle.c_typed.specs.View.{declaration_of, statement_of}
-use Rattle.c_typed.specs.declared.statement.Item.{Item}
-use Rattle.c_typed.specs.declared.statement.Item.TheVariants as item
-use Rattle.c_typed.specs.declared.statement.Label.TheVariants as label
+use Rattle.facts_definitions.specs.Sites.{count_exprs}
+use Rattle.facts_definitions.specs.declared.facts.Bounds.{Bounds}
+use Rattle.types_tree.specs.Tree as c
+use Rattle.types_tree.specs.View.{declaration_of, statement_of}
+use Rattle.types_tree.specs.declared.statement.Item.{Item}
+use Rattle.types_tree.specs.declared.statement.Item.TheVariants as item
+use Rattle.types_tree.specs.declared.statement.Label.TheVariants as label
 use Rattle.high_ir.specs.declared.expression.BinaryOperator.TheVariants as binary
 use Rattle.high_ir.specs.Tree.{Expr, Constant, Variable, Binary, Statement, Set, If, Leave, Statements, End, Then}
 use Rattle.high_code.specs.Code.{joined, alone, nothing}
-use Rattle.high_plan.specs.declared.home.Home.{Home}
-use Rattle.high_plan.specs.declared.purpose.Purpose.TheVariants.{Value}
-use Rattle.high_plan.specs.Homes.{home_of}
-use Rattle.high_plan.specs.Values.{Valued, in_block, made}
-use Rattle.high_plan.specs.Statements as plans
-use Rattle.high_plan.specs.Statements.{continues, declared, deeper, filled, initialised, planned, stored_at}
+use Rattle.plan_definition.specs.declared.home.Home.{Home}
+use Rattle.plan_definition.specs.declared.purpose.Purpose.TheVariants.{Value}
+use Rattle.plan_definition.specs.Homes.{home_of}
+use Rattle.plan_definition.specs.Values.{Valued, in_block, made}
+use Rattle.plan_definition.specs.Statements as plans
+use Rattle.plan_definition.specs.Statements.{continues, declared, deeper, filled, initialised, planned, stored_at}
 use Rattle.make_statement.specs.declared.exits.Exits.{Exits}
 use Rattle.make_statement.specs.declared.plan.Plan.{Plan}
 

@@ -1,9 +1,9 @@
 -- How many statements stand within others.
 use Rattle.std.specs.Prelude.{ℕ, ◌+◌}
-use Rattle.c_typed.specs.Tree.{Statement, Block, Empty, Evaluate, Marker, If, IfElse, While, Do, For, Switch, Break, Continue, Return, Items, NoItem, WithDeclaration, WithStatement, WithRestriction, WithLabel}
-use Rattle.c_typed.specs.View.{statement_of}
-use Rattle.c_typed.specs.declared.statement.Item.{Item}
-use Rattle.c_typed.specs.declared.statement.Item.TheVariants as item
+use Rattle.types_tree.specs.Tree.{Statement, Block, Empty, Evaluate, Marker, If, IfElse, While, Do, For, Switch, Break, Continue, Return, Items, NoItem, WithDeclaration, WithStatement, WithRestriction, WithLabel}
+use Rattle.types_tree.specs.View.{statement_of}
+use Rattle.types_tree.specs.declared.statement.Item.{Item}
+use Rattle.types_tree.specs.declared.statement.Item.TheVariants as item
 
 abbrev mutual
   pub statement_size : Statement → ℕ

@@ -1,15 +1,15 @@
 // Statements that continue a loop, and the block that they leave.
 ghost use Rattle.std.specs.Prelude.{◌≡◌, IfOk};
-ghost use Rattle.c_typed.specs.View.{items_of, statement_of};
-ghost use Rattle.high_plan.specs.Statements.{continues, ends_in_block, items_continue, last_in_block, rounded};
+ghost use Rattle.types_tree.specs.View.{items_of, statement_of};
+ghost use Rattle.plan_definition.specs.Statements.{continues, ends_in_block, items_continue, last_in_block, rounded};
 ghost use Rattle.make_pieces.specs.View.{code_of};
 ghost use Rattle.make_statement.specs.Planned.{item_continues};
 
-use c_typed::statement::{Item, Statement};
 use make_expression::is_joint;
 use make_pieces::Code;
 use make_pieces::statements::block;
 use std::alloc::Global;
+use types_tree::statement::{Item, Statement};
 use wcc_base::Memory;
 
 /// Whether a statement has a `continue` of its own.

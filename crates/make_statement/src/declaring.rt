@@ -1,23 +1,23 @@
 // Declarations.
 ghost use Rattle.std.specs.Prelude.{◌≡◌, IfOk, map};
 ghost use Rattle.c_tree.specs.Named.{map_option};
-ghost use Rattle.c_typed.specs.View.{declaration_of, expr_of as source_of, exprs_of, initial_of, loop_of, object_of, start_of};
+ghost use Rattle.types_tree.specs.View.{declaration_of, expr_of as source_of, exprs_of, initial_of, loop_of, object_of, start_of};
 ghost use Rattle.high_code.specs.Code.{joined};
-ghost use Rattle.high_plan.specs.Statements.{all_declared, declared, initialised, listed, started};
+ghost use Rattle.plan_definition.specs.Statements.{all_declared, declared, initialised, listed, started};
 ghost use Rattle.make_pieces.specs.View.{code_of};
 ghost use Rattle.make_statement.specs.Planned.{element_planned, list_planned, object_planned, plan_said};
 
 use super::loops::{Filler, filling, stored_at};
 use super::plan::Plan;
-use c_typed::declaration::{Declaration, Initial, Object};
-use c_typed::expression::Expr as Source;
-use c_typed::statement::ForStart;
 use high_ir::expression::Expr;
-use high_plan::{Home, Purpose};
 use make_expression::{code, value};
 use make_pieces::homes::home_of;
 use make_pieces::numbers::offset;
 use make_pieces::{Code, Valued};
+use plan_definition::{Home, Purpose};
+use types_tree::declaration::{Declaration, Initial, Object};
+use types_tree::expression::Expr as Source;
+use types_tree::statement::ForStart;
 use wcc_base::Memory;
 
 /// An element of an object.

@@ -1,6 +1,6 @@
 // The blocks that a `break` and a `continue` leave.
 ghost use Rattle.std.specs.Prelude.{◌≡◌, IfOk};
-ghost use Rattle.high_plan.specs.Statements.{deeper, in_loop, in_switch};
+ghost use Rattle.plan_definition.specs.Statements.{deeper, in_loop, in_switch};
 ghost use Rattle.make_statement.specs.Planned.{exits_of};
 
 use make_pieces::numbers::sum;

@@ -1,16 +1,15 @@
 // The labels of a switch.
 ghost use Rattle.std.specs.Prelude.{◌≡◌, IfOk};
-ghost use Rattle.c_typed.specs.View.{items_of};
+ghost use Rattle.types_tree.specs.View.{items_of};
 ghost use Rattle.high_code.specs.Code.{joined, nothing};
 ghost use Rattle.high_ir.specs.declared.expression.BinaryOperator.TheVariants as binary;
 ghost use Rattle.high_ir.specs.Tree.{Binary, Constant, End, If, Seq, Variable};
 ghost use Rattle.high_ir.specs.View.{statement_of};
-ghost use Rattle.high_plan.specs.Statements.{default_number, guarded, label_count, label_tests};
+ghost use Rattle.plan_definition.specs.Statements.{default_number, guarded, label_count, label_tests};
 ghost use Rattle.make_pieces.specs.View.{code_of, leaf_expr};
 ghost use Rattle.make_statement.specs.Parts.{labels_in};
 ghost use Rattle.make_statement.specs.Planned.{is_label, item_tests, label_test};
 
-use c_typed::statement::{Item, Label};
 use high_ir::expression::{BinaryOperator, Expr};
 use high_ir::statement::Statement;
 use make_pieces::expr::binary;
@@ -18,6 +17,7 @@ use make_pieces::numbers::sum;
 use make_pieces::statements::{choice, nothing};
 use make_pieces::{Code, Leaf};
 use std::alloc::Global;
+use types_tree::statement::{Item, Label};
 use wcc_base::Memory;
 
 /// What notes which part of a switch is chosen, by which value.

@@ -1,6 +1,6 @@
 //! What declarations and statements of a typed tree become in the high form.
 //!
-//! Proved: `body` is the statement that `high_plan` defines, or memory ran out. Each statement is visited once; code is
+//! Proved: `body` is the statement that `plan_definition` defines, or memory ran out. Each statement is visited once; code is
 //! moved and never copied.
 //!
 //! This crate knows nothing of how objects and functions are numbered.

@@ -1,27 +1,27 @@
 // Loops.
 ghost use Rattle.std.specs.Prelude.{◌≡◌, IfOk};
-ghost use Rattle.c_facts.specs.Most.{bounds_at};
+ghost use Rattle.facts_definitions.specs.Most.{bounds_at};
 ghost use Rattle.c_tree.specs.Named.{map_option};
-ghost use Rattle.c_typed.specs.View.{loop_of as number_of};
+ghost use Rattle.types_tree.specs.View.{loop_of as number_of};
 ghost use Rattle.high_code.specs.Code.{nothing};
 ghost use Rattle.high_ir.specs.declared.expression.BinaryOperator.TheVariants as binary;
 ghost use Rattle.high_ir.specs.Tree.{Binary, Constant, If, Leave, Set, Variable};
 ghost use Rattle.high_ir.specs.View.{expr_of, statement_of};
-ghost use Rattle.high_plan.specs.Statements.{filled, filling, looped, stored_at};
+ghost use Rattle.plan_definition.specs.Statements.{filled, filling, looped, stored_at};
 ghost use Rattle.make_pieces.specs.View.{code_of};
 ghost use Rattle.make_statement.specs.Planned.{filling_round, plan_said};
 
 use super::plan::Plan;
-use c_facts::{Bounds, Starts};
-use c_typed::statement::LoopId;
+use facts_definitions::{Bounds, Starts};
 use high_ir::expression::{BinaryOperator, Expr};
 use high_ir::statement::Statement;
-use high_plan::Home;
 use make_pieces::Code;
 use make_pieces::expr::{binary, let_go as discard};
 use make_pieces::numbers::sum;
 use make_pieces::statements::{block, choice, let_go, loop_of, nothing};
+use plan_definition::Home;
 use std::alloc::Global;
+use types_tree::statement::LoopId;
 use wcc_base::Memory;
 
 /// The bounds of the loop of this number.

@@ -1,8 +1,8 @@
 // The parts of a switch, as far as they are made.
 ghost use Rattle.std.specs.Prelude.{◌≡◌, ◌+◌, ℕ, IfOk};
 ghost use Rattle.high_ir.specs.Tree.{End};
-ghost use Rattle.high_plan.specs.Statements as plans;
-ghost use Rattle.high_plan.specs.Statements.{guarded};
+ghost use Rattle.plan_definition.specs.Statements as plans;
+ghost use Rattle.plan_definition.specs.Statements.{guarded};
 ghost use Rattle.make_pieces.specs.View.{code_of};
 ghost use Rattle.make_statement.specs.Parts.{parts_of};
 

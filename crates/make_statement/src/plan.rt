@@ -1,4 +1,4 @@
-use c_facts::Bounds;
+use facts_definitions::Bounds;
 use make_expression::Scope;
 
 /// Where objects live, the bounds of the source's loops, and how many functions have marks before the markers.

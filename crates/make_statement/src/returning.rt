@@ -1,17 +1,17 @@
 // Ends of functions.
 ghost use Rattle.std.specs.Prelude.{◌≡◌, IfOk};
 ghost use Rattle.c_tree.specs.Named.{map_option};
-ghost use Rattle.c_typed.specs.View.{expr_of as source_of};
-ghost use Rattle.high_plan.specs.Statements.{returned};
+ghost use Rattle.types_tree.specs.View.{expr_of as source_of};
+ghost use Rattle.plan_definition.specs.Statements.{returned};
 ghost use Rattle.make_pieces.specs.View.{code_of};
 ghost use Rattle.make_statement.specs.Planned.{plan_said};
 
 use super::plan::Plan;
-use c_typed::expression::Expr as Source;
 use high_ir::expression::Expr;
 use high_ir::statement::Statement;
 use make_expression::value;
 use make_pieces::{Code, Valued};
+use types_tree::expression::Expr as Source;
 use wcc_base::Memory;
 
 /// An end of the function.

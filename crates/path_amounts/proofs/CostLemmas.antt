@@ -1,9 +1,9 @@
 -- The flow goes by the prices of a system's own moves alone.
 use Rattle.std.proofs.Common.{◌≡◌, ℤ, refl, ap, ◌∙◌, List, [], ◌∷◌, length, Contains}
-use Rattle.flow_system.specs.declared.moves.Move.{Move}
-use Rattle.flow_system.specs.declared.shapes.LoopShape.{LoopShape}
-use Rattle.flow_system.specs.declared.shapes.Span.{Span}
-use Rattle.flow_system.specs.Systems.{System}
+use Rattle.code_flow_system.specs.declared.moves.Move.{Move}
+use Rattle.code_flow_system.specs.declared.shapes.LoopShape.{LoopShape}
+use Rattle.code_flow_system.specs.declared.shapes.Span.{Span}
+use Rattle.code_flow_system.specs.Systems.{System}
 use Rattle.loop_walks.specs.declared.step.Step.{Step}
 use Rattle.loop_walks.specs.declared.step.Loop.{Loop}
 use Rattle.loop_walks.specs.Levels.{Level, ground}

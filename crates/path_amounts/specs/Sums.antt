@@ -1,8 +1,8 @@
 -- What a function adds to the flow of a system, modulo 2^128.
 use Rattle.std.specs.Prelude.{◌≡◌, ℕ, ◌+◌, ◌&&◌, nat_lt, List, [], ◌∷◌, length, Bool, slice_set, if◌then◌else◌}
-use Rattle.flow_system.specs.declared.moves.Move.{Move}
-use Rattle.flow_system.specs.declared.shapes.LoopShape.{LoopShape}
-use Rattle.flow_system.specs.Claims.{Claims}
+use Rattle.code_flow_system.specs.declared.moves.Move.{Move}
+use Rattle.code_flow_system.specs.declared.shapes.LoopShape.{LoopShape}
+use Rattle.code_flow_system.specs.Claims.{Claims}
 use Rattle.loop_flows.specs.Passes.{amount_at}
 use Rattle.loop_amounts.specs.declared.back.Back.{Back}
 use Rattle.loop_amounts.specs.Wraps.{wrapped, SameCounts}

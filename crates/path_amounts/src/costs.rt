@@ -10,7 +10,7 @@ ghost use Rattle.path_values.specs.Costs.{costs_at};
 ghost use Rattle.path_walks.specs.Sizes.{AllStaySmall};
 
 use crate::system::flow;
-use flow_system::{LoopShape, Part, Span, System};
+use code_flow_system::{LoopShape, Part, Span, System};
 use path_values::prices;
 use path_walks::{Priced, Settled};
 use rv_core::Costs;

@@ -8,7 +8,7 @@ ghost use Rattle.path_amounts.specs.Sums.{SameFlow, flowing};
 
 use crate::put::copy;
 use crate::sums::{add_backs, add_counts};
-use flow_system::Span;
+use code_flow_system::Span;
 use loop_amounts::flow;
 use loop_walks::Code;
 use path_walks::{Priced, loops, place_of, steps};

@@ -4,7 +4,7 @@ ghost use Rattle.loop_amounts.specs.Wraps.{all_wrapped};
 ghost use Rattle.path_flows.specs.Flows.{parts_of};
 ghost use Rattle.path_amounts.specs.Parts.{part_if};
 
-use flow_system::{Move, Part};
+use code_flow_system::{Move, Part};
 use std::alloc::{AllocError, Global};
 
 /// A copy of numbers.

@@ -4,7 +4,7 @@ ghost use Rattle.loop_flows.specs.Passes.{amount_at};
 ghost use Rattle.path_places.specs.Places.{place_of};
 ghost use Rattle.path_amounts.specs.Puts.{IsPut};
 
-use flow_system::Span;
+use code_flow_system::Span;
 use path_walks::{Priced, place_of};
 
 /// Puts the numbers of the places from one up to another to one number.

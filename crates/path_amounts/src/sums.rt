@@ -1,13 +1,13 @@
 // What a function adds to the flow of a system.
 ghost use Rattle.std.specs.Prelude.{◌≡◌, ◌<◌, length, All, slice_index_or};
-ghost use Rattle.flow_system.specs.Systems.{AreAscending};
+ghost use Rattle.code_flow_system.specs.Systems.{AreAscending};
 ghost use Rattle.loop_amounts.specs.Wraps.{SameCounts};
 ghost use Rattle.path_flows.specs.Flows.{counted, call_starts, called};
 ghost use Rattle.path_places.specs.Places.{is_walked};
 ghost use Rattle.path_walks.specs.Opens.{AddressesRise, GoesBack, HasLoops};
 ghost use Rattle.path_amounts.specs.Sums.{backed, counts_next, HasCounted};
 
-use flow_system::{Move, Span};
+use code_flow_system::{Move, Span};
 use loop_amounts::{Back, add};
 use path_walks::{Priced, is_open, place_of};
 

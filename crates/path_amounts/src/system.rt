@@ -13,7 +13,7 @@ ghost use Rattle.path_amounts.specs.Sums.{flowing};
 use crate::function::add_function;
 use crate::parts::{copied, parts};
 use crate::put::unsettle;
-use flow_system::{Part, Span};
+use code_flow_system::{Part, Span};
 use path_walks::{Priced, Settled, place_of};
 use std::alloc::{AllocError, Global};
 

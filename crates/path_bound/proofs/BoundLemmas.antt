@@ -8,22 +8,22 @@ use Rattle.std.proofs.lemmas.Bool.Decides.{nat_tests}
 use Rattle.std.proofs.lemmas.List.Elements.{All-head, All-tail, All-contains, All-cons, All-nil}
 use Rattle.frac128.specs.Terms.{coefficient}
 use Rattle.rv_core.specs.Table.{Table}
-use Rattle.flow_system.specs.declared.claims.LoopClaim.{LoopClaim}
-use Rattle.flow_system.specs.declared.cert.Cert.{Cert}
-use Rattle.flow_system.specs.declared.cert.Mark.{Mark}
-use Rattle.flow_system.specs.declared.cert.Mark.TheVariants.{Greatest, Empty}
-use Rattle.flow_system.specs.declared.moves.Move.{Move}
-use Rattle.flow_system.specs.declared.shapes.LoopShape.{LoopShape}
-use Rattle.flow_system.specs.declared.shapes.Span.{Span}
-use Rattle.flow_system.specs.Moves.{destinations}
-use Rattle.flow_system.specs.Systems.{System}
-use Rattle.flow_system.specs.Shapes.{AreShapesOf, IsLoop}
-use Rattle.flow_system.specs.MoveCosts.{move_cost}
-use Rattle.flow_system.specs.Counts.{Amounts, amount, count, inflow}
-use Rattle.flow_system.specs.Flows.{IsFlow, price, value}
-use Rattle.flow_system.specs.Loose.{IsLoose, GoesBack}
-use Rattle.flow_system.specs.Certificates.{limits, row_size, size_by, scaled_price, potential, whole_part, IsNarrow, IsSmall, listed, Accepts, IsInForm}
-use Rattle.flow_system.proofs.LooseLemmas.{flows_are_loose}
+use Rattle.code_flow_system.specs.declared.claims.LoopClaim.{LoopClaim}
+use Rattle.code_flow_system.specs.declared.cert.Cert.{Cert}
+use Rattle.code_flow_system.specs.declared.cert.Mark.{Mark}
+use Rattle.code_flow_system.specs.declared.cert.Mark.TheVariants.{Greatest, Empty}
+use Rattle.code_flow_system.specs.declared.moves.Move.{Move}
+use Rattle.code_flow_system.specs.declared.shapes.LoopShape.{LoopShape}
+use Rattle.code_flow_system.specs.declared.shapes.Span.{Span}
+use Rattle.code_flow_system.specs.Moves.{destinations}
+use Rattle.code_flow_system.specs.Systems.{System}
+use Rattle.code_flow_system.specs.Shapes.{AreShapesOf, IsLoop}
+use Rattle.code_flow_system.specs.MoveCosts.{move_cost}
+use Rattle.code_flow_system.specs.Counts.{Amounts, amount, count, inflow}
+use Rattle.code_flow_system.specs.Flows.{IsFlow, price, value}
+use Rattle.code_flow_system.specs.Loose.{IsLoose, GoesBack}
+use Rattle.code_flow_system.specs.Certificates.{limits, row_size, size_by, scaled_price, potential, whole_part, IsNarrow, IsSmall, listed, Accepts, IsInForm}
+use Rattle.code_flow_system.proofs.LooseLemmas.{flows_are_loose}
 use Rattle.path_places.specs.Laws.{IsReachedWhole}
 use Rattle.path_duals.specs.Duals.{values_of, dual_of}
 use Rattle.path_duals.proofs.PotentialLemmas.{all_of}
@@ -38,8 +38,8 @@ use Rattle.path_cert.specs.Laws.{HasRanges, HasFlowRanges, IsOpenFlow}
 use Rattle.path_cert.proofs.CertLemmas.{limits_same, price_same, entry_is, below_zero, below_all, all_accepted}
 use Rattle.path_limits.specs.Limits.{IsLoopWithin}
 use Rattle.path_limits.proofs.NarrowLemmas.{counts_below, narrow_limits}
-use Rattle.cost_ranges.specs.Ranges.{HasRanges as HasNumbers}
-use Rattle.cost_ranges.proofs.RangeLemmas.{all_map, costs_ranged}
+use Rattle.path_cost_ranges.specs.Ranges.{HasRanges as HasNumbers}
+use Rattle.path_cost_ranges.proofs.RangeLemmas.{all_map, costs_ranged}
 use Rattle.path_bound.specs.Laws.{IsBoundable, BoundsAreGreatest}
 
 -- no loose flow has a value, a count or an amount of 2^60 units or more

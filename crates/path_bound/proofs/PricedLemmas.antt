@@ -3,15 +3,15 @@ use Rattle.std.proofs.Common.{◌^◌, ℤ, pos, neg_ℤ, ◌≤ℤ◌, arith, L
 use Rattle.std.proofs.lemmas.Int.{ints}
 use Rattle.std.proofs.lemmas.List.Elements.{All-contains}
 use Rattle.rv_core.specs.Table.{Table}
-use Rattle.flow_system.specs.declared.moves.Move.{Move}
-use Rattle.flow_system.specs.declared.shapes.LoopShape.{LoopShape}
-use Rattle.flow_system.specs.declared.shapes.Span.{Span}
-use Rattle.flow_system.specs.Systems.{System}
-use Rattle.flow_system.specs.Counts.{Amounts, amount}
-use Rattle.flow_system.specs.Flows.{price}
-use Rattle.flow_system.specs.Loose.{IsLoose}
-use Rattle.flow_system.specs.Certificates.{listed}
-use Rattle.flow_system.proofs.LooseLemmas.{flows_are_loose}
+use Rattle.code_flow_system.specs.declared.moves.Move.{Move}
+use Rattle.code_flow_system.specs.declared.shapes.LoopShape.{LoopShape}
+use Rattle.code_flow_system.specs.declared.shapes.Span.{Span}
+use Rattle.code_flow_system.specs.Systems.{System}
+use Rattle.code_flow_system.specs.Counts.{Amounts, amount}
+use Rattle.code_flow_system.specs.Flows.{price}
+use Rattle.code_flow_system.specs.Loose.{IsLoose}
+use Rattle.code_flow_system.specs.Certificates.{listed}
+use Rattle.code_flow_system.proofs.LooseLemmas.{flows_are_loose}
 use Rattle.loop_ranges.specs.Near.{IsUpTo}
 use Rattle.path_rows.specs.Driver.{Prices}
 use Rattle.path_flows.specs.Flows.{amounts_of, parts_of}
@@ -23,7 +23,7 @@ use Rattle.path_counts.specs.Laws.{IsOpenSystem}
 use Rattle.path_counts.proofs.KeepLemmas.{all_keep, goes}
 use Rattle.path_slack.proofs.MoveLemmas.{all_reached}
 use Rattle.path_limits.proofs.LimitLemmas.{costs_bounded}
-use Rattle.cost_ranges.proofs.RangeLemmas.{all_map}
+use Rattle.path_cost_ranges.proofs.RangeLemmas.{all_map}
 use Rattle.path_bound.specs.Laws.{IsBoundable}
 use Rattle.path_bound.specs.Priced.{AreUpToCosts, priced, entry_worth, IsPricedFlow, HasPricedFlow, PricedFlowsAreFlows}
 use Rattle.path_bound.proofs.BoundLemmas.{goes_back, one_unit, kept_bounds, loose_below, amounts_below}

@@ -1,10 +1,10 @@
 -- The bound of a system without facts: its certificate is in form and accepted, greatest with a flow of its value, or with no flow.
 use Rattle.std.specs.Prelude.{◌≡◌, List, [], All}
 use Rattle.rv_core.specs.Table.{Table}
-use Rattle.flow_system.specs.declared.shapes.LoopShape.{LoopShape}
-use Rattle.flow_system.specs.declared.shapes.Span.{Span}
-use Rattle.flow_system.specs.Systems.{System}
-use Rattle.flow_system.specs.Certificates.{Accepts, IsInForm}
+use Rattle.code_flow_system.specs.declared.shapes.LoopShape.{LoopShape}
+use Rattle.code_flow_system.specs.declared.shapes.Span.{Span}
+use Rattle.code_flow_system.specs.Systems.{System}
+use Rattle.code_flow_system.specs.Certificates.{Accepts, IsInForm}
 use Rattle.path_counts.specs.Laws.{BacksAreFree}
 use Rattle.path_cert.specs.Certificates.{certificate_of}
 use Rattle.path_limits.specs.Limits.{IsLimited}

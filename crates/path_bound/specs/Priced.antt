@@ -1,13 +1,13 @@
 -- The walks of a system without facts at prices of moves that are no more than their costs, and their flow.
 use Rattle.std.specs.Prelude.{◌≡◌, ◌^◌, ◌<◌, ℤ, pos, neg_ℤ, ◌≤ℤ◌, List, length, All}
 use Rattle.rv_core.specs.Table.{Table}
-use Rattle.flow_system.specs.declared.moves.Move.{Move}
-use Rattle.flow_system.specs.declared.shapes.LoopShape.{LoopShape}
-use Rattle.flow_system.specs.declared.shapes.Span.{Span}
-use Rattle.flow_system.specs.Systems.{System}
-use Rattle.flow_system.specs.Counts.{total}
-use Rattle.flow_system.specs.Flows.{IsFlow, price}
-use Rattle.flow_system.specs.Certificates.{listed}
+use Rattle.code_flow_system.specs.declared.moves.Move.{Move}
+use Rattle.code_flow_system.specs.declared.shapes.LoopShape.{LoopShape}
+use Rattle.code_flow_system.specs.declared.shapes.Span.{Span}
+use Rattle.code_flow_system.specs.Systems.{System}
+use Rattle.code_flow_system.specs.Counts.{total}
+use Rattle.code_flow_system.specs.Flows.{IsFlow, price}
+use Rattle.code_flow_system.specs.Certificates.{listed}
 use Rattle.loop_walks.specs.Walks.{worth_at}
 use Rattle.path_places.specs.Places.{place_of}
 use Rattle.path_rows.specs.Driver.{Prices, blank}

@@ -3,7 +3,7 @@ ghost use Rattle.rv_core.specs.Table.{table_of};
 ghost use Rattle.path_bound.specs.Laws.{BoundsAreGreatest};
 ghost use Rattle.path_bound.specs.Priced.{PricedFlowsAreFlows};
 
-use flow_system::{LoopShape, Span, System};
+use code_flow_system::{LoopShape, Span, System};
 use rv_core::Costs;
 
 /// A law: the certificate of the walks is in form and accepted.

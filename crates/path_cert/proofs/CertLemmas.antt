@@ -6,21 +6,21 @@ use Rattle.std.proofs.lemmas.Bool.Decides.{nat_tests}
 use Rattle.std.proofs.lemmas.List.Elements.{All-contains, All-nil}
 use Rattle.frac128.specs.Terms.{coefficient}
 use Rattle.rv_core.specs.Table.{Table}
-use Rattle.flow_system.specs.declared.claims.Never.{Never}
-use Rattle.flow_system.specs.declared.claims.LoopClaim.{LoopClaim}
-use Rattle.flow_system.specs.declared.claims.FactClaim.{FactClaim}
-use Rattle.flow_system.specs.declared.cert.Part.{Part}
-use Rattle.flow_system.specs.declared.cert.Cert.{Cert}
-use Rattle.flow_system.specs.declared.cert.Mark.{Mark}
-use Rattle.flow_system.specs.declared.cert.Mark.TheVariants.{Greatest, Empty}
-use Rattle.flow_system.specs.declared.moves.Move.{Move}
-use Rattle.flow_system.specs.declared.shapes.LoopShape.{LoopShape}
-use Rattle.flow_system.specs.declared.shapes.Span.{Span}
-use Rattle.flow_system.specs.Systems.{System}
-use Rattle.flow_system.specs.MoveCosts.{move_cost}
-use Rattle.flow_system.specs.Flows.{IsFlow, value}
-use Rattle.flow_system.specs.Certificates.{Limit, never_limits, loop_limits, fact_limits, limits, IsSigned, IsCovered, scaled_price, potential, whole_part, listed, IsGreatest, KeepsMark, Accepts, IsPart, PartsAscend, IsSmall, FitsMark, IsInForm}
-use Rattle.flow_system.specs.Bounds.{IsDual}
+use Rattle.code_flow_system.specs.declared.claims.Never.{Never}
+use Rattle.code_flow_system.specs.declared.claims.LoopClaim.{LoopClaim}
+use Rattle.code_flow_system.specs.declared.claims.FactClaim.{FactClaim}
+use Rattle.code_flow_system.specs.declared.cert.Part.{Part}
+use Rattle.code_flow_system.specs.declared.cert.Cert.{Cert}
+use Rattle.code_flow_system.specs.declared.cert.Mark.{Mark}
+use Rattle.code_flow_system.specs.declared.cert.Mark.TheVariants.{Greatest, Empty}
+use Rattle.code_flow_system.specs.declared.moves.Move.{Move}
+use Rattle.code_flow_system.specs.declared.shapes.LoopShape.{LoopShape}
+use Rattle.code_flow_system.specs.declared.shapes.Span.{Span}
+use Rattle.code_flow_system.specs.Systems.{System}
+use Rattle.code_flow_system.specs.MoveCosts.{move_cost}
+use Rattle.code_flow_system.specs.Flows.{IsFlow, value}
+use Rattle.code_flow_system.specs.Certificates.{Limit, never_limits, loop_limits, fact_limits, limits, IsSigned, IsCovered, scaled_price, potential, whole_part, listed, IsGreatest, KeepsMark, Accepts, IsPart, PartsAscend, IsSmall, FitsMark, IsInForm}
+use Rattle.code_flow_system.specs.Bounds.{IsDual}
 use Rattle.loop_walks.specs.declared.step.Pair.{Pair}
 use Rattle.loop_walks.specs.Walks.{worth_at}
 use Rattle.path_places.specs.Places.{place_of}

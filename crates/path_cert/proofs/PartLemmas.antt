@@ -5,10 +5,10 @@ use Rattle.std.proofs.lemmas.Int.{ints}
 use Rattle.std.proofs.lemmas.Bool.Decides.{eqb_tells}
 use Rattle.std.proofs.lemmas.List.Elements.{All-head, All-tail, All-contains, All-cons, All-nil}
 use Rattle.frac128.specs.Terms.{Terms}
-use Rattle.flow_system.specs.declared.cert.Part.{Part}
-use Rattle.flow_system.specs.declared.moves.Move.{Move}
-use Rattle.flow_system.specs.Systems.{ComesBefore, AreAscending}
-use Rattle.flow_system.specs.Certificates.{AddressesAscend, PartsAscend, IsPart, IsSmall, has_move}
+use Rattle.code_flow_system.specs.declared.cert.Part.{Part}
+use Rattle.code_flow_system.specs.declared.moves.Move.{Move}
+use Rattle.code_flow_system.specs.Systems.{ComesBefore, AreAscending}
+use Rattle.code_flow_system.specs.Certificates.{AddressesAscend, PartsAscend, IsPart, IsSmall, has_move}
 use Rattle.loop_walks.specs.Walks.{worth_at}
 use Rattle.path_places.specs.Places.{place_of}
 use Rattle.path_duals.specs.Duals.{potentials_of}

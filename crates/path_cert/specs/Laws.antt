@@ -2,13 +2,13 @@
 use Rattle.std.specs.Prelude.{◌≡◌, ℕ, ◌+◌, ◌^◌, ◌<◌, ℤ, pos, ◌*ℤ◌, ◌≤ℤ◌, unsigned_abs, List, [], All}
 use Rattle.frac128.specs.Terms.{coefficient}
 use Rattle.rv_core.specs.Table.{Table}
-use Rattle.flow_system.specs.declared.cert.Cert.{Cert}
-use Rattle.flow_system.specs.declared.shapes.LoopShape.{LoopShape}
-use Rattle.flow_system.specs.declared.shapes.Span.{Span}
-use Rattle.flow_system.specs.Systems.{System}
-use Rattle.flow_system.specs.Counts.{count, inflow}
-use Rattle.flow_system.specs.Flows.{value}
-use Rattle.flow_system.specs.Certificates.{row_size, IsNarrow, IsSmall, size_by, limits, listed, potential, scaled_price, Accepts, IsInForm}
+use Rattle.code_flow_system.specs.declared.cert.Cert.{Cert}
+use Rattle.code_flow_system.specs.declared.shapes.LoopShape.{LoopShape}
+use Rattle.code_flow_system.specs.declared.shapes.Span.{Span}
+use Rattle.code_flow_system.specs.Systems.{System}
+use Rattle.code_flow_system.specs.Counts.{count, inflow}
+use Rattle.code_flow_system.specs.Flows.{value}
+use Rattle.code_flow_system.specs.Certificates.{row_size, IsNarrow, IsSmall, size_by, limits, listed, potential, scaled_price, Accepts, IsInForm}
 use Rattle.path_duals.specs.Duals.{values_of}
 use Rattle.path_counts.specs.Laws.{IsOpenSystem}
 use Rattle.path_cert.specs.Certificates.{entry_worth, costs_of, certificate_of}

@@ -3,7 +3,7 @@ ghost use Rattle.rv_core.specs.Table.{table_of};
 ghost use Rattle.path_places.specs.Laws.{IsReachedWhole};
 ghost use Rattle.path_cert.specs.Laws.{CertificatesAreAccepted};
 
-use flow_system::{LoopShape, Span, System};
+use code_flow_system::{LoopShape, Span, System};
 use rv_core::Costs;
 
 /// A law: where its numbers keep their ranges, the certificate of the walks is in form and accepted.

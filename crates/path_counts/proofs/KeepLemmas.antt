@@ -7,17 +7,17 @@ use Rattle.std.proofs.lemmas.Bool.Decides.{eqb_tells}
 use Rattle.std.proofs.lemmas.List.Elements.{All-contains, All-cons, All-nil, All-append}
 use Rattle.frac128.specs.Terms.{applied}
 use Rattle.frac128.proofs.SignedLemmas.{mul-sub, sub-mul, neg-mul}
-use Rattle.flow_system.specs.declared.claims.Never.{Never}
-use Rattle.flow_system.specs.declared.claims.LoopClaim.{LoopClaim}
-use Rattle.flow_system.specs.declared.moves.Move.{Move}
-use Rattle.flow_system.specs.declared.shapes.LoopShape.{LoopShape}
-use Rattle.flow_system.specs.declared.shapes.Span.{Span}
-use Rattle.flow_system.specs.Systems.{System, has_moves}
-use Rattle.flow_system.specs.Shapes.{is_back, IsInOne}
-use Rattle.flow_system.specs.Counts.{count, KeepsNever, KeepsLoop, KeepsFact}
-use Rattle.flow_system.specs.Flows.{IsFlow}
-use Rattle.flow_system.specs.Certificates.{never_limits, least_terms, most_terms, least_limit, most_limit, loop_limits, listed}
-use Rattle.flow_system.specs.Bounds.{IsExact}
+use Rattle.code_flow_system.specs.declared.claims.Never.{Never}
+use Rattle.code_flow_system.specs.declared.claims.LoopClaim.{LoopClaim}
+use Rattle.code_flow_system.specs.declared.moves.Move.{Move}
+use Rattle.code_flow_system.specs.declared.shapes.LoopShape.{LoopShape}
+use Rattle.code_flow_system.specs.declared.shapes.Span.{Span}
+use Rattle.code_flow_system.specs.Systems.{System, has_moves}
+use Rattle.code_flow_system.specs.Shapes.{is_back, IsInOne}
+use Rattle.code_flow_system.specs.Counts.{count, KeepsNever, KeepsLoop, KeepsFact}
+use Rattle.code_flow_system.specs.Flows.{IsFlow}
+use Rattle.code_flow_system.specs.Certificates.{never_limits, least_terms, most_terms, least_limit, most_limit, loop_limits, listed}
+use Rattle.code_flow_system.specs.Bounds.{IsExact}
 use Rattle.loop_walks.specs.declared.step.Pair.{Pair}
 use Rattle.loop_walks.specs.Levels.{Level}
 use Rattle.path_places.specs.Places.{place_of, is_never, is_shut, is_stop}

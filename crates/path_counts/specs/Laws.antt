@@ -1,14 +1,14 @@
 -- The flow of a system without facts keeps its claims, and those with a multiplier just so.
 use Rattle.std.specs.Prelude.{◌≡◌, ◌≢◌, ◌⊎◌, ◌≤◌, ℤ, pos, ◌≤ℤ◌, List, [], length, true, Contains, All}
-use Rattle.flow_system.specs.declared.claims.LoopClaim.{LoopClaim}
-use Rattle.flow_system.specs.declared.shapes.LoopShape.{LoopShape}
-use Rattle.flow_system.specs.declared.shapes.Span.{Span}
-use Rattle.flow_system.specs.Systems.{System}
-use Rattle.flow_system.specs.Shapes.{is_back}
-use Rattle.flow_system.specs.Counts.{count}
-use Rattle.flow_system.specs.Flows.{IsFlow}
-use Rattle.flow_system.specs.Certificates.{listed}
-use Rattle.flow_system.specs.Bounds.{IsExact}
+use Rattle.code_flow_system.specs.declared.claims.LoopClaim.{LoopClaim}
+use Rattle.code_flow_system.specs.declared.shapes.LoopShape.{LoopShape}
+use Rattle.code_flow_system.specs.declared.shapes.Span.{Span}
+use Rattle.code_flow_system.specs.Systems.{System}
+use Rattle.code_flow_system.specs.Shapes.{is_back}
+use Rattle.code_flow_system.specs.Counts.{count}
+use Rattle.code_flow_system.specs.Flows.{IsFlow}
+use Rattle.code_flow_system.specs.Certificates.{listed}
+use Rattle.code_flow_system.specs.Bounds.{IsExact}
 use Rattle.loop_walks.specs.Walks.{worth_at}
 use Rattle.path_places.specs.Places.{place_of}
 use Rattle.path_rows.specs.Driver.{Prices, blank, functions_level}

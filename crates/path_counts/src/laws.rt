@@ -2,7 +2,7 @@
 ghost use Rattle.path_places.specs.Laws.{IsReachedWhole};
 ghost use Rattle.path_counts.specs.Laws.{FlowsKeepClaims, FlowsAreExact};
 
-use flow_system::{LoopShape, Span, System};
+use code_flow_system::{LoopShape, Span, System};
 
 /// A law: where worths are open, the listed flow is a flow of unit 1.
 pub fn flows_keep_claims(system: &System, shapes: &[LoopShape], spans: &[Span])

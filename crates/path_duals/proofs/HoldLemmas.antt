@@ -6,9 +6,9 @@ use Rattle.std.proofs.lemmas.Int.{ints}
 use Rattle.std.proofs.lemmas.Bool.Decides.{eqb_tells}
 use Rattle.frac128.specs.Terms.{coefficient}
 use Rattle.frac128.proofs.SignedLemmas.{add-mul, mul-sub, mul-neg}
-use Rattle.flow_system.specs.declared.claims.Never.{Never}
-use Rattle.flow_system.specs.declared.claims.LoopClaim.{LoopClaim}
-use Rattle.flow_system.specs.Certificates.{never_limits, least_terms, most_terms, loop_limits, held}
+use Rattle.code_flow_system.specs.declared.claims.Never.{Never}
+use Rattle.code_flow_system.specs.declared.claims.LoopClaim.{LoopClaim}
+use Rattle.code_flow_system.specs.Certificates.{never_limits, least_terms, most_terms, loop_limits, held}
 use Rattle.loop_walks.specs.declared.step.Pair.{Pair}
 use Rattle.path_places.specs.Places.{is_never, is_shut}
 use Rattle.path_duals.specs.Duals.{both_of, never_bounds, loop_bounds}

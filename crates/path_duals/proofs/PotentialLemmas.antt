@@ -6,13 +6,13 @@ use Rattle.std.proofs.lemmas.Bool.Decides.{eqb_tells}
 use Rattle.std.proofs.lemmas.List.Elements.{All-cons, All-nil}
 use Rattle.frac128.specs.Terms.{coefficient}
 use Rattle.rv_core.specs.Instructions.{Instruction}
-use Rattle.flow_system.specs.declared.moves.Move.{Move}
-use Rattle.flow_system.specs.declared.moves.Way.{Way}
-use Rattle.flow_system.specs.declared.moves.Way.TheVariants.{Next, Branches, Jumps, Calls, Ends, Strays}
-use Rattle.flow_system.specs.Claims.{is_listed}
-use Rattle.flow_system.specs.Moves.{way_of, moves_on}
-use Rattle.flow_system.specs.Systems.{System, IsSystem, has_moves, moves_from}
-use Rattle.flow_system.specs.Certificates.{is_given}
+use Rattle.code_flow_system.specs.declared.moves.Move.{Move}
+use Rattle.code_flow_system.specs.declared.moves.Way.{Way}
+use Rattle.code_flow_system.specs.declared.moves.Way.TheVariants.{Next, Branches, Jumps, Calls, Ends, Strays}
+use Rattle.code_flow_system.specs.Claims.{is_listed}
+use Rattle.code_flow_system.specs.Moves.{way_of, moves_on}
+use Rattle.code_flow_system.specs.Systems.{System, IsSystem, has_moves, moves_from}
+use Rattle.code_flow_system.specs.Certificates.{is_given}
 use Rattle.loop_walks.specs.Walks.{worth_at}
 use Rattle.path_places.specs.Places.{place_of}
 use Rattle.path_duals.specs.Duals.{potentials_of}

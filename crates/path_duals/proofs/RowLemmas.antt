@@ -8,16 +8,16 @@ use Rattle.std.proofs.lemmas.Bool.Decides.{eqb_tells}
 use Rattle.std.proofs.lemmas.List.Elements.{All-head, All-tail, All-contains, All-cons, All-nil, All-append}
 use Rattle.frac128.specs.Terms.{int_sum_by, coefficient}
 use Rattle.frac128.proofs.TermsLemmas.{int_sum_by-append}
-use Rattle.flow_system.specs.declared.claims.Never.{Never}
-use Rattle.flow_system.specs.declared.claims.LoopClaim.{LoopClaim}
-use Rattle.flow_system.specs.declared.moves.Move.{Move}
-use Rattle.flow_system.specs.declared.shapes.LoopShape.{LoopShape}
-use Rattle.flow_system.specs.declared.shapes.Span.{Span}
-use Rattle.flow_system.specs.Moves.{destinations}
-use Rattle.flow_system.specs.Systems.{System, has_moves}
-use Rattle.flow_system.specs.Shapes.{IsLoop, onward_by, is_back, IsInOne}
-use Rattle.flow_system.specs.Certificates.{Limit, never_limits, least_limit, most_limit, loop_limits, held, fall, IsSigned, IsCovered}
-use Rattle.flow_system.specs.Bounds.{IsDual}
+use Rattle.code_flow_system.specs.declared.claims.Never.{Never}
+use Rattle.code_flow_system.specs.declared.claims.LoopClaim.{LoopClaim}
+use Rattle.code_flow_system.specs.declared.moves.Move.{Move}
+use Rattle.code_flow_system.specs.declared.shapes.LoopShape.{LoopShape}
+use Rattle.code_flow_system.specs.declared.shapes.Span.{Span}
+use Rattle.code_flow_system.specs.Moves.{destinations}
+use Rattle.code_flow_system.specs.Systems.{System, has_moves}
+use Rattle.code_flow_system.specs.Shapes.{IsLoop, onward_by, is_back, IsInOne}
+use Rattle.code_flow_system.specs.Certificates.{Limit, never_limits, least_limit, most_limit, loop_limits, held, fall, IsSigned, IsCovered}
+use Rattle.code_flow_system.specs.Bounds.{IsDual}
 use Rattle.loop_walks.specs.declared.step.Step.{Step}
 use Rattle.loop_walks.specs.declared.step.Pair.{Pair}
 use Rattle.loop_walks.specs.Walks.{larger, worth_at}

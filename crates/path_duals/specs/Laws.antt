@@ -1,9 +1,9 @@
 -- The values of the walks are dual values.
 use Rattle.std.specs.Prelude.{pos, ◌≤ℤ◌, List}
-use Rattle.flow_system.specs.declared.shapes.LoopShape.{LoopShape}
-use Rattle.flow_system.specs.declared.shapes.Span.{Span}
-use Rattle.flow_system.specs.Systems.{System}
-use Rattle.flow_system.specs.Bounds.{IsDual}
+use Rattle.code_flow_system.specs.declared.shapes.LoopShape.{LoopShape}
+use Rattle.code_flow_system.specs.declared.shapes.Span.{Span}
+use Rattle.code_flow_system.specs.Systems.{System}
+use Rattle.code_flow_system.specs.Bounds.{IsDual}
 use Rattle.path_rows.specs.Driver.{Prices}
 use Rattle.path_duals.specs.Duals.{values_of, dual_of}
 

@@ -2,7 +2,7 @@
 ghost use Rattle.path_places.specs.Laws.{IsReachedWhole};
 ghost use Rattle.path_duals.specs.Laws.{WalksAreDual};
 
-use flow_system::{LoopShape, Span, System};
+use code_flow_system::{LoopShape, Span, System};
 
 /// A law: where loops fit and every address is reached, the values of the walks cover each move, at any prices.
 pub fn walks_are_dual(system: &System, shapes: &[LoopShape], spans: &[Span])

@@ -7,14 +7,14 @@ use Rattle.std.proofs.lemmas.List.{length-replicate}
 use Rattle.std.proofs.lemmas.Bool.Decides.{eqb_tells}
 use Rattle.std.proofs.lemmas.List.Elements.{All-head, All-tail, All-contains}
 use Rattle.frac128.specs.Terms.{coefficient, when_same}
-use Rattle.flow_system.specs.declared.cert.Part.{Part}
-use Rattle.flow_system.specs.declared.moves.Move.{Move}
-use Rattle.flow_system.specs.declared.shapes.LoopShape.{LoopShape}
-use Rattle.flow_system.specs.declared.shapes.Span.{Span}
-use Rattle.flow_system.specs.Systems.{System, ComesBefore, AreAscending, has_moves}
-use Rattle.flow_system.specs.Counts.{Amounts, count, inflow, IsConserved}
-use Rattle.flow_system.specs.Certificates.{whole, listed}
-use Rattle.flow_system.specs.Shapes.{onward, IsInOne}
+use Rattle.code_flow_system.specs.declared.cert.Part.{Part}
+use Rattle.code_flow_system.specs.declared.moves.Move.{Move}
+use Rattle.code_flow_system.specs.declared.shapes.LoopShape.{LoopShape}
+use Rattle.code_flow_system.specs.declared.shapes.Span.{Span}
+use Rattle.code_flow_system.specs.Systems.{System, ComesBefore, AreAscending, has_moves}
+use Rattle.code_flow_system.specs.Counts.{Amounts, count, inflow, IsConserved}
+use Rattle.code_flow_system.specs.Certificates.{whole, listed}
+use Rattle.code_flow_system.specs.Shapes.{onward, IsInOne}
 use Rattle.loop_walks.specs.Walks.{worth_at}
 use Rattle.path_places.specs.Places.{place_of}
 use Rattle.path_places.specs.Laws.{IsReachedWhole}

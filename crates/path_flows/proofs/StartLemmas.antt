@@ -3,11 +3,11 @@ use Rattle.std.proofs.Common.{◌≡◌, ◌≢◌, ℕ, zero, suc, ◌+◌, ◌
 use Rattle.std.specs.Prelude.{nat_lt, nat_le, slice_set}
 use Rattle.std.proofs.lemmas.Bool.Decides.{eqb_tells, nat_tests}
 use Rattle.std.proofs.lemmas.List.Elements.{All-contains}
-use Rattle.flow_system.specs.declared.claims.LoopClaim.{LoopClaim}
-use Rattle.flow_system.specs.declared.shapes.LoopShape.{LoopShape}
-use Rattle.flow_system.specs.declared.shapes.Span.{Span}
-use Rattle.flow_system.specs.Systems.{System}
-use Rattle.flow_system.specs.Shapes.{IsInLoop, IsLoop, IsInSpan, BeginsEarlier}
+use Rattle.code_flow_system.specs.declared.claims.LoopClaim.{LoopClaim}
+use Rattle.code_flow_system.specs.declared.shapes.LoopShape.{LoopShape}
+use Rattle.code_flow_system.specs.declared.shapes.Span.{Span}
+use Rattle.code_flow_system.specs.Systems.{System}
+use Rattle.code_flow_system.specs.Shapes.{IsInLoop, IsLoop, IsInSpan, BeginsEarlier}
 use Rattle.loop_walks.specs.declared.step.Step.{Step}
 use Rattle.loop_walks.specs.declared.step.Loop.{Loop}
 use Rattle.loop_walks.specs.declared.step.Pair.{Pair}

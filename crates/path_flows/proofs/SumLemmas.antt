@@ -7,10 +7,10 @@ use Rattle.std.proofs.lemmas.Bool.Decides.{eqb_tells}
 use Rattle.std.proofs.Math.ListN.{length-set}
 use Rattle.frac128.specs.Terms.{coefficient}
 use Rattle.frac128.proofs.TermsLemmas.{coefficient-append}
-use Rattle.flow_system.specs.declared.moves.Move.{Move}
-use Rattle.flow_system.specs.Moves.{destinations}
-use Rattle.flow_system.specs.Counts.{Amounts, amount, each_with, arrivals, count}
-use Rattle.flow_system.specs.Shapes.{onward_by, onward}
+use Rattle.code_flow_system.specs.declared.moves.Move.{Move}
+use Rattle.code_flow_system.specs.Moves.{destinations}
+use Rattle.code_flow_system.specs.Counts.{Amounts, amount, each_with, arrivals, count}
+use Rattle.code_flow_system.specs.Shapes.{onward_by, onward}
 use Rattle.loop_walks.specs.declared.step.Step.{Step}
 use Rattle.loop_flows.specs.Passes.{amount_at, departed, arrived}
 use Rattle.loop_flows.specs.Flows.{Turning, backs_from, backs_to}

@@ -5,11 +5,11 @@ use Rattle.std.proofs.Math.ListN.{replicate}
 use Rattle.std.proofs.lemmas.List.{length-replicate}
 use Rattle.std.proofs.lemmas.Bool.Decides.{eqb_tells}
 use Rattle.std.proofs.lemmas.List.Elements.{All-contains}
-use Rattle.flow_system.specs.declared.moves.Move.{Move}
-use Rattle.flow_system.specs.declared.shapes.LoopShape.{LoopShape}
-use Rattle.flow_system.specs.declared.shapes.Span.{Span}
-use Rattle.flow_system.specs.Systems.{System, has_moves}
-use Rattle.flow_system.specs.Shapes.{onward, is_back, IsInSpan, AreAllApart, IsInOne, StaysIn, CallsEarlier}
+use Rattle.code_flow_system.specs.declared.moves.Move.{Move}
+use Rattle.code_flow_system.specs.declared.shapes.LoopShape.{LoopShape}
+use Rattle.code_flow_system.specs.declared.shapes.Span.{Span}
+use Rattle.code_flow_system.specs.Systems.{System, has_moves}
+use Rattle.code_flow_system.specs.Shapes.{onward, is_back, IsInSpan, AreAllApart, IsInOne, StaysIn, CallsEarlier}
 use Rattle.loop_walks.specs.declared.step.Step.{Step}
 use Rattle.loop_walks.specs.Walks.{worth_at}
 use Rattle.loop_walks.specs.Levels.{Level, ground}

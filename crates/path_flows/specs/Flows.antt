@@ -1,11 +1,11 @@
 -- The flow of a whole system: its functions one after the other, a caller before those that it calls.
 use Rattle.std.specs.Prelude.{ℕ, ◌+◌, ◌==◌, pos, List, [], ◌∷◌, length, Bool, Option, Some, None, slice_set, if◌then◌else◌}
 use Rattle.std.proofs.Math.ListN.{replicate}
-use Rattle.flow_system.specs.declared.cert.Part.{Part}
-use Rattle.flow_system.specs.declared.moves.Move.{Move}
-use Rattle.flow_system.specs.declared.shapes.LoopShape.{LoopShape}
-use Rattle.flow_system.specs.declared.shapes.Span.{Span}
-use Rattle.flow_system.specs.Systems.{System}
+use Rattle.code_flow_system.specs.declared.cert.Part.{Part}
+use Rattle.code_flow_system.specs.declared.moves.Move.{Move}
+use Rattle.code_flow_system.specs.declared.shapes.LoopShape.{LoopShape}
+use Rattle.code_flow_system.specs.declared.shapes.Span.{Span}
+use Rattle.code_flow_system.specs.Systems.{System}
 use Rattle.loop_walks.specs.Levels.{Level, ground}
 use Rattle.loop_flows.specs.Passes.{amount_at, spread}
 use Rattle.loop_flows.specs.Flows.{Turning, only_at, counts_of, backs_of}

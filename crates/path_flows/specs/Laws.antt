@@ -1,10 +1,10 @@
 -- What holds of the flow of a system.
 use Rattle.std.specs.Prelude.{ℤ, ◌≤ℤ◌, List, length}
-use Rattle.flow_system.specs.declared.shapes.LoopShape.{LoopShape}
-use Rattle.flow_system.specs.declared.shapes.Span.{Span}
-use Rattle.flow_system.specs.Systems.{System}
-use Rattle.flow_system.specs.Counts.{IsConserved}
-use Rattle.flow_system.specs.Certificates.{listed}
+use Rattle.code_flow_system.specs.declared.shapes.LoopShape.{LoopShape}
+use Rattle.code_flow_system.specs.declared.shapes.Span.{Span}
+use Rattle.code_flow_system.specs.Systems.{System}
+use Rattle.code_flow_system.specs.Counts.{IsConserved}
+use Rattle.code_flow_system.specs.Certificates.{listed}
 use Rattle.loop_walks.specs.Walks.{worth_at}
 use Rattle.path_places.specs.Places.{place_of}
 use Rattle.path_rows.specs.Driver.{Prices, blank, functions_level}

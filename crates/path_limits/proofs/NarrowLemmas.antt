@@ -15,15 +15,15 @@ use Rattle.rv_core.specs.Instructions.{Instruction}
 use Rattle.rv_core.specs.Regions.{region_of}
 use Rattle.rv_core.specs.Table.{Table}
 use Rattle.rv_core.specs.Machine.{cost_at}
-use Rattle.flow_system.specs.declared.claims.Never.{Never}
-use Rattle.flow_system.specs.declared.claims.LoopClaim.{LoopClaim}
-use Rattle.flow_system.specs.declared.moves.Move.{Move}
-use Rattle.flow_system.specs.Claims.{Claims}
-use Rattle.flow_system.specs.Systems.{System, IsPlaced, IsSystem}
-use Rattle.flow_system.specs.Counts.{Amounts, amount, count, total}
-use Rattle.flow_system.specs.Flows.{price, value}
-use Rattle.flow_system.specs.MoveCosts.{move_cost}
-use Rattle.flow_system.specs.Certificates.{Limit, never_limits, least_terms, most_terms, least_limit, most_limit, loop_limits, size_by, IsNarrow}
+use Rattle.code_flow_system.specs.declared.claims.Never.{Never}
+use Rattle.code_flow_system.specs.declared.claims.LoopClaim.{LoopClaim}
+use Rattle.code_flow_system.specs.declared.moves.Move.{Move}
+use Rattle.code_flow_system.specs.Claims.{Claims}
+use Rattle.code_flow_system.specs.Systems.{System, IsPlaced, IsSystem}
+use Rattle.code_flow_system.specs.Counts.{Amounts, amount, count, total}
+use Rattle.code_flow_system.specs.Flows.{price, value}
+use Rattle.code_flow_system.specs.MoveCosts.{move_cost}
+use Rattle.code_flow_system.specs.Certificates.{Limit, never_limits, least_terms, most_terms, least_limit, most_limit, loop_limits, size_by, IsNarrow}
 use Rattle.path_loose.proofs.TotalLemmas.{leaves, count-total, total_least}
 use Rattle.path_loose.proofs.PartLemmas.{same_least, same_most}
 use Rattle.path_limits.specs.Narrow.{FetchesCost, LooseCountsBelow, HasShortBounds, LimitsAreNarrow}

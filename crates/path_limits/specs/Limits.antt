@@ -1,13 +1,13 @@
 -- A search by costs, and when its numbers have bounds: by the values of loose flows.
 use Rattle.std.specs.Prelude.{◌≡◌, ◌⊎◌, ℕ, ◌^◌, ◌<◌, ◌≤◌, ℤ, pos, neg_ℤ, ◌*ℤ◌, ◌<ℤ◌, List, length, All}
 use Rattle.rv_core.specs.Table.{Table}
-use Rattle.flow_system.specs.declared.claims.LoopClaim.{LoopClaim}
-use Rattle.flow_system.specs.declared.shapes.LoopShape.{LoopShape}
-use Rattle.flow_system.specs.declared.shapes.Span.{Span}
-use Rattle.flow_system.specs.Systems.{System}
-use Rattle.flow_system.specs.Counts.{Amounts}
-use Rattle.flow_system.specs.Flows.{price, value}
-use Rattle.flow_system.specs.Loose.{IsLoose}
+use Rattle.code_flow_system.specs.declared.claims.LoopClaim.{LoopClaim}
+use Rattle.code_flow_system.specs.declared.shapes.LoopShape.{LoopShape}
+use Rattle.code_flow_system.specs.declared.shapes.Span.{Span}
+use Rattle.code_flow_system.specs.Systems.{System}
+use Rattle.code_flow_system.specs.Counts.{Amounts}
+use Rattle.code_flow_system.specs.Flows.{price, value}
+use Rattle.code_flow_system.specs.Loose.{IsLoose}
 use Rattle.path_places.specs.Laws.{IsReachedWhole}
 use Rattle.path_rows.specs.Driver.{Prices}
 use Rattle.path_ranges.specs.Bounded.{IsBounded}

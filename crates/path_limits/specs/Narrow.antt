@@ -1,13 +1,13 @@
 -- The sums that a checker adds up over a flow, by the values of loose flows: each move costs a cycle at least, so that none is made more often.
 use Rattle.std.specs.Prelude.{ℕ, ◌^◌, ◌<◌, ◌≤◌, ◌*◌, ℤ, pos, ◌*ℤ◌, ◌≤ℤ◌, ◌<ℤ◌, List, ◌++◌, All, Contains}
 use Rattle.rv_core.specs.Table.{Table}
-use Rattle.flow_system.specs.declared.claims.LoopClaim.{LoopClaim}
-use Rattle.flow_system.specs.declared.moves.Move.{Move}
-use Rattle.flow_system.specs.Claims.{Claims}
-use Rattle.flow_system.specs.Systems.{System, IsSystem}
-use Rattle.flow_system.specs.Counts.{Amounts, amount, count}
-use Rattle.flow_system.specs.Loose.{IsLoose}
-use Rattle.flow_system.specs.Certificates.{never_limits, loop_limits, size_by, IsNarrow}
+use Rattle.code_flow_system.specs.declared.claims.LoopClaim.{LoopClaim}
+use Rattle.code_flow_system.specs.declared.moves.Move.{Move}
+use Rattle.code_flow_system.specs.Claims.{Claims}
+use Rattle.code_flow_system.specs.Systems.{System, IsSystem}
+use Rattle.code_flow_system.specs.Counts.{Amounts, amount, count}
+use Rattle.code_flow_system.specs.Loose.{IsLoose}
+use Rattle.code_flow_system.specs.Certificates.{never_limits, loop_limits, size_by, IsNarrow}
 use Rattle.path_limits.specs.Limits.{LooseValuesBelow}
 
 -- a fetch costs something

@@ -14,7 +14,7 @@ ghost use Rattle.rv_core.specs.Table.{table_of};
 ghost use Rattle.path_limits.specs.Limits.{CostsAreBounded};
 ghost use Rattle.path_limits.specs.Narrow.{LooseCountsBelow, LimitsAreNarrow};
 
-use flow_system::{LoopShape, Span, System};
+use code_flow_system::{LoopShape, Span, System};
 use rv_core::Costs;
 
 /// A law: the numbers of a search by costs have bounds.

@@ -5,8 +5,8 @@ use Rattle.std.specs.Int.RustNames.{int_le}
 use Rattle.std.proofs.lemmas.Int.{ints}
 use Rattle.std.proofs.lemmas.Bool.Decides.{eqb_tells}
 use Rattle.std.proofs.lemmas.List.Elements.{All-head, All-tail}
-use Rattle.flow_system.specs.declared.moves.Move.{Move}
-use Rattle.flow_system.specs.Systems.{has_moves}
+use Rattle.code_flow_system.specs.declared.moves.Move.{Move}
+use Rattle.code_flow_system.specs.Systems.{has_moves}
 use Rattle.loop_walks.specs.Walks.{larger}
 use Rattle.loop_walks.proofs.LargerLemmas.{larger_right}
 use Rattle.path_places.specs.Places.{dearest_from}

@@ -3,15 +3,15 @@ use Rattle.std.proofs.Common.{◌≡◌, ℕ, zero, suc, ℤ, pos, ◌+ℤ◌, �
 use Rattle.std.proofs.lemmas.Int.{ints}
 use Rattle.std.proofs.lemmas.List.Elements.{All-contains, All-cons, All-nil}
 use Rattle.frac128.specs.Terms.{coefficient, when_same}
-use Rattle.flow_system.specs.declared.claims.LoopClaim.{LoopClaim}
-use Rattle.flow_system.specs.declared.moves.Move.{Move}
-use Rattle.flow_system.specs.declared.shapes.LoopShape.{LoopShape}
-use Rattle.flow_system.specs.declared.shapes.Span.{Span}
-use Rattle.flow_system.specs.Moves.{destinations}
-use Rattle.flow_system.specs.Systems.{System}
-use Rattle.flow_system.specs.Counts.{Amounts, inflow}
-use Rattle.flow_system.specs.Loose.{moves_elsewhere, most_turns, IsLoose, KeepsTurns}
-use Rattle.flow_system.specs.Shapes.{IsInLoop, IsLoop, is_back}
+use Rattle.code_flow_system.specs.declared.claims.LoopClaim.{LoopClaim}
+use Rattle.code_flow_system.specs.declared.moves.Move.{Move}
+use Rattle.code_flow_system.specs.declared.shapes.LoopShape.{LoopShape}
+use Rattle.code_flow_system.specs.declared.shapes.Span.{Span}
+use Rattle.code_flow_system.specs.Moves.{destinations}
+use Rattle.code_flow_system.specs.Systems.{System}
+use Rattle.code_flow_system.specs.Counts.{Amounts, inflow}
+use Rattle.code_flow_system.specs.Loose.{moves_elsewhere, most_turns, IsLoose, KeepsTurns}
+use Rattle.code_flow_system.specs.Shapes.{IsInLoop, IsLoop, is_back}
 use Rattle.path_places.specs.Reached.{ReachedBy}
 use Rattle.path_places.specs.Laws.{IsReachedWhole}
 use Rattle.path_places.proofs.HeaderLemmas.{back_of, only, enters}

@@ -6,15 +6,15 @@ use Rattle.std.proofs.lemmas.Int.{ints}
 use Rattle.std.proofs.lemmas.Bool.Decides.{eqb_tells, leb_tells}
 use Rattle.std.proofs.lemmas.List.Elements.{All-contains}
 use Rattle.frac128.proofs.SignedLemmas.{mul-le}
-use Rattle.flow_system.specs.declared.claims.LoopClaim.{LoopClaim}
-use Rattle.flow_system.specs.declared.moves.Move.{Move}
-use Rattle.flow_system.specs.declared.shapes.LoopShape.{LoopShape}
-use Rattle.flow_system.specs.declared.shapes.Span.{Span}
-use Rattle.flow_system.specs.Moves.{destinations}
-use Rattle.flow_system.specs.Systems.{System, has_moves}
-use Rattle.flow_system.specs.Counts.{total}
-use Rattle.flow_system.specs.Loose.{most_turns}
-use Rattle.flow_system.specs.Shapes.{AreShapesOf, IsLoop, is_back, IsInSpan}
+use Rattle.code_flow_system.specs.declared.claims.LoopClaim.{LoopClaim}
+use Rattle.code_flow_system.specs.declared.moves.Move.{Move}
+use Rattle.code_flow_system.specs.declared.shapes.LoopShape.{LoopShape}
+use Rattle.code_flow_system.specs.declared.shapes.Span.{Span}
+use Rattle.code_flow_system.specs.Moves.{destinations}
+use Rattle.code_flow_system.specs.Systems.{System, has_moves}
+use Rattle.code_flow_system.specs.Counts.{total}
+use Rattle.code_flow_system.specs.Loose.{most_turns}
+use Rattle.code_flow_system.specs.Shapes.{AreShapesOf, IsLoop, is_back, IsInSpan}
 use Rattle.loop_walks.specs.declared.step.Loop.{Loop}
 use Rattle.loop_walks.specs.Walks.{worth_at, range_steps}
 use Rattle.loop_walks.specs.Rows.{Each, IsLoopOf, AreLoops}

@@ -8,13 +8,13 @@ use Rattle.std.proofs.Math.Nat.{mul-le-mul_left}
 use Rattle.frac128.specs.Terms.{coefficient, when_same}
 use Rattle.frac128.proofs.SignedLemmas.{mul-add, mul-le, mul-mul_swap}
 use Rattle.frac128.proofs.TermsLemmas.{when_same-here, when_same-elsewhere}
-use Rattle.flow_system.specs.declared.claims.LoopClaim.{LoopClaim}
-use Rattle.flow_system.specs.declared.moves.Move.{Move}
-use Rattle.flow_system.specs.declared.shapes.Span.{Span}
-use Rattle.flow_system.specs.Moves.{destinations}
-use Rattle.flow_system.specs.Systems.{System, AreAscending}
-use Rattle.flow_system.specs.Counts.{Amounts, each_with, total}
-use Rattle.flow_system.specs.Loose.{most_turns}
+use Rattle.code_flow_system.specs.declared.claims.LoopClaim.{LoopClaim}
+use Rattle.code_flow_system.specs.declared.moves.Move.{Move}
+use Rattle.code_flow_system.specs.declared.shapes.Span.{Span}
+use Rattle.code_flow_system.specs.Moves.{destinations}
+use Rattle.code_flow_system.specs.Systems.{System, AreAscending}
+use Rattle.code_flow_system.specs.Counts.{Amounts, each_with, total}
+use Rattle.code_flow_system.specs.Loose.{most_turns}
 use Rattle.path_places.specs.Reached.{rank}
 use Rattle.path_loose.proofs.TotalLemmas.{leaves, comes, comes_by, added, times, none, once, total-added, total-times, total-none, total-once, total_least}
 

@@ -4,15 +4,15 @@ use Rattle.std.specs.Prelude.{◌==◌, ◌||◌, ◌&&◌}
 use Rattle.std.specs.Option.{option_to_list}
 use Rattle.std.proofs.lemmas.Bool.Decides.{nat_tests}
 use Rattle.std.proofs.lemmas.List.Elements.{All-head, All-tail, All-contains, All-cons, All-nil}
-use Rattle.flow_system.specs.declared.claims.LoopClaim.{LoopClaim}
-use Rattle.flow_system.specs.declared.moves.Move.{Move}
-use Rattle.flow_system.specs.declared.shapes.LoopShape.{LoopShape}
-use Rattle.flow_system.specs.declared.shapes.Span.{Span}
-use Rattle.flow_system.specs.Claims.{Claims}
-use Rattle.flow_system.specs.Moves.{destinations}
-use Rattle.flow_system.specs.Systems.{System, has_moves}
-use Rattle.flow_system.specs.Loose.{most_turns}
-use Rattle.flow_system.specs.Shapes.{AreShapesOf, IsLoop, onward_by, onward, is_back, GoesUp, IsInOne, StaysIn, CallsEarlier, Fits}
+use Rattle.code_flow_system.specs.declared.claims.LoopClaim.{LoopClaim}
+use Rattle.code_flow_system.specs.declared.moves.Move.{Move}
+use Rattle.code_flow_system.specs.declared.shapes.LoopShape.{LoopShape}
+use Rattle.code_flow_system.specs.declared.shapes.Span.{Span}
+use Rattle.code_flow_system.specs.Claims.{Claims}
+use Rattle.code_flow_system.specs.Moves.{destinations}
+use Rattle.code_flow_system.specs.Systems.{System, has_moves}
+use Rattle.code_flow_system.specs.Loose.{most_turns}
+use Rattle.code_flow_system.specs.Shapes.{AreShapesOf, IsLoop, onward_by, onward, is_back, GoesUp, IsInOne, StaysIn, CallsEarlier, Fits}
 use Rattle.path_places.specs.Reached.{AreFilled, rank}
 use Rattle.path_places.specs.Places.{place_of, is_shut, is_stop}
 use Rattle.path_places.proofs.RankLemmas.{rank_stays, rank_earlier}

@@ -8,11 +8,11 @@ use Rattle.std.proofs.lemmas.List.Elements.{All-head, All-tail, All-contains}
 use Rattle.frac128.specs.Terms.{coefficient, when_same}
 use Rattle.frac128.proofs.SignedLemmas.{mul-add, mul-le, mul_assoc}
 use Rattle.frac128.proofs.TermsLemmas.{coefficient-append}
-use Rattle.flow_system.specs.declared.moves.Move.{Move}
-use Rattle.flow_system.specs.Moves.{destinations}
-use Rattle.flow_system.specs.Systems.{ComesBefore, AreAscending}
-use Rattle.flow_system.specs.Counts.{Amounts, amount, each_with, arrivals, count, total}
-use Rattle.flow_system.specs.Loose.{moves_elsewhere}
+use Rattle.code_flow_system.specs.declared.moves.Move.{Move}
+use Rattle.code_flow_system.specs.Moves.{destinations}
+use Rattle.code_flow_system.specs.Systems.{ComesBefore, AreAscending}
+use Rattle.code_flow_system.specs.Counts.{Amounts, amount, each_with, arrivals, count, total}
+use Rattle.code_flow_system.specs.Loose.{moves_elsewhere}
 
 -- a move leaves an address, arrives at it, or arrives at it from elsewhere than another one
 

@@ -1,11 +1,11 @@
 -- Each loose worth is the total of a loose flow, so that a bound of these is a bound of all loose worths.
 use Rattle.std.specs.Prelude.{ℤ, pos, ◌≤ℤ◌, List, length, All}
-use Rattle.flow_system.specs.declared.moves.Move.{Move}
-use Rattle.flow_system.specs.declared.shapes.LoopShape.{LoopShape}
-use Rattle.flow_system.specs.declared.shapes.Span.{Span}
-use Rattle.flow_system.specs.Systems.{System}
-use Rattle.flow_system.specs.Counts.{Amounts, total}
-use Rattle.flow_system.specs.Loose.{IsLoose}
+use Rattle.code_flow_system.specs.declared.moves.Move.{Move}
+use Rattle.code_flow_system.specs.declared.shapes.LoopShape.{LoopShape}
+use Rattle.code_flow_system.specs.declared.shapes.Span.{Span}
+use Rattle.code_flow_system.specs.Systems.{System}
+use Rattle.code_flow_system.specs.Counts.{Amounts, total}
+use Rattle.code_flow_system.specs.Loose.{IsLoose}
 use Rattle.path_loose.specs.LooseDriver.{no_worths, AreLooseBelow}
 
 -- no loose flow of one unit has a total above a bound

@@ -1,9 +1,9 @@
 -- A system without what keeps flows from visits: every address may be visited, and a loop may turn as often as it multiplies its starts, but need not.
 use Rattle.std.specs.Prelude.{List, [], ◌∷◌}
-use Rattle.flow_system.specs.declared.claims.LoopClaim.{LoopClaim}
-use Rattle.flow_system.specs.Claims.{Claims}
-use Rattle.flow_system.specs.Systems.{System}
-use Rattle.flow_system.specs.Loose.{most_turns}
+use Rattle.code_flow_system.specs.declared.claims.LoopClaim.{LoopClaim}
+use Rattle.code_flow_system.specs.Claims.{Claims}
+use Rattle.code_flow_system.specs.Systems.{System}
+use Rattle.code_flow_system.specs.Loose.{most_turns}
 
 abbrev pub loose_claim : LoopClaim → LoopClaim
 loose_claim c = record { source = c.source; factor = c.factor; min = 0; max = most_turns c; header = c.header; back = c.back }

@@ -12,7 +12,7 @@
 ghost use Rattle.path_places.specs.Laws.{IsReachedWhole};
 ghost use Rattle.path_loose.specs.Laws.{LooseWorthsAreTotals};
 
-use flow_system::{LoopShape, Span, System};
+use code_flow_system::{LoopShape, Span, System};
 
 /// A law: where no loose flow of one unit has a total above a bound, no worth of the loose walks is above it.
 pub fn loose_worths_are_totals(system: &System, shapes: &[LoopShape], spans: &[Span])

@@ -10,7 +10,7 @@
 
 ghost use Rattle.path_opens.specs.Laws.{FunctionsAreOpen};
 
-use flow_system::{LoopShape, Span, System};
+use code_flow_system::{LoopShape, Span, System};
 
 /// A law: open sums have open parts, in each function when it is settled.
 pub fn functions_are_open(system: &System, shapes: &[LoopShape], spans: &[Span])

@@ -4,14 +4,14 @@ use Rattle.std.specs.Prelude.{nat_lt, ◌==◌, ◌&&◌, ◌||◌, not}
 use Rattle.std.specs.Option.{option_to_list}
 use Rattle.std.proofs.lemmas.Bool.Decides.{nat_tests, eqb_tells}
 use Rattle.std.proofs.lemmas.List.Elements.{All-head, All-tail, All-contains, All-cons, All-nil}
-use Rattle.flow_system.specs.declared.claims.LoopClaim.{LoopClaim}
-use Rattle.flow_system.specs.declared.moves.Move.{Move}
-use Rattle.flow_system.specs.declared.shapes.LoopShape.{LoopShape}
-use Rattle.flow_system.specs.declared.shapes.Span.{Span}
-use Rattle.flow_system.specs.Claims.{Claims, is_aligned, exit_flaws, never_flaws, region_flaws, loop_flaws, fact_flaws, AreSound}
-use Rattle.flow_system.specs.Systems.{System, AreAscending, has_moves}
-use Rattle.flow_system.specs.Moves.{destinations}
-use Rattle.flow_system.specs.Shapes.{AreShapesOf, IsInLoop, IsLoop, onward_by, is_back, IsInSpan, IsInOne, StaysIn, Fits}
+use Rattle.code_flow_system.specs.declared.claims.LoopClaim.{LoopClaim}
+use Rattle.code_flow_system.specs.declared.moves.Move.{Move}
+use Rattle.code_flow_system.specs.declared.shapes.LoopShape.{LoopShape}
+use Rattle.code_flow_system.specs.declared.shapes.Span.{Span}
+use Rattle.code_flow_system.specs.Claims.{Claims, is_aligned, exit_flaws, never_flaws, region_flaws, loop_flaws, fact_flaws, AreSound}
+use Rattle.code_flow_system.specs.Systems.{System, AreAscending, has_moves}
+use Rattle.code_flow_system.specs.Moves.{destinations}
+use Rattle.code_flow_system.specs.Shapes.{AreShapesOf, IsInLoop, IsLoop, onward_by, is_back, IsInSpan, IsInOne, StaysIn, Fits}
 use Rattle.loop_walks.specs.declared.step.Step.{Step}
 use Rattle.loop_walks.specs.Rows.{AreSteps, Each, IsBack, IsLoopOf, HeadersAbove, AreLoops}
 use Rattle.path_places.specs.Reached.{AreReached, AreFilled, in_span, rank}

@@ -4,13 +4,13 @@ use Rattle.std.specs.Prelude.{nat_lt, nat_le, ◌==◌}
 use Rattle.std.specs.Option.{option_to_list}
 use Rattle.std.proofs.lemmas.Bool.Decides.{nat_tests, eqb_tells}
 use Rattle.std.proofs.lemmas.List.Elements.{All-contains, Contains-append_right}
-use Rattle.flow_system.specs.declared.claims.LoopClaim.{LoopClaim}
-use Rattle.flow_system.specs.declared.moves.Move.{Move}
-use Rattle.flow_system.specs.declared.shapes.LoopShape.{LoopShape}
-use Rattle.flow_system.specs.declared.shapes.Span.{Span}
-use Rattle.flow_system.specs.Moves.{destinations}
-use Rattle.flow_system.specs.Systems.{System, ComesBefore, AreAscending, has_moves}
-use Rattle.flow_system.specs.Shapes.{IsInLoop, EntersAtHeader, IsLoop, onward_by, onward, is_back, GoesUp, IsInSpan}
+use Rattle.code_flow_system.specs.declared.claims.LoopClaim.{LoopClaim}
+use Rattle.code_flow_system.specs.declared.moves.Move.{Move}
+use Rattle.code_flow_system.specs.declared.shapes.LoopShape.{LoopShape}
+use Rattle.code_flow_system.specs.declared.shapes.Span.{Span}
+use Rattle.code_flow_system.specs.Moves.{destinations}
+use Rattle.code_flow_system.specs.Systems.{System, ComesBefore, AreAscending, has_moves}
+use Rattle.code_flow_system.specs.Shapes.{IsInLoop, EntersAtHeader, IsLoop, onward_by, onward, is_back, GoesUp, IsInSpan}
 use Rattle.loop_walks.specs.declared.step.Step.{Step}
 use Rattle.loop_walks.specs.Walks.{between}
 use Rattle.loop_walks.specs.Rows.{IsStep, NotBefore, AreSteps, Each, KeepsOut, IsBack, IsLoopOf}

@@ -2,8 +2,8 @@
 use Rattle.std.proofs.Common.{◌≡◌, ℕ, suc, ◌+◌, ◌≤◌, ◌<◌, arith, refl, List, [], ◌∷◌, length, inl, inr, Bool, true, false, cond}
 use Rattle.std.specs.Prelude.{nat_lt, ◌==◌}
 use Rattle.std.proofs.lemmas.Bool.Decides.{nat_tests, eqb_tells}
-use Rattle.flow_system.specs.declared.moves.Move.{Move}
-use Rattle.flow_system.specs.Systems.{has_moves}
+use Rattle.code_flow_system.specs.declared.moves.Move.{Move}
+use Rattle.code_flow_system.specs.Systems.{has_moves}
 use Rattle.path_places.specs.Places.{place_of}
 
 pub place_up : (ms : List Move) (a b : ℕ) → a ≤ b → place_of ms a ≤ place_of ms b

@@ -4,12 +4,12 @@ use Rattle.std.specs.Prelude.{◌==◌}
 use Rattle.std.proofs.lemmas.Bool.Decides.{eqb_tells}
 use Rattle.std.proofs.lemmas.List.Elements.{Contains-append_cases}
 use Rattle.rv_core.specs.Images.{Image}
-use Rattle.flow_system.specs.declared.moves.Move.{Move}
-use Rattle.flow_system.specs.Claims.{Claims}
-use Rattle.flow_system.specs.Moves.{code_of, destinations, destinations_of}
-use Rattle.flow_system.specs.Reach.{ReachedIn}
-use Rattle.flow_system.specs.Systems.{System, moves_from, IsSystemOf}
-use Rattle.flow_system.proofs.ReachLemmas.{from_moves}
+use Rattle.code_flow_system.specs.declared.moves.Move.{Move}
+use Rattle.code_flow_system.specs.Claims.{Claims}
+use Rattle.code_flow_system.specs.Moves.{code_of, destinations, destinations_of}
+use Rattle.code_flow_system.specs.Reach.{ReachedIn}
+use Rattle.code_flow_system.specs.Systems.{System, moves_from, IsSystemOf}
+use Rattle.code_flow_system.proofs.ReachLemmas.{from_moves}
 use Rattle.path_places.specs.Reached.{ReachedBy, AreReached}
 
 -- one of the moves arrives there

@@ -1,10 +1,10 @@
 -- Each function of a system whose loops fit is steps and loops over places.
 use Rattle.std.specs.Prelude.{ℤ, List, length, Contains}
-use Rattle.flow_system.specs.declared.moves.Move.{Move}
-use Rattle.flow_system.specs.declared.shapes.LoopShape.{LoopShape}
-use Rattle.flow_system.specs.declared.shapes.Span.{Span}
-use Rattle.flow_system.specs.Systems.{System, IsSystem}
-use Rattle.flow_system.specs.Shapes.{Fits}
+use Rattle.code_flow_system.specs.declared.moves.Move.{Move}
+use Rattle.code_flow_system.specs.declared.shapes.LoopShape.{LoopShape}
+use Rattle.code_flow_system.specs.declared.shapes.Span.{Span}
+use Rattle.code_flow_system.specs.Systems.{System, IsSystem}
+use Rattle.code_flow_system.specs.Shapes.{Fits}
 use Rattle.loop_walks.specs.declared.step.Step.{Step}
 use Rattle.loop_walks.specs.Rows.{AreSteps, AreLoops}
 use Rattle.path_places.specs.Reached.{AreReached, AreFilled}

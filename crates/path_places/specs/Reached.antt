@@ -1,9 +1,9 @@
 -- What is reached by the moves of a system, and spans in their order.
 use Rattle.std.specs.Prelude.{◌≡◌, ℕ, zero, suc, ◌<◌, ◌&&◌, nat_le, nat_lt, List, [], ◌∷◌, Contains, All, if◌then◌else◌, Bool}
-use Rattle.flow_system.specs.declared.moves.Move.{Move}
-use Rattle.flow_system.specs.declared.shapes.Span.{Span}
-use Rattle.flow_system.specs.Moves.{destinations}
-use Rattle.flow_system.specs.Systems.{System}
+use Rattle.code_flow_system.specs.declared.moves.Move.{Move}
+use Rattle.code_flow_system.specs.declared.shapes.Span.{Span}
+use Rattle.code_flow_system.specs.Moves.{destinations}
+use Rattle.code_flow_system.specs.Systems.{System}
 
 -- a move of one address arrives at another
 abbrev pub GoesBy : List Move → ℕ → ℕ → Type 0

@@ -1,9 +1,9 @@
 // The functions of a system over places.
-ghost use Rattle.flow_system.specs.Systems.{IsSystemOf};
+ghost use Rattle.code_flow_system.specs.Systems.{IsSystemOf};
 ghost use Rattle.path_places.specs.Reached.{AreReached};
 ghost use Rattle.path_places.specs.Laws.{IsReachedWhole, FunctionsFit};
 
-use flow_system::{LoopShape, Span, System};
+use code_flow_system::{LoopShape, Span, System};
 use rv_core::Image;
 
 /// A law: where loops fit and every address is reached, each function is steps and loops over places.

@@ -1,10 +1,10 @@
 -- When the numbers of a search have bounds: by the totals of loose flows at prices that are no smaller in size.
 use Rattle.std.specs.Prelude.{◌≡◌, ◌⊎◌, ℕ, ◌≤◌, ℤ, pos, ◌+ℤ◌, ◌≤ℤ◌, ◌<ℤ◌, List, All}
-use Rattle.flow_system.specs.declared.claims.LoopClaim.{LoopClaim}
-use Rattle.flow_system.specs.declared.moves.Move.{Move}
-use Rattle.flow_system.specs.declared.shapes.LoopShape.{LoopShape}
-use Rattle.flow_system.specs.declared.shapes.Span.{Span}
-use Rattle.flow_system.specs.Systems.{System}
+use Rattle.code_flow_system.specs.declared.claims.LoopClaim.{LoopClaim}
+use Rattle.code_flow_system.specs.declared.moves.Move.{Move}
+use Rattle.code_flow_system.specs.declared.shapes.LoopShape.{LoopShape}
+use Rattle.code_flow_system.specs.declared.shapes.Span.{Span}
+use Rattle.code_flow_system.specs.Systems.{System}
 use Rattle.loop_ranges.specs.Near.{IsUpTo}
 use Rattle.path_places.specs.Laws.{IsReachedWhole}
 use Rattle.path_rows.specs.Driver.{Prices}

@@ -9,7 +9,7 @@
 
 ghost use Rattle.path_ranges.specs.Ranges.{WalksAreBounded, WorthsAreBounded};
 
-use flow_system::{LoopShape, Span, System};
+use code_flow_system::{LoopShape, Span, System};
 
 /// A law: each function has loose numbers below the bound when it is settled.
 pub fn walks_are_bounded(system: &System, shapes: &[LoopShape], spans: &[Span])

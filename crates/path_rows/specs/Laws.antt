@@ -1,10 +1,10 @@
 -- What the worths of a whole system pay for.
 use Rattle.std.specs.Prelude.{◌≡◌, ◌||◌, List, [], ◌∷◌, length, false, Contains}
-use Rattle.flow_system.specs.declared.moves.Move.{Move}
-use Rattle.flow_system.specs.declared.shapes.LoopShape.{LoopShape}
-use Rattle.flow_system.specs.declared.shapes.Span.{Span}
-use Rattle.flow_system.specs.Systems.{System}
-use Rattle.flow_system.specs.Shapes.{is_back}
+use Rattle.code_flow_system.specs.declared.moves.Move.{Move}
+use Rattle.code_flow_system.specs.declared.shapes.LoopShape.{LoopShape}
+use Rattle.code_flow_system.specs.declared.shapes.Span.{Span}
+use Rattle.code_flow_system.specs.Systems.{System}
+use Rattle.code_flow_system.specs.Shapes.{is_back}
 use Rattle.loop_walks.specs.Levels.{Level}
 use Rattle.loop_walks.specs.Rows.{IsPaid, AreSettled}
 use Rattle.path_places.specs.Places.{is_stop, step_of}

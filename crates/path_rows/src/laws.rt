@@ -2,7 +2,7 @@
 ghost use Rattle.path_places.specs.Laws.{IsReachedWhole};
 ghost use Rattle.path_rows.specs.Laws.{SettlingPaysMoves, SettlingSettlesLoops};
 
-use flow_system::{LoopShape, Span, System};
+use code_flow_system::{LoopShape, Span, System};
 
 /// A law: at any prices, when all functions are settled, each move costs no more than the worth falls along it.
 pub fn moves_are_paid(system: &System, shapes: &[LoopShape], spans: &[Span])

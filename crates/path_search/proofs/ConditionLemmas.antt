@@ -2,14 +2,14 @@
 use Rattle.std.proofs.Common.{◌≡◌, ◌≢◌, ℕ, zero, suc, ◌≤◌, arith, refl, sym, ap, ◌∙◌, subst, List, [], ◌∷◌, Contains, All, inl, inr, ◌⊎◌, Bool, true, false}
 use Rattle.std.proofs.lemmas.Bool.Decides.{eqb_tells}
 use Rattle.std.proofs.lemmas.List.Elements.{All-contains}
-use Rattle.flow_system.specs.declared.claims.LoopClaim.{LoopClaim}
-use Rattle.flow_system.specs.declared.moves.Move.{Move}
-use Rattle.flow_system.specs.declared.shapes.LoopShape.{LoopShape}
-use Rattle.flow_system.specs.declared.shapes.Span.{Span}
-use Rattle.flow_system.specs.Moves.{destinations}
-use Rattle.flow_system.specs.Systems.{System, has_moves}
-use Rattle.flow_system.specs.Shapes.{AreShapesOf, IsInLoop, AreNested, AreAllNested, EntersAtHeader, IsLoop, Fits}
-use Rattle.loop_fit.specs.Loops.{HeadsOwnLoop}
+use Rattle.code_flow_system.specs.declared.claims.LoopClaim.{LoopClaim}
+use Rattle.code_flow_system.specs.declared.moves.Move.{Move}
+use Rattle.code_flow_system.specs.declared.shapes.LoopShape.{LoopShape}
+use Rattle.code_flow_system.specs.declared.shapes.Span.{Span}
+use Rattle.code_flow_system.specs.Moves.{destinations}
+use Rattle.code_flow_system.specs.Systems.{System, has_moves}
+use Rattle.code_flow_system.specs.Shapes.{AreShapesOf, IsInLoop, AreNested, AreAllNested, EntersAtHeader, IsLoop, Fits}
+use Rattle.path_fit.specs.Loops.{HeadsOwnLoop}
 use Rattle.path_places.specs.Reached.{ReachedBy, AreReached}
 use Rattle.path_places.proofs.HeaderLemmas.{back_of, only, decide_in}
 use Rattle.path_places.proofs.FunctionLemmas.{move_of}

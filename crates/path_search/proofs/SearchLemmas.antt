@@ -11,20 +11,20 @@ use Rattle.std.proofs.lemmas.Bool.Decides.{nat_tests}
 use Rattle.std.proofs.lemmas.List.Elements.{All-head, All-tail, All-cons, All-nil, All-weaker}
 use Rattle.frac128.specs.Terms.{Terms, coefficient}
 use Rattle.rv_core.specs.Table.{Table}
-use Rattle.flow_system.specs.declared.claims.Never.{Never}
-use Rattle.flow_system.specs.declared.claims.LoopClaim.{LoopClaim}
-use Rattle.flow_system.specs.declared.claims.FactClaim.{FactClaim}
-use Rattle.flow_system.specs.declared.cert.Cert.{Cert}
-use Rattle.flow_system.specs.declared.cert.Part.{Part}
-use Rattle.flow_system.specs.declared.cert.Mark.TheVariants.{Greatest, Empty}
-use Rattle.flow_system.specs.declared.moves.Move.{Move}
-use Rattle.flow_system.specs.declared.shapes.LoopShape.{LoopShape}
-use Rattle.flow_system.specs.declared.shapes.Span.{Span}
-use Rattle.flow_system.specs.Claims.{Claims, claim_count}
-use Rattle.flow_system.specs.Systems.{System, IsSystem}
-use Rattle.flow_system.specs.MoveCosts.{move_cost}
-use Rattle.flow_system.specs.Flows.{price}
-use Rattle.flow_system.specs.Certificates.{Limit, never_limits, loop_limits, fact_limits, limits, potential, row_size, scaled_price, size_by, whole_part, AddressesAscend, IsNarrow, IsSmall, IsPart, IsInForm}
+use Rattle.code_flow_system.specs.declared.claims.Never.{Never}
+use Rattle.code_flow_system.specs.declared.claims.LoopClaim.{LoopClaim}
+use Rattle.code_flow_system.specs.declared.claims.FactClaim.{FactClaim}
+use Rattle.code_flow_system.specs.declared.cert.Cert.{Cert}
+use Rattle.code_flow_system.specs.declared.cert.Part.{Part}
+use Rattle.code_flow_system.specs.declared.cert.Mark.TheVariants.{Greatest, Empty}
+use Rattle.code_flow_system.specs.declared.moves.Move.{Move}
+use Rattle.code_flow_system.specs.declared.shapes.LoopShape.{LoopShape}
+use Rattle.code_flow_system.specs.declared.shapes.Span.{Span}
+use Rattle.code_flow_system.specs.Claims.{Claims, claim_count}
+use Rattle.code_flow_system.specs.Systems.{System, IsSystem}
+use Rattle.code_flow_system.specs.MoveCosts.{move_cost}
+use Rattle.code_flow_system.specs.Flows.{price}
+use Rattle.code_flow_system.specs.Certificates.{Limit, never_limits, loop_limits, fact_limits, limits, potential, row_size, scaled_price, size_by, whole_part, AddressesAscend, IsNarrow, IsSmall, IsPart, IsInForm}
 use Rattle.loop_walks.specs.declared.step.Pair.{Pair}
 use Rattle.loop_walks.specs.Levels.{Level, level_of}
 use Rattle.path_places.specs.Reached.{AreReached}
@@ -38,9 +38,9 @@ use Rattle.path_flows.specs.Flows.{amounts_of, parts_of}
 use Rattle.path_counts.specs.Laws.{HasBounds}
 use Rattle.path_limits.specs.Limits.{IsLoopWithin}
 use Rattle.path_limits.specs.Narrow.{FetchesCost, HasShortBounds}
-use Rattle.dual_ranges.proofs.ClaimSizes.{size-append}
-use Rattle.cost_ranges.specs.Ranges.{HasSmallValues}
-use Rattle.cost_ranges.proofs.RangeLemmas.{costs_ranged}
+use Rattle.path_dual_ranges.proofs.ClaimSizes.{size-append}
+use Rattle.path_cost_ranges.specs.Ranges.{HasSmallValues}
+use Rattle.path_cost_ranges.proofs.RangeLemmas.{costs_ranged}
 use Rattle.path_cert.specs.Certificates.{entry_worth, certificate_with, costs_of, certificate_of}
 use Rattle.path_cert.proofs.PartLemmas.{potentials_ascend}
 use Rattle.path_bound.specs.Laws.{IsBoundable}

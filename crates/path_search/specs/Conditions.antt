@@ -1,10 +1,10 @@
 -- When a search for the greatest flow can be made.
 use Rattle.std.specs.Prelude.{◌≡◌, ◌≢◌, List, [], false, All, Contains}
 use Rattle.rv_core.specs.Table.{Table}
-use Rattle.flow_system.specs.declared.shapes.LoopShape.{LoopShape}
-use Rattle.flow_system.specs.declared.shapes.Span.{Span}
-use Rattle.flow_system.specs.Systems.{System, has_moves}
-use Rattle.loop_fit.specs.Fitting.{LoopsFit}
+use Rattle.code_flow_system.specs.declared.shapes.LoopShape.{LoopShape}
+use Rattle.code_flow_system.specs.declared.shapes.Span.{Span}
+use Rattle.code_flow_system.specs.Systems.{System, has_moves}
+use Rattle.path_fit.specs.Fitting.{LoopsFit}
 use Rattle.path_counts.specs.Laws.{HasBounds}
 use Rattle.path_limits.specs.Limits.{LooseValuesBelow}
 

@@ -1,14 +1,14 @@
 -- The certificate of the walks' values before it is marked, and its mark.
 use Rattle.std.specs.Prelude.{◌≡◌, ℕ, ◌<◌, ℤ, List, [], length, All}
 use Rattle.rv_core.specs.Table.{Table}
-use Rattle.flow_system.specs.declared.cert.Cert.{Cert}
-use Rattle.flow_system.specs.declared.cert.Flow.{Flow}
-use Rattle.flow_system.specs.declared.cert.Part.{Part}
-use Rattle.flow_system.specs.declared.cert.Mark.{Mark}
-use Rattle.flow_system.specs.declared.cert.Mark.TheVariants.{Neither}
-use Rattle.flow_system.specs.declared.moves.Move.{Move}
-use Rattle.flow_system.specs.Systems.{System, IsSystem}
-use Rattle.flow_system.specs.Certificates.{IsInForm, IsSmall}
+use Rattle.code_flow_system.specs.declared.cert.Cert.{Cert}
+use Rattle.code_flow_system.specs.declared.cert.Flow.{Flow}
+use Rattle.code_flow_system.specs.declared.cert.Part.{Part}
+use Rattle.code_flow_system.specs.declared.cert.Mark.{Mark}
+use Rattle.code_flow_system.specs.declared.cert.Mark.TheVariants.{Neither}
+use Rattle.code_flow_system.specs.declared.moves.Move.{Move}
+use Rattle.code_flow_system.specs.Systems.{System, IsSystem}
+use Rattle.code_flow_system.specs.Certificates.{IsInForm, IsSmall}
 use Rattle.path_duals.specs.Duals.{Values, potentials_of, never_multipliers, loop_multipliers}
 use Rattle.path_walks.specs.declared.walks.Settled.{Settled}
 use Rattle.path_values.specs.Laws.{plain_by, AreNarrow}

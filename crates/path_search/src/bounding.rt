@@ -1,7 +1,7 @@
 // The search.
 ghost use Rattle.std.specs.Prelude.{◌≡◌, ◌^◌, ◌≤ℤ◌, ◌<ℤ◌, pos, true, false, [], IfOk, All};
 ghost use Rattle.rv_core.specs.Table.{table_of};
-ghost use Rattle.flow_system.specs.Certificates.{Accepts, IsInForm};
+ghost use Rattle.code_flow_system.specs.Certificates.{Accepts, IsInForm};
 ghost use Rattle.path_places.specs.Reached.{AreReached};
 ghost use Rattle.path_limits.specs.Narrow.{HasShortBounds};
 ghost use Rattle.path_cert.specs.Certificates.{certificate_of};
@@ -12,10 +12,10 @@ ghost use Rattle.path_search.specs.Unmarked.{no_flow, one_flow};
 
 use crate::marking::{kind_of, marked};
 use crate::unmarked::unmarked_cert;
-use flow_lookup::potential;
-use flow_system::{Cert, Flow, LoopClaim, LoopShape, Mark, Part, Span, System};
+use code_flow_lookup::potential;
+use code_flow_system::{Cert, Flow, LoopClaim, LoopShape, Mark, Part, Span, System};
 use path_amounts::cost_flow;
-use path_enum::Bounded;
+use path_answer::Bounded;
 use path_values::settle_costs;
 use rv_core::Costs;
 use std::alloc::{AllocError, Global};

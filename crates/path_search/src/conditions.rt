@@ -1,14 +1,14 @@
 // Whether a search can be made.
 ghost use Rattle.std.specs.Prelude.{◌≡◌, ◌↔◌, true, IfOk, All};
 ghost use Rattle.rv_core.specs.Table.{table_of};
-ghost use Rattle.flow_system.specs.Shapes.{Fits};
+ghost use Rattle.code_flow_system.specs.Shapes.{Fits};
 ghost use Rattle.path_places.specs.Reached.{AreReached};
 ghost use Rattle.path_counts.specs.Laws.{HasBounds};
 ghost use Rattle.path_search.specs.Conditions.{CanBound, SharedHeadersNeverTurn};
 
-use flow_system::{LoopClaim, LoopShape, Span, System};
-use loop_fit::loops_fit;
-use loose_fit::values_fit;
+use code_flow_system::{LoopClaim, LoopShape, Span, System};
+use path_fit::loops_fit;
+use path_loose_fit::values_fit;
 use rv_core::Costs;
 use std::alloc::Global;
 use wcc_base::Memory;

@@ -1,10 +1,10 @@
 // A certificate before it is marked.
 ghost use Rattle.std.specs.Prelude.{◌≡◌, IfOk};
 ghost use Rattle.rv_core.specs.Table.{table_of};
-ghost use Rattle.flow_system.specs.Flows.{price};
+ghost use Rattle.code_flow_system.specs.Flows.{price};
 ghost use Rattle.path_search.specs.Unmarked.{AreAddable, unmarked_of, values_in};
 
-use flow_system::{Cert, System};
+use code_flow_system::{Cert, System};
 use path_values::{loop_multipliers, never_multipliers, plain, potentials};
 use path_walks::Settled;
 use rv_core::Costs;

@@ -8,7 +8,7 @@
 
 ghost use Rattle.path_sizes.specs.Sizes.{NumbersFit};
 
-use flow_system::{LoopShape, Span, System};
+use code_flow_system::{LoopShape, Span, System};
 
 /// A law: all numbers of all functions stay small, and are no larger than a size that is enough.
 pub fn numbers_fit(system: &System, shapes: &[LoopShape], spans: &[Span])

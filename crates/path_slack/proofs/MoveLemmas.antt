@@ -12,20 +12,20 @@ use Rattle.rv_core.specs.Instructions.{Instruction}
 use Rattle.rv_core.specs.declared.regions.Region.TheVariants.{Flash, Spm, Ram}
 use Rattle.rv_core.specs.Machine.{behind}
 use Rattle.rv_core.specs.Regions.{lies_in}
-use Rattle.flow_system.specs.declared.claims.LoopClaim.{LoopClaim}
-use Rattle.flow_system.specs.declared.moves.Move.{Move}
-use Rattle.flow_system.specs.declared.moves.Way.{Way}
-use Rattle.flow_system.specs.declared.moves.Way.TheVariants.{Next, Branches, Jumps, Calls, Ends, Strays}
-use Rattle.flow_system.specs.declared.shapes.LoopShape.{LoopShape}
-use Rattle.flow_system.specs.declared.shapes.Span.{Span}
-use Rattle.flow_system.specs.Claims.{is_listed}
-use Rattle.flow_system.specs.Moves.{destinations, way_of, moves_on}
-use Rattle.flow_system.specs.Systems.{System, has_moves, moves_from, AreOfInstruction, IsPlaced}
-use Rattle.flow_system.specs.Shapes.{IsInLoop, IsLoop, onward_by, onward, is_back, IsInSpan, AreAllApart, AreApart, IsInOne, StaysIn, CallsEarlier}
-use Rattle.flow_system.specs.Counts.{Amounts, amount, count, total}
-use Rattle.flow_system.specs.Certificates.{Limit, never_limits, loop_limits, held, fall, listed}
-use Rattle.flow_system.specs.Bounds.{IsTight, IsSlackless}
-use Rattle.flow_system.proofs.DualityLemmas.{reaches_potential}
+use Rattle.code_flow_system.specs.declared.claims.LoopClaim.{LoopClaim}
+use Rattle.code_flow_system.specs.declared.moves.Move.{Move}
+use Rattle.code_flow_system.specs.declared.moves.Way.{Way}
+use Rattle.code_flow_system.specs.declared.moves.Way.TheVariants.{Next, Branches, Jumps, Calls, Ends, Strays}
+use Rattle.code_flow_system.specs.declared.shapes.LoopShape.{LoopShape}
+use Rattle.code_flow_system.specs.declared.shapes.Span.{Span}
+use Rattle.code_flow_system.specs.Claims.{is_listed}
+use Rattle.code_flow_system.specs.Moves.{destinations, way_of, moves_on}
+use Rattle.code_flow_system.specs.Systems.{System, has_moves, moves_from, AreOfInstruction, IsPlaced}
+use Rattle.code_flow_system.specs.Shapes.{IsInLoop, IsLoop, onward_by, onward, is_back, IsInSpan, AreAllApart, AreApart, IsInOne, StaysIn, CallsEarlier}
+use Rattle.code_flow_system.specs.Counts.{Amounts, amount, count, total}
+use Rattle.code_flow_system.specs.Certificates.{Limit, never_limits, loop_limits, held, fall, listed}
+use Rattle.code_flow_system.specs.Bounds.{IsTight, IsSlackless}
+use Rattle.code_flow_system.proofs.DualityLemmas.{reaches_potential}
 use Rattle.loop_walks.specs.declared.step.Step.{Step}
 use Rattle.loop_walks.specs.declared.step.Loop.{Loop}
 use Rattle.loop_walks.specs.declared.step.Pair.{Pair}

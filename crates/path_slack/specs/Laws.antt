@@ -1,12 +1,12 @@
 -- The flow of a system by its worths is without slack, so that its total is the entry's potential.
 use Rattle.std.specs.Prelude.{◌≡◌, ℕ, ℤ, ◌≤ℤ◌, List, Contains}
-use Rattle.flow_system.specs.declared.moves.Move.{Move}
-use Rattle.flow_system.specs.declared.shapes.LoopShape.{LoopShape}
-use Rattle.flow_system.specs.declared.shapes.Span.{Span}
-use Rattle.flow_system.specs.Systems.{System}
-use Rattle.flow_system.specs.Counts.{total}
-use Rattle.flow_system.specs.Certificates.{listed}
-use Rattle.flow_system.specs.Bounds.{IsSlackless}
+use Rattle.code_flow_system.specs.declared.moves.Move.{Move}
+use Rattle.code_flow_system.specs.declared.shapes.LoopShape.{LoopShape}
+use Rattle.code_flow_system.specs.declared.shapes.Span.{Span}
+use Rattle.code_flow_system.specs.Systems.{System}
+use Rattle.code_flow_system.specs.Counts.{total}
+use Rattle.code_flow_system.specs.Certificates.{listed}
+use Rattle.code_flow_system.specs.Bounds.{IsSlackless}
 use Rattle.loop_walks.specs.Walks.{worth_at}
 use Rattle.path_places.specs.Places.{place_of}
 use Rattle.path_rows.specs.Driver.{Prices}

@@ -2,7 +2,7 @@
 ghost use Rattle.path_places.specs.Laws.{IsReachedWhole};
 ghost use Rattle.path_slack.specs.Laws.{FlowsAreSlackless, ValuesAreReached};
 
-use flow_system::{LoopShape, Span, System};
+use code_flow_system::{LoopShape, Span, System};
 
 /// A law: where worths are open, the listed flow is without slack.
 pub fn flows_are_slackless(system: &System, shapes: &[LoopShape], spans: &[Span])

@@ -4,9 +4,9 @@ use Rattle.std.specs.Prelude.{◌==◌, nat_le, if◌then◌else◌}
 use Rattle.std.proofs.lemmas.Bool.Decides.{nat_tests}
 use Rattle.std.proofs.lemmas.Int.{ints}
 use Rattle.std.proofs.lemmas.List.Elements.{All-head, All-tail, All-cons, All-nil}
-use Rattle.flow_lookup.specs.Runs.{those_at}
-use Rattle.flow_system.specs.declared.moves.Move.{Move}
-use Rattle.flow_system.specs.Certificates.{Limit}
+use Rattle.code_flow_lookup.specs.Runs.{those_at}
+use Rattle.code_flow_system.specs.declared.moves.Move.{Move}
+use Rattle.code_flow_system.specs.Certificates.{Limit}
 use Rattle.loop_worths.proofs.CodeLemmas.{back_step}
 use Rattle.path_values.specs.Owed.{owed_by, larger_of, most_by}
 

@@ -9,22 +9,22 @@ use Rattle.std.proofs.lemmas.List.Elements.{All-head, All-tail}
 use Rattle.frac128.specs.Terms.{Terms, int_sum_by, coefficient}
 use Rattle.frac128.proofs.TermsLemmas.{int_sum_by-append}
 use Rattle.rv_core.specs.Table.{Table}
-use Rattle.flow_lookup.specs.Runs.{those_at}
-use Rattle.flow_system.specs.declared.claims.Never.{Never}
-use Rattle.flow_system.specs.declared.claims.LoopClaim.{LoopClaim}
-use Rattle.flow_system.specs.declared.claims.FactClaim.{FactClaim}
-use Rattle.flow_system.specs.declared.moves.Move.{Move}
-use Rattle.flow_system.specs.Claims.{Claims}
-use Rattle.flow_system.specs.Systems.{System}
-use Rattle.flow_system.specs.Certificates.{Limit, never_limits, loop_limits, fact_limits, limits, held, fall, row_size, potential, scaled_price, IsNarrow}
+use Rattle.code_flow_lookup.specs.Runs.{those_at}
+use Rattle.code_flow_system.specs.declared.claims.Never.{Never}
+use Rattle.code_flow_system.specs.declared.claims.LoopClaim.{LoopClaim}
+use Rattle.code_flow_system.specs.declared.claims.FactClaim.{FactClaim}
+use Rattle.code_flow_system.specs.declared.moves.Move.{Move}
+use Rattle.code_flow_system.specs.Claims.{Claims}
+use Rattle.code_flow_system.specs.Systems.{System}
+use Rattle.code_flow_system.specs.Certificates.{Limit, never_limits, loop_limits, fact_limits, limits, held, fall, row_size, potential, scaled_price, IsNarrow}
 use Rattle.loop_walks.specs.declared.step.Pair.{Pair}
 use Rattle.loop_walks.specs.Walks.{larger}
 use Rattle.path_duals.specs.Duals.{Values, owed, most_owed, both_of, potentials_of, owe_of, never_bounds, loop_bounds}
 use Rattle.path_values.specs.Owed.{owed_by, larger_of, most_by, owe_at, cons_of, nevers_by, and_more, loops_by}
 use Rattle.path_values.specs.Plain.{plain_of}
 use Rattle.path_values.specs.Laws.{plain_by, MultipliersAre}
-use Rattle.flow_system.specs.Flows.{price}
-use Rattle.flow_system.specs.MoveCosts.{move_cost}
+use Rattle.code_flow_system.specs.Flows.{price}
+use Rattle.code_flow_system.specs.MoveCosts.{move_cost}
 
 -- never claims hold nothing
 nothing_held : (cs : List Never) (n : ℕ) (a : ℕ) → held (never_limits cs (replicate n (pos 0))) a ≡ pos 0

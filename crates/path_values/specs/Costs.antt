@@ -1,8 +1,8 @@
 -- The costs of moves as prices.
 use Rattle.std.specs.Prelude.{ℤ}
 use Rattle.rv_core.specs.Table.{Table}
-use Rattle.flow_system.specs.Flows.{price}
-use Rattle.flow_system.specs.Systems.{System}
+use Rattle.code_flow_system.specs.Flows.{price}
+use Rattle.code_flow_system.specs.Systems.{System}
 use Rattle.path_rows.specs.Driver.{Prices}
 
 abbrev pub costs_at : Table → System → ℤ → Prices

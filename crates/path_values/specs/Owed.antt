@@ -1,13 +1,13 @@
 -- What is left of the prices at an address beside the multipliers of loops, as a sum that is tested finds it.
 use Rattle.std.specs.Prelude.{ℕ, ◌^◌, ◌<◌, ◌==◌, ℤ, pos, ◌+ℤ◌, unsigned_abs, nat_le, List, [], ◌∷◌, Option, Some, None, if◌then◌else◌}
-use Rattle.flow_system.specs.declared.claims.Never.{Never}
-use Rattle.flow_system.specs.declared.claims.LoopClaim.{LoopClaim}
-use Rattle.flow_system.specs.declared.moves.Move.{Move}
+use Rattle.code_flow_system.specs.declared.claims.Never.{Never}
+use Rattle.code_flow_system.specs.declared.claims.LoopClaim.{LoopClaim}
+use Rattle.code_flow_system.specs.declared.moves.Move.{Move}
 use Rattle.rv_core.specs.Table.{Table}
-use Rattle.flow_lookup.specs.Runs.{those_at}
-use Rattle.flow_system.specs.declared.cert.Cert.{Cert}
-use Rattle.flow_system.specs.Systems.{System}
-use Rattle.flow_system.specs.Certificates.{Limit, limits, potential, row_size, scaled_price}
+use Rattle.code_flow_lookup.specs.Runs.{those_at}
+use Rattle.code_flow_system.specs.declared.cert.Cert.{Cert}
+use Rattle.code_flow_system.specs.Systems.{System}
+use Rattle.code_flow_system.specs.Certificates.{Limit, limits, potential, row_size, scaled_price}
 use Rattle.loop_walks.specs.declared.step.Pair.{Pair}
 use Rattle.loop_walks.specs.Walks.{larger}
 use Rattle.path_duals.specs.Duals.{owed}

@@ -2,9 +2,9 @@
 use Rattle.std.specs.Prelude.{pos, List, [], length}
 use Rattle.std.proofs.Math.ListN.{replicate}
 use Rattle.frac128.specs.Terms.{Terms}
-use Rattle.flow_system.specs.declared.cert.Cert.{Cert}
-use Rattle.flow_system.specs.declared.cert.Mark.TheVariants.{Neither}
-use Rattle.flow_system.specs.Claims.{Claims}
+use Rattle.code_flow_system.specs.declared.cert.Cert.{Cert}
+use Rattle.code_flow_system.specs.declared.cert.Mark.TheVariants.{Neither}
+use Rattle.code_flow_system.specs.Claims.{Claims}
 use Rattle.loop_walks.specs.declared.step.Pair.{Pair}
 use Rattle.path_duals.specs.Duals.{both_of}
 

@@ -3,7 +3,7 @@ ghost use Rattle.std.specs.Prelude.{◌≡◌, ◌∷◌, ◌++◌, [], length, 
 ghost use Rattle.path_duals.specs.Duals.{both_of};
 ghost use Rattle.path_values.specs.Plain.{plain_of};
 
-use flow_system::{Cert, Flow, Mark, System};
+use code_flow_system::{Cert, Flow, Mark, System};
 use loop_walks::Pair;
 use std::alloc::{AllocError, Global};
 use wcc_base::Items;

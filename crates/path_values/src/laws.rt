@@ -2,7 +2,7 @@
 ghost use Rattle.rv_core.specs.Table.{table_of};
 ghost use Rattle.path_values.specs.Laws.{MultipliersAre};
 
-use flow_system::System;
+use code_flow_system::System;
 use rv_core::Costs;
 
 /// A law: where no row is wide, the multipliers that are found beside the certificate of the walks' values are those

@@ -1,11 +1,11 @@
 // The multipliers of claims that forbid to visit an address, and those of loops.
 ghost use Rattle.std.specs.Prelude.{◌≡◌, length, IfOk, MatchOption, None, Some, All};
 ghost use Rattle.rv_core.specs.Table.{table_of};
-ghost use Rattle.flow_system.specs.Certificates.{IsInForm, IsSmall};
+ghost use Rattle.code_flow_system.specs.Certificates.{IsInForm, IsSmall};
 ghost use Rattle.path_values.specs.Owed.{owe_at, nevers_by, bounds_by, loops_by};
 
 use crate::owed::most_owed;
-use flow_system::{Cert, LoopClaim, System};
+use code_flow_system::{Cert, LoopClaim, System};
 use loop_walks::Pair;
 use rv_core::Costs;
 use std::alloc::{AllocError, Global};

@@ -1,14 +1,14 @@
 // What is left of prices beside the multipliers of loops.
 ghost use Rattle.std.specs.Prelude.{◌≡◌, ◌⊎◌, neg_ℤ, IfSome};
 ghost use Rattle.rv_core.specs.Table.{table_of};
-ghost use Rattle.flow_system.specs.Systems.{IsPlaced};
-ghost use Rattle.flow_system.specs.Certificates.{limits, potential, scaled_price, IsInForm};
+ghost use Rattle.code_flow_system.specs.Systems.{IsPlaced};
+ghost use Rattle.code_flow_system.specs.Certificates.{limits, potential, scaled_price, IsInForm};
 ghost use Rattle.loop_walks.specs.Walks.{larger};
 ghost use Rattle.path_values.specs.Owed.{IsNarrowNumber, owed_by, larger_of, owe_at};
 
+use code_flow_lookup::moves_at;
+use code_flow_system::{Cert, Move, System};
 use dual_check::{Running, slack};
-use flow_lookup::moves_at;
-use flow_system::{Cert, Move, System};
 use rv_core::Costs;
 
 fn larger(a: i128, b: i128) -> i128

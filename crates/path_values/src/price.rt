@@ -1,10 +1,10 @@
 // The cycles of moves as prices.
 ghost use Rattle.std.specs.Prelude.{◌≡◌, IfOk, map};
 ghost use Rattle.rv_core.specs.Table.{table_of};
-ghost use Rattle.flow_system.specs.Flows.{price};
+ghost use Rattle.code_flow_system.specs.Flows.{price};
 
-use flow_lookup::move_cost;
-use flow_system::System;
+use code_flow_lookup::move_cost;
+use code_flow_system::System;
 use rv_core::Costs;
 use std::alloc::{AllocError, Global};
 

@@ -1,9 +1,9 @@
 // Worths of places as potentials of addresses.
 ghost use Rattle.std.specs.Prelude.{◌≡◌, ◌==◌, ◌<◌, ◌++◌, ◌∷◌, [], length, IfOk, OnOk, if◌then◌else◌};
-ghost use Rattle.flow_system.specs.Systems.{AreAscending};
+ghost use Rattle.code_flow_system.specs.Systems.{AreAscending};
 ghost use Rattle.path_duals.specs.Duals.{potentials_of};
 
-use flow_system::Move;
+use code_flow_system::Move;
 use std::alloc::{AllocError, Global};
 
 /// Adds the potential of an address, where its first move stands.

@@ -9,7 +9,7 @@ ghost use Rattle.path_walks.specs.Sizes.{AllStaySmall};
 ghost use Rattle.path_values.specs.Costs.{costs_at};
 
 use crate::price::prices;
-use flow_system::{LoopShape, Span, System};
+use code_flow_system::{LoopShape, Span, System};
 use path_walks::{Priced, Settled, settle_all};
 use rv_core::Costs;
 use std::alloc::{AllocError, Global};

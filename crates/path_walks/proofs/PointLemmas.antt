@@ -4,14 +4,14 @@ use Rattle.std.specs.Prelude.{◌==◌, ◌&&◌, ◌||◌, nat_lt, nat_le}
 use Rattle.std.specs.List.Sorted.{IsNonDecreasingBy, IsPartitionPoint}
 use Rattle.std.proofs.lemmas.Bool.Decides.{nat_tests}
 use Rattle.std.proofs.lemmas.List.Elements.{All-head, All-tail, All-cons, All-nil, All-weaker}
-use Rattle.flow_system.specs.declared.claims.Never.{Never}
-use Rattle.flow_system.specs.declared.claims.LoopClaim.{LoopClaim}
-use Rattle.flow_system.specs.declared.moves.Move.{Move}
-use Rattle.flow_system.specs.declared.shapes.LoopShape.{LoopShape}
+use Rattle.code_flow_system.specs.declared.claims.Never.{Never}
+use Rattle.code_flow_system.specs.declared.claims.LoopClaim.{LoopClaim}
+use Rattle.code_flow_system.specs.declared.moves.Move.{Move}
+use Rattle.code_flow_system.specs.declared.shapes.LoopShape.{LoopShape}
 use Rattle.std.specs.Option.{option_to_list}
-use Rattle.flow_system.specs.Moves.{destinations}
-use Rattle.flow_system.specs.Shapes.{onward, onward_by, is_back}
-use Rattle.flow_lookup.proofs.RunLemmas.{Rises, non_decreasing}
+use Rattle.code_flow_system.specs.Moves.{destinations}
+use Rattle.code_flow_system.specs.Shapes.{onward, onward_by, is_back}
+use Rattle.code_flow_lookup.proofs.RunLemmas.{Rises, non_decreasing}
 use Rattle.loop_walks.specs.declared.step.Step.{Step}
 use Rattle.loop_walks.specs.Rows.{NotBefore, AreSteps}
 use Rattle.path_places.specs.Places.{place_of, before, is_never, is_shut}

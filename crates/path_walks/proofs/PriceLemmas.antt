@@ -4,8 +4,8 @@ use Rattle.std.specs.Prelude.{◌==◌, ◌&&◌, nat_lt, nat_le}
 use Rattle.std.specs.List.Sorted.{IsPartitionPoint}
 use Rattle.std.proofs.lemmas.Bool.Decides.{nat_tests}
 use Rattle.std.proofs.lemmas.List.{get_or-drop}
-use Rattle.flow_system.specs.declared.moves.Move.{Move}
-use Rattle.flow_system.specs.Systems.{ComesBefore, AreAscending}
+use Rattle.code_flow_system.specs.declared.moves.Move.{Move}
+use Rattle.code_flow_system.specs.Systems.{ComesBefore, AreAscending}
 use Rattle.loop_walks.specs.Walks.{larger}
 use Rattle.path_places.specs.Places.{dearest_from}
 use Rattle.path_walks.specs.Prices.{price_in, greatest}

@@ -1,8 +1,8 @@
 -- How the multipliers of a function's loops are put each at its own loop.
 use Rattle.std.specs.Prelude.{ℕ, ◌&&◌, nat_lt, pos, List, length, Bool}
-use Rattle.flow_system.specs.declared.moves.Move.{Move}
-use Rattle.flow_system.specs.declared.shapes.LoopShape.{LoopShape}
-use Rattle.flow_system.specs.Systems.{has_moves}
+use Rattle.code_flow_system.specs.declared.moves.Move.{Move}
+use Rattle.code_flow_system.specs.declared.shapes.LoopShape.{LoopShape}
+use Rattle.code_flow_system.specs.Systems.{has_moves}
 use Rattle.loop_walks.specs.declared.step.Pair.{Pair}
 
 abbrev pub no_pair : Pair

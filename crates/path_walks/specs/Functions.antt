@@ -1,8 +1,8 @@
 -- A function that is next to be settled, and what is left when it has been.
 use Rattle.std.specs.Prelude.{◌≡◌, suc, List, length}
-use Rattle.flow_system.specs.declared.shapes.LoopShape.{LoopShape}
-use Rattle.flow_system.specs.declared.shapes.Span.{Span}
-use Rattle.flow_system.specs.Systems.{System}
+use Rattle.code_flow_system.specs.declared.shapes.LoopShape.{LoopShape}
+use Rattle.code_flow_system.specs.declared.shapes.Span.{Span}
+use Rattle.code_flow_system.specs.Systems.{System}
 use Rattle.loop_walks.specs.declared.step.Pair.{Pair}
 use Rattle.loop_walks.specs.Levels.{Level}
 use Rattle.loop_walks.specs.Rows.{AreSteps, AreLoops, HaveNone}

@@ -1,11 +1,11 @@
 -- Which addresses a walk goes through, and the lists that it searches by halving.
 use Rattle.std.specs.Prelude.{◌≡◌, ℕ, ◌<◌, ◌==◌, ◌&&◌, ◌||◌, not, List, [], ◌∷◌, Bool, false, All}
-use Rattle.flow_system.specs.declared.moves.Move.{Move}
-use Rattle.flow_system.specs.declared.shapes.LoopShape.{LoopShape}
-use Rattle.flow_system.specs.Claims.{Claims}
-use Rattle.flow_system.specs.Moves.{destinations}
-use Rattle.flow_system.specs.Systems.{System}
-use Rattle.flow_system.specs.Shapes.{AreShapesOf, IsLoop, is_back}
+use Rattle.code_flow_system.specs.declared.moves.Move.{Move}
+use Rattle.code_flow_system.specs.declared.shapes.LoopShape.{LoopShape}
+use Rattle.code_flow_system.specs.Claims.{Claims}
+use Rattle.code_flow_system.specs.Moves.{destinations}
+use Rattle.code_flow_system.specs.Systems.{System}
+use Rattle.code_flow_system.specs.Shapes.{AreShapesOf, IsLoop, is_back}
 use Rattle.path_places.specs.Places.{is_stop}
 
 -- not an address that may not be visited, nor a loop's jump back

@@ -1,7 +1,7 @@
 -- Prices of moves as a list beside that of the moves.
 use Rattle.std.specs.Prelude.{◌==◌, ◌&&◌, ℤ, pos, List, [], ◌∷◌, if◌then◌else◌}
-use Rattle.flow_system.specs.declared.moves.Move.{Move}
-use Rattle.flow_system.specs.Systems.{System}
+use Rattle.code_flow_system.specs.declared.moves.Move.{Move}
+use Rattle.code_flow_system.specs.Systems.{System}
 use Rattle.loop_walks.specs.Walks.{larger}
 use Rattle.path_rows.specs.Driver.{Prices}
 

@@ -1,8 +1,8 @@
 -- Numbers that fit: all through the settling of a system.
 use Rattle.std.specs.Prelude.{List, [], ◌∷◌}
-use Rattle.flow_system.specs.declared.shapes.LoopShape.{LoopShape}
-use Rattle.flow_system.specs.declared.shapes.Span.{Span}
-use Rattle.flow_system.specs.Systems.{System}
+use Rattle.code_flow_system.specs.declared.shapes.LoopShape.{LoopShape}
+use Rattle.code_flow_system.specs.declared.shapes.Span.{Span}
+use Rattle.code_flow_system.specs.Systems.{System}
 use Rattle.loop_walks.specs.Levels.{Level}
 use Rattle.loop_worths.specs.Sizes.{StaysSmall}
 use Rattle.path_places.specs.Laws.{function_steps}

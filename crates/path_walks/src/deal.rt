@@ -1,13 +1,13 @@
 // The multipliers of all loops.
 ghost use Rattle.std.specs.Prelude.{◌≡◌, ◌<◌, ◌+◌, length, slice_set, slice_index_or, if◌then◌else◌};
-ghost use Rattle.flow_system.specs.Systems.{AreAscending};
+ghost use Rattle.code_flow_system.specs.Systems.{AreAscending};
 ghost use Rattle.path_duals.specs.Duals.{dealt};
 ghost use Rattle.path_walks.specs.Opens.{AddressesRise};
 ghost use Rattle.path_walks.specs.Deals.{no_pair, takes};
 
 use crate::place::loops_before;
-use flow_lookup::has_moves;
-use flow_system::{LoopShape, Move, Span};
+use code_flow_lookup::has_moves;
+use code_flow_system::{LoopShape, Move, Span};
 use loop_walks::Pair;
 
 /// Gives a loop the next multipliers, if there are any and its header is reached, and says how many are used then.

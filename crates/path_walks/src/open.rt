@@ -1,13 +1,13 @@
 // Addresses that a walk goes through.
 ghost use Rattle.std.specs.Prelude.{◌≡◌, ◌==◌};
 ghost use Rattle.std.specs.Option.{option_to_list};
-ghost use Rattle.flow_system.specs.Claims.{AreSound};
-ghost use Rattle.flow_system.specs.Shapes.{onward, is_back};
+ghost use Rattle.code_flow_system.specs.Claims.{AreSound};
+ghost use Rattle.code_flow_system.specs.Shapes.{onward, is_back};
 ghost use Rattle.path_places.specs.Places.{is_never, is_shut, is_stop};
 ghost use Rattle.path_walks.specs.Opens.{AddressesRise, GoesBack, any_at, is_open};
 
 use crate::place::loops_before;
-use flow_system::{Claims, LoopClaim, LoopShape, Move, Never};
+use code_flow_system::{Claims, LoopClaim, LoopShape, Move, Never};
 
 /// Whether an address is that of a never claim.
 fn is_never(nevers: &[Never], at: u32) -> bool

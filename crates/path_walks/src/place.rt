@@ -1,11 +1,11 @@
 // Places of addresses, by halving.
 ghost use Rattle.std.specs.Prelude.{◌≡◌, ◌+◌, ◌≤◌, true, false, nat_lt, nat_le, length};
 ghost use Rattle.std.specs.List.Sorted.{IsNonDecreasingBy, IsPartitionPoint};
-ghost use Rattle.flow_system.specs.Systems.{AreAscending};
+ghost use Rattle.code_flow_system.specs.Systems.{AreAscending};
 ghost use Rattle.path_places.specs.Places.{place_of, before};
 ghost use Rattle.path_walks.specs.Opens.{AddressesRise};
 
-use flow_system::{LoopShape, Move};
+use code_flow_system::{LoopShape, Move};
 use loop_walks::Step;
 
 /// How many moves begin before an address.

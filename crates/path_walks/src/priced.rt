@@ -1,6 +1,6 @@
 // What a walk goes by.
 
-use flow_system::{LoopShape, System};
+use code_flow_system::{LoopShape, System};
 
 /// A system with its loops, in the order of the claims, and the prices of its moves, in their order.
 #[derive(Clone, Copy)]

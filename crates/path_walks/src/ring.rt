@@ -1,8 +1,8 @@
 // The loops of a function.
 ghost use Rattle.std.specs.Prelude.{◌≡◌, ◌<◌, ◌++◌, ◌∷◌, [], length, IfOk, OnOk, if◌then◌else◌};
 ghost use Rattle.std.specs.List.Sorted.{IsNonDecreasingBy};
-ghost use Rattle.flow_system.specs.Systems.{AreAscending, has_moves};
-ghost use Rattle.flow_system.specs.Shapes.{AreShapesOf};
+ghost use Rattle.code_flow_system.specs.Systems.{AreAscending, has_moves};
+ghost use Rattle.code_flow_system.specs.Shapes.{AreShapesOf};
 ghost use Rattle.loop_walks.specs.Walks.{larger};
 ghost use Rattle.path_places.specs.Places.{back_place, dearest_from, end_place, loop_of, loops_of};
 ghost use Rattle.path_walks.specs.Prices.{price_in, greatest};
@@ -10,8 +10,8 @@ ghost use Rattle.path_walks.specs.Prices.{price_in, greatest};
 use crate::open::is_stop;
 use crate::place::{before, loops_before, place_behind, place_of};
 use crate::priced::Priced;
-use flow_lookup::has_moves;
-use flow_system::{LoopClaim, LoopShape, Move, Span, System};
+use code_flow_lookup::has_moves;
+use code_flow_system::{LoopClaim, LoopShape, Move, Span, System};
 use loop_walks::{Loop, Step};
 use std::alloc::{AllocError, Global};
 

@@ -1,7 +1,7 @@
 // The steps of a function.
 ghost use Rattle.std.specs.Prelude.{◌≡◌, ◌<◌, ◌++◌, ◌∷◌, ◌+ℤ◌, [], true, length, IfOk, OnOk, if◌then◌else◌};
-ghost use Rattle.flow_system.specs.Systems.{AreAscending};
-ghost use Rattle.flow_system.specs.Shapes.{onward};
+ghost use Rattle.code_flow_system.specs.Systems.{AreAscending};
+ghost use Rattle.code_flow_system.specs.Shapes.{onward};
 ghost use Rattle.loop_worths.specs.Sizes.{IsSmall, HaveSmallPrices};
 ghost use Rattle.path_places.specs.Places.{on_place, call_worth, step_of};
 ghost use Rattle.path_places.specs.Laws.{function_steps};
@@ -11,7 +11,7 @@ ghost use Rattle.path_walks.specs.Opens.{AddressesRise, GoesBack, is_open, HasLo
 use crate::open::{is_open, onward};
 use crate::place::place_of;
 use crate::priced::Priced;
-use flow_system::{Move, Span};
+use code_flow_system::{Move, Span};
 use loop_walks::Step;
 use std::alloc::{AllocError, Global};
 

@@ -12,7 +12,7 @@ use crate::deal::deal;
 use crate::priced::Priced;
 use crate::ring::loops;
 use crate::step::steps;
-use flow_system::Span;
+use code_flow_system::Span;
 use loop_walks::{Code, Pair};
 use loop_worths::settle;
 use std::alloc::{AllocError, Global};

@@ -1,8 +1,8 @@
 // Reports that are written, and the words and lines of texts.
 ghost use Rattle.std.specs.Prelude.{◌≡◌, [], ◌∷◌, pos, IfOk};
 
-use flow_system::{Cert, Claims, Flow, Mark, Part};
-use path_enum::Kind;
+use code_flow_system::{Cert, Claims, Flow, Mark, Part};
+use path_answer::Kind;
 use report_text::{Report, write};
 use std::alloc::Global;
 use std::test::Fail;

@@ -11,11 +11,11 @@ use Rattle.elf_image.specs.declared.fault.ElfFault.TheVariants as elf
 use Rattle.code_flow.specs.CodeFaults.{IsFault}
 use Rattle.code_flow.specs.declared.finding.CodeFault.{CodeFault}
 use Rattle.code_flow.specs.declared.finding.CodeFault.TheVariants as code
-use Rattle.flow_system.specs.declared.cert.Cert.{Cert}
-use Rattle.flow_system.specs.Claims.{Claims}
-use Rattle.flow_system.specs.Systems.{System, IsSystemOf, IsFirstBad, IsFirstNoCode}
-use Rattle.flow_system.specs.Certificates.{IsInForm, Accepts}
-use Rattle.flow_system.specs.KeptRuns.{KeepsClaims, BoundsRuns as BoundsSystem}
+use Rattle.code_flow_system.specs.declared.cert.Cert.{Cert}
+use Rattle.code_flow_system.specs.Claims.{Claims}
+use Rattle.code_flow_system.specs.Systems.{System, IsSystemOf, IsFirstBad, IsFirstNoCode}
+use Rattle.code_flow_system.specs.Certificates.{IsInForm, Accepts}
+use Rattle.code_flow_system.specs.KeptRuns.{KeepsClaims, BoundsRuns as BoundsSystem}
 use Rattle.dual_check.specs.declared.row.Row.{Row}
 use Rattle.dual_check.specs.declared.row.Verdict.{Verdict}
 use Rattle.dual_check.specs.declared.row.Verdict.TheVariants.{No}

@@ -3,7 +3,7 @@ use Rattle.std.proofs.Common.{◌≡◌, ℕ, ◌⊎◌, inl, List, Result, Err,
 use Rattle.rv_core.specs.Table.{Table}
 use Rattle.elf_image.specs.Loading.{image_of}
 use Rattle.elf_image.proofs.FaultLemmas.{is_image}
-use Rattle.flow_system.specs.Systems.{System}
+use Rattle.code_flow_system.specs.Systems.{System}
 use Rattle.report_text.specs.Reports.{Report}
 use Rattle.report_reading.specs.declared.fault.ReportFault.{ReportFault}
 use Rattle.report_reading.specs.Faults.{IsReportFault}

@@ -5,11 +5,11 @@ use Rattle.std.proofs.lemmas.Bool.{cases_lt}
 use Rattle.std.proofs.lemmas.Bool.Decides.{nat_tests, eqb_tells}
 use Rattle.std.proofs.lemmas.List.Elements.{All-head, All-tail}
 use Rattle.rv_core.specs.Images.{Image}
-use Rattle.flow_system.specs.declared.moves.Move.{Move}
-use Rattle.flow_system.specs.Claims.{Claims}
-use Rattle.flow_system.specs.Moves.{code_of, moves_at}
-use Rattle.flow_system.specs.Reach.{IsReached}
-use Rattle.flow_system.specs.Systems.{System, system_of, ComesBefore, AreAscending, moves_from, IsSystemOf}
+use Rattle.code_flow_system.specs.declared.moves.Move.{Move}
+use Rattle.code_flow_system.specs.Claims.{Claims}
+use Rattle.code_flow_system.specs.Moves.{code_of, moves_at}
+use Rattle.code_flow_system.specs.Reach.{IsReached}
+use Rattle.code_flow_system.specs.Systems.{System, system_of, ComesBefore, AreAscending, moves_from, IsSystemOf}
 
 same_test : (a : ℕ) → (a == a) ≡ true
 same_test a = grind (arith, nat_tests)

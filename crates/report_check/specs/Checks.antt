@@ -5,11 +5,11 @@ use Rattle.rv_core.specs.Images.{Image}
 use Rattle.rv_core.specs.Runs.{setup, mrun}
 use Rattle.elf_image.specs.Loading.{IsLoadable, image_of}
 use Rattle.elf_image.specs.Faults.{IsNoImage}
-use Rattle.flow_system.specs.declared.cert.Mark.TheVariants as marks
-use Rattle.flow_system.specs.Claims.{Claims, AreSums}
-use Rattle.flow_system.specs.Systems.{System, IsSystemOf, IsFirstBad, IsFirstNoCode}
-use Rattle.flow_system.specs.Certificates.{Accepts}
-use Rattle.flow_system.specs.KeptRuns.{KeepsClaims}
+use Rattle.code_flow_system.specs.declared.cert.Mark.TheVariants as marks
+use Rattle.code_flow_system.specs.Claims.{Claims, AreSums}
+use Rattle.code_flow_system.specs.Systems.{System, IsSystemOf, IsFirstBad, IsFirstNoCode}
+use Rattle.code_flow_system.specs.Certificates.{Accepts}
+use Rattle.code_flow_system.specs.KeptRuns.{KeepsClaims}
 use Rattle.dual_check.specs.declared.row.Row.{Row}
 use Rattle.dual_check.specs.Verdicts.{IsFirst, is_greatest}
 use Rattle.report_text.specs.Reports.{Report}

@@ -4,7 +4,7 @@ ghost use Rattle.report_check.specs.declared.verdict.Cause.TheVariants as causes
 ghost use Rattle.rv_core.specs.Images.{Image, AreLoadable};
 ghost use Rattle.rv_core.specs.Table.{Table, table_of};
 ghost use Rattle.elf_image.specs.Loading.{IsLoadable, image_of};
-ghost use Rattle.flow_system.specs.Systems.{IsSystemOf};
+ghost use Rattle.code_flow_system.specs.Systems.{IsSystemOf};
 ghost use Rattle.report_shares.specs.Shares.{SharesFit};
 ghost use Rattle.report_shares.specs.Faults.{share_fault};
 ghost use Rattle.report_check.specs.Checks.{IsTextOf, AreRead, HaveSystem, TellsShares, IsAccepted, IsChecked, StopsAt};
@@ -13,8 +13,8 @@ use crate::causes::{code_cause, image_cause, report_cause};
 use crate::reading::read_text;
 use crate::verdict::{Cause, Checked};
 use code_flow::system;
+use code_flow_system::{Mark, System};
 use dual_check::{Verdict, check};
-use flow_system::{Mark, System};
 use report_shares::share_fault;
 use report_text::Report;
 use rv_core::{Costs, Image};

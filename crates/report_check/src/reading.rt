@@ -1,6 +1,6 @@
 // The report of a text.
 ghost use Rattle.std.specs.Prelude.{All, IfOk, IfErr};
-ghost use Rattle.flow_system.specs.Claims.{AreSums};
+ghost use Rattle.code_flow_system.specs.Claims.{AreSums};
 ghost use Rattle.report_text.specs.Forms.{IsReport};
 ghost use Rattle.report_reading.specs.Reading.{StopsAt};
 ghost use Rattle.report_laws.specs.Typed.{IsTyped};

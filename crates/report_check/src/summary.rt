@@ -6,7 +6,7 @@ ghost use Rattle.report_reading.specs.Reading.{StopsAt};
 ghost use Rattle.report_check.specs.Summaries.{kind_word, count_line, share_line, summary_text, IsSummary};
 
 use crate::reading::read_text;
-use path_enum::Kind;
+use path_answer::Kind;
 use report_reading::ReportFault;
 use report_text::{Report, Share};
 use report_words::{Field, put_line};

@@ -5,12 +5,12 @@ use Rattle.std.proofs.lemmas.Bool.{cases_lt}
 use borrow.Author.Tests.{le-leb, lt-ltb}
 use Rattle.report_laws.proofs.WordsBack.{and_both}
 use Rattle.frac128.specs.Terms.{Terms}
-use Rattle.flow_system.specs.MoveCosts.{lies_within}
-use Rattle.flow_system.specs.declared.claims.Never.{Never}
-use Rattle.flow_system.specs.declared.claims.Within.{Within}
-use Rattle.flow_system.specs.declared.claims.LoopClaim.{LoopClaim}
-use Rattle.flow_system.specs.declared.cert.Part.{Part}
-use Rattle.flow_system.specs.Certificates.{IsSmall, IsPart, AddressesAscend, PartsAscend}
+use Rattle.code_flow_system.specs.MoveCosts.{lies_within}
+use Rattle.code_flow_system.specs.declared.claims.Never.{Never}
+use Rattle.code_flow_system.specs.declared.claims.Within.{Within}
+use Rattle.code_flow_system.specs.declared.claims.LoopClaim.{LoopClaim}
+use Rattle.code_flow_system.specs.declared.cert.Part.{Part}
+use Rattle.code_flow_system.specs.Certificates.{IsSmall, IsPart, AddressesAscend, PartsAscend}
 use Rattle.report_words.specs.Words.{Line}
 use Rattle.report_text.specs.declared.entries.Share.{Share}
 use Rattle.report_text.specs.Forms.{Ascend, NamesOne, AreAllApart, AreApart, IsShare, SharesAscend}

@@ -12,9 +12,9 @@ use Rattle.frac128.specs.Terms.{Terms}
 use Rattle.frac128.specs.Sum.{address_at, IsSum}
 use Rattle.wcc_base.specs.declared.compare.Compare.{Compare}
 use Rattle.wcc_base.specs.declared.compare.Compare.TheVariants.{AtMost, AtLeast, Equal}
-use Rattle.flow_system.specs.Claims.{AreSums}
-use Rattle.flow_system.specs.declared.claims.FactClaim.{FactClaim}
-use Rattle.flow_system.specs.Certificates.{IsSmall}
+use Rattle.code_flow_system.specs.Claims.{AreSums}
+use Rattle.code_flow_system.specs.declared.claims.FactClaim.{FactClaim}
+use Rattle.code_flow_system.specs.Certificates.{IsSmall}
 use Rattle.report_words.specs.Words.{Word, address_word, term_word}
 use Rattle.report_scanner.specs.Numbers.{is_number, number_of, address_of, term_number, term_address, is_starred, is_term}
 use Rattle.report_scanner.proofs.NumberLemmas.{digits-decimal, is_number-decimal, number_of-decimal}

@@ -2,12 +2,12 @@
 use Rattle.std.proofs.Common.{◌≡◌, ℕ, ◌^◌, ◌<◌, ◌≤◌, ◌⊎◌, inl, inr, List, [], ◌∷◌, ◌++◌, length, map, true, false, refl, sym, ap, ◌∙◌, arith, codes, All}
 use Rattle.std.proofs.lemmas.Bool.{false≢true}
 use Rattle.std.proofs.lemmas.List.Elements.{All-head, All-tail}
-use Rattle.flow_system.specs.Claims.{AreSums}
-use Rattle.flow_system.specs.Certificates.{IsSmall, IsPart, FitsMark}
-use Rattle.flow_system.specs.declared.cert.Mark.{Mark}
-use Rattle.flow_system.specs.declared.cert.Mark.TheVariants as marks
-use Rattle.flow_system.specs.declared.cert.Part.{Part}
-use Rattle.path_enum.specs.declared.bounded.Column.{Column}
+use Rattle.code_flow_system.specs.Claims.{AreSums}
+use Rattle.code_flow_system.specs.Certificates.{IsSmall, IsPart, FitsMark}
+use Rattle.code_flow_system.specs.declared.cert.Mark.{Mark}
+use Rattle.code_flow_system.specs.declared.cert.Mark.TheVariants as marks
+use Rattle.code_flow_system.specs.declared.cert.Part.{Part}
+use Rattle.path_answer.specs.declared.bounded.Column.{Column}
 use Rattle.report_words.specs.Words.{Word, Line}
 use Rattle.report_text.specs.Reports.{Report}
 use Rattle.report_text.specs.Forms.{mark_of, IsFact, IsColumn, IsShare, IsReport}

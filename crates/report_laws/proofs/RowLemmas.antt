@@ -3,11 +3,11 @@ use Rattle.std.proofs.Common.{◌≡◌, ℕ, suc, ◌^◌, ◌<◌, ◌≤◌, 
 use Rattle.std.proofs.lemmas.Int.{ints}
 use Rattle.std.specs.Fmt.{decimal}
 use borrow.Author.Tests.{le-leb, lt-ltb, eq-eqb, leb-false}
-use Rattle.flow_system.specs.declared.claims.Never.{Never}
-use Rattle.flow_system.specs.declared.claims.Within.{Within}
-use Rattle.flow_system.specs.declared.claims.LoopClaim.{LoopClaim}
-use Rattle.flow_system.specs.declared.cert.Part.{Part}
-use Rattle.flow_system.specs.Certificates.{IsSmall, IsPart}
+use Rattle.code_flow_system.specs.declared.claims.Never.{Never}
+use Rattle.code_flow_system.specs.declared.claims.Within.{Within}
+use Rattle.code_flow_system.specs.declared.claims.LoopClaim.{LoopClaim}
+use Rattle.code_flow_system.specs.declared.cert.Part.{Part}
+use Rattle.code_flow_system.specs.Certificates.{IsSmall, IsPart}
 use Rattle.report_words.specs.Words.{Word, address_word, is_name}
 use Rattle.report_scanner.specs.Shapes.{is_dash, are_letters}
 use Rattle.report_scanner.specs.Numbers.{number_of, address_of, is_address}

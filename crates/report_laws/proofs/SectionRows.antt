@@ -1,10 +1,10 @@
 -- The lines of names, facts and columns are read.
 use Rattle.std.proofs.Common.{◌≡◌, ℕ, suc, ◌+◌, ℤ, List, [], ◌∷◌, length, map, sym, subst, arith, All}
 use Rattle.std.proofs.lemmas.List.Elements.{All-head, All-tail}
-use Rattle.flow_system.specs.Claims.{AreSums}
-use Rattle.flow_system.specs.declared.claims.FactClaim.{FactClaim}
-use Rattle.flow_system.specs.Certificates.{IsSmall}
-use Rattle.path_enum.specs.declared.bounded.Column.{Column}
+use Rattle.code_flow_system.specs.Claims.{AreSums}
+use Rattle.code_flow_system.specs.declared.claims.FactClaim.{FactClaim}
+use Rattle.code_flow_system.specs.Certificates.{IsSmall}
+use Rattle.path_answer.specs.declared.bounded.Column.{Column}
 use Rattle.report_text.specs.declared.entries.CopyLine.{CopyLine}
 use Rattle.report_text.specs.Forms.{IsCopyLine, IsFact, IsColumn}
 use Rattle.report_text.specs.Lines.{copy_line, fact_line, column_line, paired}

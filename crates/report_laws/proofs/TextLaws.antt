@@ -3,12 +3,12 @@ use Rattle.std.proofs.Common.{◌≡◌, ℕ, zero, suc, ◌<◌, ◌≤◌, ◌
 use Rattle.std.specs.Fmt.{decimal}
 use Rattle.std.proofs.lemmas.Bool.{false≢true}
 use Rattle.std.proofs.lemmas.List.{append_assoc}
-use Rattle.flow_system.specs.Claims.{AreSums}
-use Rattle.flow_system.specs.declared.cert.Mark.{Mark}
-use Rattle.flow_system.specs.declared.cert.Part.{Part}
-use Rattle.flow_system.specs.Certificates.{FitsMark}
-use Rattle.path_enum.specs.declared.bounded.Kind.{Kind}
-use Rattle.path_enum.specs.declared.bounded.Kind.TheVariants.{Greatest, Empty, Wide, Spent}
+use Rattle.code_flow_system.specs.Claims.{AreSums}
+use Rattle.code_flow_system.specs.declared.cert.Mark.{Mark}
+use Rattle.code_flow_system.specs.declared.cert.Part.{Part}
+use Rattle.code_flow_system.specs.Certificates.{FitsMark}
+use Rattle.path_answer.specs.declared.bounded.Kind.{Kind}
+use Rattle.path_answer.specs.declared.bounded.Kind.TheVariants.{Greatest, Empty, Wide, Spent}
 use Rattle.report_words.specs.Words.{Word, Line}
 use Rattle.report_text.specs.Reports.{Report}
 use Rattle.report_text.specs.declared.entries.Share.{Share}

@@ -3,7 +3,7 @@ use Rattle.std.proofs.Common.{◌≡◌, ℕ, ◌^◌, ◌<◌, ◌≤◌, ◌&&
 use Rattle.std.proofs.lemmas.Int.{ints}
 use Rattle.std.specs.Fmt.{decimal, signed_decimal}
 use borrow.Author.Tests.{le-leb, lt-ltb}
-use Rattle.flow_system.specs.Certificates.{IsSmall}
+use Rattle.code_flow_system.specs.Certificates.{IsSmall}
 use Rattle.report_scanner.specs.declared.shapes.Shape.TheVariants.{Number, Amount}
 use Rattle.report_scanner.specs.Shapes.{is_in_range}
 use Rattle.report_scanner.specs.Numbers.{is_number, number_of, is_signed, signed_of}

@@ -8,7 +8,7 @@ ghost use Rattle.report_text.specs.Lines.{cycles_line, exit_line, never_line, re
 
 use crate::labels::{label, letters};
 use crate::values::{amount, byte, integer, place, small, whole};
-use flow_system::{LoopClaim, Never, Part, Within};
+use code_flow_system::{LoopClaim, Never, Part, Within};
 use report_text::Share;
 use std::alloc::Global;
 use wcc_base::Memory;

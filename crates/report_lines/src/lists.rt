@@ -7,7 +7,7 @@ ghost use Rattle.report_text.specs.Lines.{copy_line, column_line};
 ghost use Rattle.report_lines.specs.LineLists.{are_addresses, are_integers, are_small};
 
 use crate::values::{integer, place};
-use path_enum::Column;
+use path_answer::Column;
 use report_scanner::{Shape, are_in_range, is_address, is_signed};
 use report_text::CopyLine;
 use std::alloc::Global;

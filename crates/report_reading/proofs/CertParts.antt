@@ -1,7 +1,7 @@
 -- The certificate's other numbers, the shares and the last line, one behind the other.
 use Rattle.std.proofs.Common.{◌≡◌, ℕ, ◌==◌, ◌&&◌, List, [], ◌∷◌, ◌++◌, map, Bool, false, refl, sym, ap, subst, ◌∙◌, if◌then◌else◌}
 use Rattle.std.proofs.lemmas.List.{append-nil}
-use Rattle.flow_system.specs.declared.cert.Part.{Part}
+use Rattle.code_flow_system.specs.declared.cert.Part.{Part}
 use Rattle.frac128.specs.Terms.{Terms}
 use Rattle.report_words.specs.Words.{Line, lines_text}
 use Rattle.report_text.specs.declared.entries.Share.{Share}

@@ -1,6 +1,6 @@
 -- The claims, with the names and columns around them, one section behind the other.
 use Rattle.std.proofs.Common.{◌≡◌, ℕ, ◌+◌, ◌<◌, ◌^◌, ℤ, List, [], ◌∷◌, ◌++◌, length, map, ap, ◌∙◌, arith}
-use Rattle.flow_system.specs.Claims.{Claims, claim_count}
+use Rattle.code_flow_system.specs.Claims.{Claims, claim_count}
 use Rattle.report_words.specs.Words.{Line}
 use Rattle.report_text.specs.Lines.{exit_line, never_line, region_line, loop_line, fact_line, paired}
 use Rattle.report_rules.specs.Heads.{copy_rule, column_rule}

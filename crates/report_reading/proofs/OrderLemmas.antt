@@ -2,9 +2,9 @@
 use Rattle.std.proofs.Common.{◌≡◌, ℕ, ◌<◌, ◌≤◌, ◌⊎◌, List, [], ◌∷◌, ◌++◌, map, All}
 use Rattle.std.proofs.lemmas.List.Elements.{All-nil, All-head, All-tail, All-push, All-weaker, All-map}
 use Rattle.frac128.specs.Terms.{Terms}
-use Rattle.flow_system.specs.Certificates.{AddressesAscend, PartsAscend}
-use Rattle.flow_system.specs.declared.cert.Part.{Part}
-use Rattle.flow_system.specs.declared.claims.Within.{Within}
+use Rattle.code_flow_system.specs.Certificates.{AddressesAscend, PartsAscend}
+use Rattle.code_flow_system.specs.declared.cert.Part.{Part}
+use Rattle.code_flow_system.specs.declared.claims.Within.{Within}
 use Rattle.report_text.specs.declared.entries.Share.{Share}
 use Rattle.report_text.specs.Forms.{Ascend, AreApart, AreAllApart, SharesAscend}
 use Rattle.report_reading.specs.Orders.{Pairs, IsOrdered}

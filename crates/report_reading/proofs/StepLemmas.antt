@@ -4,18 +4,18 @@ use Rattle.std.proofs.lemmas.Bool.{false≢true}
 use Rattle.std.proofs.lemmas.List.{length-append}
 use Rattle.std.proofs.lemmas.List.Elements.{All-push}
 use borrow.Author.Tests.{leb-true, leb-false, ltb-true, eqb-true}
-use Rattle.flow_system.specs.declared.claims.Never.{Never}
-use Rattle.flow_system.specs.declared.claims.Within.{Within}
-use Rattle.flow_system.specs.declared.claims.LoopClaim.{LoopClaim}
-use Rattle.flow_system.specs.declared.claims.FactClaim.{FactClaim}
-use Rattle.flow_system.specs.declared.cert.Part.{Part}
-use Rattle.flow_system.specs.Certificates.{IsSmall, IsPart}
+use Rattle.code_flow_system.specs.declared.claims.Never.{Never}
+use Rattle.code_flow_system.specs.declared.claims.Within.{Within}
+use Rattle.code_flow_system.specs.declared.claims.LoopClaim.{LoopClaim}
+use Rattle.code_flow_system.specs.declared.claims.FactClaim.{FactClaim}
+use Rattle.code_flow_system.specs.declared.cert.Part.{Part}
+use Rattle.code_flow_system.specs.Certificates.{IsSmall, IsPart}
 use Rattle.report_words.specs.Words.{Word}
 use Rattle.report_scanner.specs.Numbers.{number_of}
 use Rattle.report_scanner.specs.Shapes.{fit}
 use Rattle.report_text.specs.declared.entries.Share.{Share}
 use Rattle.report_text.specs.declared.entries.CopyLine.{CopyLine}
-use Rattle.path_enum.specs.declared.bounded.Column.{Column}
+use Rattle.path_answer.specs.declared.bounded.Column.{Column}
 use Rattle.report_text.specs.Forms.{AreApart, NamesOne, IsFact, IsCopyLine, IsColumn, IsShare}
 use Rattle.report_text.specs.Lines.{copy_line, column_line, exit_line, never_line, region_line, loop_line, fact_line, paired, potential_line, flow_line, share_line}
 use Rattle.report_lines.specs.LineShapes.{exit_shapes, never_shapes, region_shapes, loop_shapes, potential_shapes, flow_shapes, share_shapes}

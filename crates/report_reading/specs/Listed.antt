@@ -1,12 +1,12 @@
 -- What the lines of a section keep to, with their multipliers.
 use Rattle.std.specs.Prelude.{◌≡◌, ℤ, List, length, map, All}
-use Rattle.flow_system.specs.declared.claims.Never.{Never}
-use Rattle.flow_system.specs.declared.claims.Within.{Within}
-use Rattle.flow_system.specs.declared.claims.LoopClaim.{LoopClaim}
-use Rattle.flow_system.specs.declared.claims.FactClaim.{FactClaim}
-use Rattle.flow_system.specs.declared.cert.Part.{Part}
+use Rattle.code_flow_system.specs.declared.claims.Never.{Never}
+use Rattle.code_flow_system.specs.declared.claims.Within.{Within}
+use Rattle.code_flow_system.specs.declared.claims.LoopClaim.{LoopClaim}
+use Rattle.code_flow_system.specs.declared.claims.FactClaim.{FactClaim}
+use Rattle.code_flow_system.specs.declared.cert.Part.{Part}
 use Rattle.frac128.specs.Terms.{Terms}
-use Rattle.flow_system.specs.Certificates.{IsSmall, AddressesAscend, IsPart, PartsAscend}
+use Rattle.code_flow_system.specs.Certificates.{IsSmall, AddressesAscend, IsPart, PartsAscend}
 use Rattle.report_text.specs.declared.entries.Share.{Share}
 use Rattle.report_text.specs.Forms.{Ascend, NamesOne, AreAllApart, IsFact, IsShare, SharesAscend}
 

@@ -1,10 +1,10 @@
 -- The lines of a report's parts, as they are read: each claim with its multiplier, and the certificate's other numbers.
 use Rattle.std.specs.Prelude.{ℕ, ℤ, List, [], ◌∷◌, ◌++◌, map}
 use Rattle.frac128.specs.Terms.{Terms}
-use Rattle.flow_system.specs.Claims.{Claims}
-use Rattle.flow_system.specs.declared.cert.Part.{Part}
-use Rattle.path_enum.specs.declared.bounded.Kind.{Kind}
-use Rattle.path_enum.specs.declared.bounded.Column.{Column}
+use Rattle.code_flow_system.specs.Claims.{Claims}
+use Rattle.code_flow_system.specs.declared.cert.Part.{Part}
+use Rattle.path_answer.specs.declared.bounded.Kind.{Kind}
+use Rattle.path_answer.specs.declared.bounded.Column.{Column}
 use Rattle.report_words.specs.Words.{Line}
 use Rattle.report_text.specs.Reports.{Report}
 use Rattle.report_text.specs.declared.entries.CopyLine.{CopyLine}

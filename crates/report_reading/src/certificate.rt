@@ -14,7 +14,7 @@ use crate::certs::{parts, potentials, shares};
 use crate::fault::ReportFault;
 use crate::place::Place;
 use crate::single::{end_at, scale_at, unit_at};
-use flow_system::Part;
+use code_flow_system::Part;
 use report_text::Share;
 use std::alloc::Global;
 

@@ -9,7 +9,7 @@ ghost use Rattle.report_reading.specs.Reading.{at_of, IsNumbered, PassesOn, Stop
 
 use crate::fault::ReportFault;
 use crate::place::{Place, add, fault_at, next_line};
-use flow_system::Part;
+use code_flow_system::Part;
 use report_rules::{LeastMove, flow, potential, share};
 use report_text::Share;
 use std::alloc::Global;

@@ -11,7 +11,7 @@ ghost use Rattle.report_reading.specs.Reading.{at_of, IsNumbered, Passes, Passes
 
 use crate::fault::ReportFault;
 use crate::place::{Place, add, fault_at, next_line};
-use flow_system::{FactClaim, LoopClaim, Never, Within};
+use code_flow_system::{FactClaim, LoopClaim, Never, Within};
 use report_rules::{Reached, exit, fact, loop_claim, never, region};
 use std::alloc::Global;
 

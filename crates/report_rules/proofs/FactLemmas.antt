@@ -7,8 +7,8 @@ use borrow.Author.Tests.{ltb-true}
 use Rattle.std.specs.Fmt.{signed_decimal}
 use Rattle.wcc_base.specs.declared.compare.Compare.{Compare}
 use Rattle.wcc_base.specs.declared.compare.Compare.TheVariants.{AtMost, AtLeast, Equal}
-use Rattle.flow_system.specs.declared.claims.FactClaim.{FactClaim}
-use Rattle.flow_system.specs.Certificates.{IsSmall}
+use Rattle.code_flow_system.specs.declared.claims.FactClaim.{FactClaim}
+use Rattle.code_flow_system.specs.Certificates.{IsSmall}
 use Rattle.report_words.specs.Words.{Word}
 use Rattle.report_scanner.specs.Numbers.{is_signed, signed_of}
 use Rattle.report_text.specs.Lines.{sum_words, compare_word, fact_line}

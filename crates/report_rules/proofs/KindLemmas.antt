@@ -2,8 +2,8 @@
 use Rattle.std.proofs.Common.{◌≡◌, ◌&&◌, ℕ, List, [], ◌∷◌, Bool, true, false, refl, sym, ap, subst, ◌∙◌, codes, arith, if◌then◌else◌}
 use Rattle.std.proofs.lemmas.Bool.{false≢true}
 use Rattle.std.specs.Fmt.{decimal}
-use Rattle.path_enum.specs.declared.bounded.Kind.{Kind}
-use Rattle.path_enum.specs.declared.bounded.Kind.TheVariants.{Greatest, Empty, Wide, Spent}
+use Rattle.path_answer.specs.declared.bounded.Kind.{Kind}
+use Rattle.path_answer.specs.declared.bounded.Kind.TheVariants.{Greatest, Empty, Wide, Spent}
 use Rattle.report_words.specs.Words.{Word}
 use Rattle.report_scanner.specs.Numbers.{number_of}
 use Rattle.report_scanner.proofs.NumberLemmas.{decimal-number_of}

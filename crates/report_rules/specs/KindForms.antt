@@ -1,7 +1,7 @@
 -- What the words behind `kind` say.
 use Rattle.std.specs.Prelude.{◌≡◌, List, ◌∷◌, [], Bool, true, false, codes}
-use Rattle.path_enum.specs.declared.bounded.Kind.{Kind}
-use Rattle.path_enum.specs.declared.bounded.Kind.TheVariants.{Greatest, Empty, Wide, Spent}
+use Rattle.path_answer.specs.declared.bounded.Kind.{Kind}
+use Rattle.path_answer.specs.declared.bounded.Kind.TheVariants.{Greatest, Empty, Wide, Spent}
 use Rattle.report_words.specs.Words.{Word}
 use Rattle.report_scanner.specs.declared.shapes.Shape.{Shape}
 use Rattle.report_scanner.specs.Shapes.{fit, are_in_range}

@@ -1,6 +1,6 @@
 // The lines `exit`, `never`, `region` and `loop`.
 ghost use Rattle.std.specs.Prelude.{◌≡◌, ℕ, map, IfOk, IfErr};
-ghost use Rattle.flow_system.specs.Certificates.{IsSmall};
+ghost use Rattle.code_flow_system.specs.Certificates.{IsSmall};
 ghost use Rattle.report_text.specs.Forms.{NamesOne};
 ghost use Rattle.report_text.specs.Lines.{exit_line, never_line, region_line, loop_line};
 ghost use Rattle.report_rules.specs.Rules.{IsLine, IsFlaw};
@@ -10,7 +10,7 @@ ghost use Rattle.report_rules.specs.ClaimRules.{exit_rule, never_rule, region_st
 use crate::flaw::Flaw;
 use crate::shapes::{EXIT, LOOP, NEVER, REGION};
 use crate::words::place;
-use flow_system::{LoopClaim, Never, Within};
+use code_flow_system::{LoopClaim, Never, Within};
 use report_scanner::{are_in_range, fit};
 
 #[tactic(auto, using(crate::proofs::PlaceLemmas::exit_place))]

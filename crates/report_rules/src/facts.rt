@@ -1,6 +1,6 @@
 // The lines `fact`.
 ghost use Rattle.std.specs.Prelude.{◌≡◌, ◌^◌, ◌∷◌, ◌++◌, ◌&&◌, true, false, map, nat_lt, unsigned_abs, IfOk, IfErr, MatchOption, All};
-ghost use Rattle.flow_system.specs.Certificates.{IsSmall};
+ghost use Rattle.code_flow_system.specs.Certificates.{IsSmall};
 ghost use Rattle.report_text.specs.Forms.{IsTerm, IsFact};
 ghost use Rattle.report_text.specs.Lines.{sum_words, compare_word, fact_line};
 ghost use Rattle.report_scanner.specs.Numbers.{is_signed, signed_of};
@@ -11,7 +11,7 @@ ghost use Rattle.report_rules.specs.FactForms.{AreSides};
 
 use crate::flaw::Flaw;
 use crate::words::is_word;
-use flow_system::FactClaim;
+use code_flow_system::FactClaim;
 use frac128::Sum;
 use report_lines::{are_small, are_terms, are_terms_in_range, compare, integer};
 use report_scanner::is_signed;

@@ -12,7 +12,7 @@ ghost use Rattle.report_rules.specs.declared.flaw.Flaw.TheVariants as flaws;
 use crate::flaw::Flaw;
 use crate::shapes::{CYCLES, SMALL};
 use crate::words::is_word;
-use path_enum::Kind;
+use path_answer::Kind;
 use report_lines::{spent_kind, wide_kind};
 use report_scanner::{are_in_range, fit};
 

@@ -10,7 +10,7 @@ ghost use Rattle.report_rules.specs.Heads.{copy_rule, column_rule};
 
 use crate::flaw::Flaw;
 use crate::words::places_ascend;
-use path_enum::Column;
+use path_answer::Column;
 use report_lines::{are_addresses, are_integers, are_small};
 use report_scanner::{Shape, are_in_range, is_name, is_signed};
 use report_text::CopyLine;

@@ -6,13 +6,13 @@ use Rattle.std.proofs.lemmas.Bool.Decides.{nat_tests, eqb_tells}
 use Rattle.std.proofs.lemmas.List.Elements.{All-head, All-tail}
 use Rattle.frac128.specs.Terms.{int_sum_by}
 use Rattle.rv_core.specs.Table.{Table}
-use Rattle.flow_system.specs.declared.moves.Move.{Move}
-use Rattle.flow_system.specs.declared.cert.Part.{Part}
-use Rattle.flow_system.specs.Systems.{System}
-use Rattle.flow_system.specs.Counts.{amount, total}
-use Rattle.flow_system.specs.MoveCosts.{move_cost}
-use Rattle.flow_system.specs.Flows.{price, value}
-use Rattle.flow_system.specs.Certificates.{listed, whole}
+use Rattle.code_flow_system.specs.declared.moves.Move.{Move}
+use Rattle.code_flow_system.specs.declared.cert.Part.{Part}
+use Rattle.code_flow_system.specs.Systems.{System}
+use Rattle.code_flow_system.specs.Counts.{amount, total}
+use Rattle.code_flow_system.specs.MoveCosts.{move_cost}
+use Rattle.code_flow_system.specs.Flows.{price, value}
+use Rattle.code_flow_system.specs.Certificates.{listed, whole}
 use Rattle.report_text.specs.declared.entries.Share.{Share}
 use Rattle.report_shares.specs.Shares.{lies_in, holders, moves_between, spent, share_sum, SharesFit}
 use Rattle.report_shares.proofs.SpentLemmas.{product}

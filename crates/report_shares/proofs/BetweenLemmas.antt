@@ -5,8 +5,8 @@ use Rattle.std.specs.List.Sorted.{IsPartitionPoint}
 use Rattle.std.proofs.lemmas.Bool.Decides.{nat_tests}
 use Rattle.std.proofs.lemmas.List.{append-nil, take-append-drop, length-take-le, length-drop, get_or-take, get_or-drop}
 use Rattle.std.proofs.lemmas.List.Elements.{All-head, All-tail}
-use Rattle.flow_lookup.proofs.RunLemmas.{rest_is}
-use Rattle.flow_system.specs.declared.moves.Move.{Move}
+use Rattle.code_flow_lookup.proofs.RunLemmas.{rest_is}
+use Rattle.code_flow_system.specs.declared.moves.Move.{Move}
 use Rattle.report_shares.specs.Shares.{moves_between}
 
 not_below : (a b : ℕ) → ltb a b ≡ false → b ≤ a

@@ -3,11 +3,11 @@ use Rattle.std.proofs.Common.{◌≡◌, ℕ, zero, suc, ◌+◌, ◌<◌, ◌�
 use Rattle.std.specs.Prelude.{map, slice_set, ℤ, pos, ◌<ℤ◌, ◌&&◌, nat_le, nat_lt, if◌then◌else◌}
 use Rattle.std.proofs.lemmas.Int.{ints}
 use Rattle.rv_core.specs.Table.{Table}
-use Rattle.flow_system.specs.declared.moves.Move.{Move}
-use Rattle.flow_system.specs.declared.cert.Part.{Part}
-use Rattle.flow_system.specs.Systems.{System}
-use Rattle.flow_system.specs.Flows.{value}
-use Rattle.flow_system.specs.Certificates.{listed}
+use Rattle.code_flow_system.specs.declared.moves.Move.{Move}
+use Rattle.code_flow_system.specs.declared.cert.Part.{Part}
+use Rattle.code_flow_system.specs.Systems.{System}
+use Rattle.code_flow_system.specs.Flows.{value}
+use Rattle.code_flow_system.specs.Certificates.{listed}
 use Rattle.report_shares.specs.Shares.{moves_between, spent}
 use Rattle.report_shares.proofs.SpentLemmas.{product}
 use Rattle.report_shares.proofs.AddUpLemmas.{value_spent}

@@ -4,7 +4,7 @@ use Rattle.std.specs.Prelude.{◌==◌, ◌&&◌, nat_le, nat_lt, not, is_some, 
 use Rattle.std.specs.List.Sorted.{IsNonDecreasingBy, IsPartitionPoint}
 use Rattle.std.proofs.lemmas.Bool.Decides.{nat_tests}
 use Rattle.std.proofs.lemmas.List.Elements.{All-head, All-tail, All-weaker}
-use Rattle.flow_lookup.proofs.RunLemmas.{Rises, non_decreasing, same_test, other_test}
+use Rattle.code_flow_lookup.proofs.RunLemmas.{Rises, non_decreasing, same_test, other_test}
 use Rattle.report_text.specs.declared.entries.Share.{Share}
 use Rattle.report_text.specs.Forms.{IsShare, SharesAscend}
 use Rattle.report_shares.specs.Shares.{IsProper, lies_in, holders, begins}

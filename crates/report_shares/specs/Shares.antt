@@ -1,11 +1,11 @@
 -- The shares of a listed flow: how much of its value the code of each function has.
 use Rattle.std.specs.Prelude.{◌≡◌, ℕ, ◌+◌, ◌*◌, ◌==◌, ◌&&◌, ◌<◌, pos, ◌≤ℤ◌, nat_le, nat_lt, List, [], ◌∷◌, Bool, true, false, Option, Some, None, is_some, IfSome, All, if◌then◌else◌}
 use Rattle.rv_core.specs.Table.{Table}
-use Rattle.flow_system.specs.declared.moves.Move.{Move}
-use Rattle.flow_system.specs.declared.cert.Part.{Part}
-use Rattle.flow_system.specs.Systems.{System}
-use Rattle.flow_system.specs.MoveCosts.{move_cost}
-use Rattle.flow_system.specs.Certificates.{IsSmall, listed}
+use Rattle.code_flow_system.specs.declared.moves.Move.{Move}
+use Rattle.code_flow_system.specs.declared.cert.Part.{Part}
+use Rattle.code_flow_system.specs.Systems.{System}
+use Rattle.code_flow_system.specs.MoveCosts.{move_cost}
+use Rattle.code_flow_system.specs.Certificates.{IsSmall, listed}
 use Rattle.report_text.specs.declared.entries.Share.{Share}
 
 -- a share's range isn't empty, and its part is small and not negative

@@ -2,14 +2,14 @@
 ghost use Rattle.std.specs.Prelude.{◌≡◌, All, IsNone, ◌↔◌, pos};
 ghost use Rattle.std.specs.Ordering.{int_eq};
 ghost use Rattle.rv_core.specs.Table.{table_of};
-ghost use Rattle.flow_system.specs.Certificates.{IsPart, PartsAscend};
+ghost use Rattle.code_flow_system.specs.Certificates.{IsPart, PartsAscend};
 ghost use Rattle.report_text.specs.Forms.{SharesAscend};
 ghost use Rattle.report_shares.specs.Shares.{IsProper, SharesFit, share_sum};
 ghost use Rattle.report_shares.specs.Faults.{lesser, least_by, or_else, first_by, unheld, unbegun, unequal, share_fault};
 
 use crate::places::{begins, is_held};
 use crate::sums::spent_between;
-use flow_system::{Flow, Move, Part, System};
+use code_flow_system::{Flow, Move, Part, System};
 use report_text::Share;
 use rv_core::Costs;
 

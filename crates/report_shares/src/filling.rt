@@ -1,12 +1,12 @@
 // Shares that fit by their sums.
 ghost use Rattle.std.specs.Prelude.{◌≡◌, ◌^◌, pos, ◌<ℤ◌, All, map};
 ghost use Rattle.rv_core.specs.Table.{table_of};
-ghost use Rattle.flow_system.specs.Flows.{value};
-ghost use Rattle.flow_system.specs.Certificates.{listed, IsPart, PartsAscend};
+ghost use Rattle.code_flow_system.specs.Flows.{value};
+ghost use Rattle.code_flow_system.specs.Certificates.{listed, IsPart, PartsAscend};
 ghost use Rattle.report_shares.specs.Shares.{share_sum, with_sum};
 
 use crate::sums::spent_between;
-use flow_system::{Flow, System};
+use code_flow_system::{Flow, System};
 use report_text::Share;
 use rv_core::Costs;
 

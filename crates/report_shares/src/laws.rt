@@ -2,11 +2,11 @@
 ghost use Rattle.std.specs.Prelude.{◌≡◌};
 ghost use Rattle.frac128.specs.Terms.{int_sum_by};
 ghost use Rattle.rv_core.specs.Table.{table_of};
-ghost use Rattle.flow_system.specs.Flows.{value};
-ghost use Rattle.flow_system.specs.Certificates.{listed};
+ghost use Rattle.code_flow_system.specs.Flows.{value};
+ghost use Rattle.code_flow_system.specs.Certificates.{listed};
 ghost use Rattle.report_shares.specs.Shares.{SharesFit};
 
-use flow_system::{Flow, System};
+use code_flow_system::{Flow, System};
 use report_text::Share;
 use rv_core::Costs;
 

@@ -1,13 +1,13 @@
 // What listed moves cost.
 ghost use Rattle.std.specs.Prelude.{◌≡◌, ◌+◌, ◌*◌, ◌<◌, ◌≤◌, ◌^◌, All, IsNone, IfSome, ◌↔◌};
 ghost use Rattle.rv_core.specs.Table.{table_of};
-ghost use Rattle.flow_system.specs.Systems.{AreAscending, IsPlaced};
-ghost use Rattle.flow_system.specs.MoveCosts.{move_cost};
-ghost use Rattle.flow_system.specs.Certificates.{listed, IsPart, PartsAscend};
+ghost use Rattle.code_flow_system.specs.Systems.{AreAscending, IsPlaced};
+ghost use Rattle.code_flow_system.specs.MoveCosts.{move_cost};
+ghost use Rattle.code_flow_system.specs.Certificates.{listed, IsPart, PartsAscend};
 ghost use Rattle.report_shares.specs.Shares.{moves_between, spent, share_sum};
 
-use flow_lookup::{amount, move_cost};
-use flow_system::{Flow, Move, System};
+use code_flow_lookup::{amount, move_cost};
+use code_flow_system::{Flow, Move, System};
 use rv_core::Costs;
 
 /// 2 to the 126th.

@@ -1,15 +1,15 @@
 -- What a report keeps to: the forms, ranges and orders of its lines.
 use Rattle.std.specs.Prelude.{◌≡◌, ◌⊎◌, ℕ, ◌<◌, ◌≤◌, ◌^◌, ◌||◌, ℤ, pos, ◌≤ℤ◌, ◌<ℤ◌, List, [], ◌∷◌, length, map, true, All, MatchOption}
-use Rattle.flow_system.specs.Claims.{Claims}
-use Rattle.flow_system.specs.MoveCosts.{lies_within}
-use Rattle.flow_system.specs.Certificates.{IsSmall, IsInForm}
-use Rattle.flow_system.specs.declared.claims.Within.{Within}
-use Rattle.flow_system.specs.declared.claims.FactClaim.{FactClaim}
-use Rattle.flow_system.specs.declared.cert.Mark.{Mark}
-use Rattle.flow_system.specs.declared.cert.Mark.TheVariants as marks
-use Rattle.path_enum.specs.declared.bounded.Kind.{Kind}
-use Rattle.path_enum.specs.declared.bounded.Kind.TheVariants.{Greatest, Empty, Wide, Spent}
-use Rattle.path_enum.specs.declared.bounded.Column.{Column}
+use Rattle.code_flow_system.specs.Claims.{Claims}
+use Rattle.code_flow_system.specs.MoveCosts.{lies_within}
+use Rattle.code_flow_system.specs.Certificates.{IsSmall, IsInForm}
+use Rattle.code_flow_system.specs.declared.claims.Within.{Within}
+use Rattle.code_flow_system.specs.declared.claims.FactClaim.{FactClaim}
+use Rattle.code_flow_system.specs.declared.cert.Mark.{Mark}
+use Rattle.code_flow_system.specs.declared.cert.Mark.TheVariants as marks
+use Rattle.path_answer.specs.declared.bounded.Kind.{Kind}
+use Rattle.path_answer.specs.declared.bounded.Kind.TheVariants.{Greatest, Empty, Wide, Spent}
+use Rattle.path_answer.specs.declared.bounded.Column.{Column}
 use Rattle.report_text.specs.declared.entries.CopyLine.{CopyLine}
 use Rattle.report_text.specs.declared.entries.Share.{Share}
 use Rattle.report_words.specs.Words.{is_name}

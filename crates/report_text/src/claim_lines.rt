@@ -3,7 +3,7 @@ ghost use Rattle.std.specs.Prelude.{◌≡◌, ◌++◌, ◌∷◌, length, map,
 ghost use Rattle.report_words.specs.Words.{line_text, lines_text, spaced};
 ghost use Rattle.report_text.specs.Lines.{exit_line, never_line, letters, region_line, loop_line, sum_words, more_terms, compare_word, fact_line, paired, claim_lines};
 
-use flow_system::{Cert, Claims, FactClaim, LoopClaim, Never, Within};
+use code_flow_system::{Cert, Claims, FactClaim, LoopClaim, Never, Within};
 use frac128::Sum;
 use report_words::{Field, end_line, put_fields, put_line, put_start};
 use wcc_base::{Compare, Memory};

@@ -6,8 +6,8 @@ ghost use Rattle.report_text.specs.Lines.{version_lines, kind_line, head_lines, 
 
 use crate::claim_lines::put_claims;
 use crate::{CopyLine, Report, Share};
-use flow_system::{Cert, Part};
-use path_enum::{Column, Kind};
+use code_flow_system::{Cert, Part};
+use path_answer::{Column, Kind};
 use report_words::{Field, end_line, put_fields, put_line, put_start};
 use std::alloc::Global;
 use wcc_base::Memory;

@@ -1,13 +1,13 @@
 // The top call.
 ghost use Rattle.std.specs.Prelude.{◌≡◌, ◌⊎◌, map, None, string_bytes};
 ghost use Rattle.wcc_base.specs.declared.status.Status.{Status};
-ghost use Rattle.wcc_commands.specs.Words.{asked_by};
-ghost use Rattle.wcc_commands.specs.Ends.{EndsWith};
-ghost use Rattle.wcc_commands.specs.Promises.{IsDone, Answers, CanEnd, NoFault};
+ghost use Rattle.command_perform.specs.Words.{asked_by};
+ghost use Rattle.command_perform.specs.Ends.{EndsWith};
+ghost use Rattle.command_perform.specs.Promises.{IsDone, Answers, CanEnd, NoFault};
 
+use command_perform::perform;
 use std::alloc::Global;
 use wcc_base::{Sink, Status, Store};
-use wcc_commands::perform;
 use wcc_compile::WccCompiler;
 
 /// The program: it does what the words ask, prints how it ended, and says so.
@@ -27,7 +27,7 @@ pub fn wcc<S: Store, O: Sink>(alloc: Global, words: &[String], store: &mut S, ou
     // What can only end in one way ends so, unless a fault is counted or memory runs out: a source
     // without restrictions is compiled, one with a restriction is answered by its form, a report that
     // holds is found to hold, an image that exits within the limits is run, and a report is summed up
-    // (the laws of `wcc_commands`).
+    // (the laws of `command_perform`).
     ensures succeeds { (s : Status) → CanEnd (asked_by (map string_bytes words.now)) (S.state store.old) s
         → NoFault (S.state store.old) (S.state store.new) (O.state out.old) (O.state out.new)
         → (result ≡ s) ⊎ (result ≡ Status.Memory) }

@@ -3,17 +3,17 @@ use Rattle.std.proofs.Common.{◌≡◌, ℕ, ◌++◌, List, length, map, sym, 
 use Rattle.std.specs.List.{range_with_len}
 use Rattle.std.proofs.lemmas.List.{length-map}
 use Rattle.std.proofs.lemmas.List.FromFn.{length-range_with_len}
-use Rattle.c_facts.specs.FlowFacts.{function_name, name_id}
-use Rattle.c_facts.specs.declared.facts.Facts.{Facts}
-use Rattle.c_front.specs.Fronts.{IsSource}
-use Rattle.c_typed.specs.Tree.{Program}
-use Rattle.high_carried.specs.Sources.{source_marks}
-use Rattle.high_checked.proofs.Sources.{checked}
+use Rattle.facts_definitions.specs.FlowFacts.{function_name, name_id}
+use Rattle.facts_definitions.specs.declared.facts.Facts.{Facts}
+use Rattle.facts_front.specs.Fronts.{IsSource}
+use Rattle.types_tree.specs.Tree.{Program}
+use Rattle.plan_carried.specs.Sources.{source_marks}
+use Rattle.plan_checked.proofs.Sources.{checked}
 use Rattle.high_pass.specs.Listing.{mark_entry}
-use Rattle.high_planned.proofs.Facts.{says}
-use Rattle.high_program.specs.Kept.{same_mark}
-use Rattle.source_image.specs.declared.stages.Made.{Made}
-use Rattle.source_image.specs.Made.{IsMade}
+use Rattle.plan_formed.proofs.Facts.{says}
+use Rattle.plan_runs.specs.Kept.{same_mark}
+use Rattle.compile_image.specs.declared.stages.Made.{Made}
+use Rattle.compile_image.specs.Made.{IsMade}
 
 pub as_many : (source : List ℕ) (names : List (List ℕ)) (program : Program) (facts : Facts) (m : Made) → IsSource source names program facts → IsMade names program facts m → length m.copies.marks.items ≡ length (facts.functions ++ facts.markers)
 as_many source names program facts m is made =

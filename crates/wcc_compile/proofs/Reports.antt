@@ -1,12 +1,12 @@
 -- The report that is put together.
 use Rattle.std.proofs.Common.{refl, sym, subst}
 use Rattle.rv_core.specs.Table.{Table}
-use Rattle.flow_system.specs.Certificates.{IsInForm}
-use Rattle.flow_system.specs.Systems.{IsSystemOf}
-use Rattle.c_front.specs.declared.reading.Source.{Source}
+use Rattle.code_flow_system.specs.Certificates.{IsInForm}
+use Rattle.code_flow_system.specs.Systems.{IsSystemOf}
+use Rattle.facts_front.specs.declared.reading.Source.{Source}
 use Rattle.report_text.specs.Forms.{IsReport}
-use Rattle.source_image.specs.declared.stages.Made.{Made}
-use Rattle.made_reports.specs.Laws.{ReportedAreReports}
+use Rattle.compile_image.specs.declared.stages.Made.{Made}
+use Rattle.compile_reports.specs.Laws.{ReportedAreReports}
 use Rattle.wcc_compile.specs.declared.finding.Found.{Found}
 use Rattle.wcc_compile.specs.declared.telling.Told.{Told}
 use Rattle.wcc_compile.specs.Found.{HasBound, IsTold, joined_report}

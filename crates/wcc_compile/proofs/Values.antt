@@ -4,19 +4,19 @@ use Rattle.std.specs.Prelude.{unsigned_abs}
 use Rattle.std.proofs.Math.Nat.{div-lt_iff_lt-mul, lt_of_mul-lt-mul_left, mul-lt-mul_of_pos_left}
 use Rattle.std.proofs.lemmas.Int.{ints}
 use Rattle.rv_core.specs.Table.{Table}
-use Rattle.flow_system.specs.declared.cert.Cert.{Cert}
-use Rattle.flow_system.specs.declared.cert.Mark.{Mark}
-use Rattle.flow_system.specs.declared.cert.Mark.TheVariants.{Greatest, Empty, Neither}
-use Rattle.flow_system.specs.declared.shapes.LoopShape.{LoopShape}
-use Rattle.flow_system.specs.declared.shapes.Span.{Span}
-use Rattle.flow_system.specs.Bounds.{KeepsPromise}
-use Rattle.flow_system.specs.Certificates.{Accepts, FitsMark, IsInForm, KeepsMark, listed, potential, whole_part}
-use Rattle.flow_system.specs.Flows.{value}
-use Rattle.flow_system.specs.Loose.{FlowsAreLoose}
-use Rattle.flow_system.specs.Systems.{System}
+use Rattle.code_flow_system.specs.declared.cert.Cert.{Cert}
+use Rattle.code_flow_system.specs.declared.cert.Mark.{Mark}
+use Rattle.code_flow_system.specs.declared.cert.Mark.TheVariants.{Greatest, Empty, Neither}
+use Rattle.code_flow_system.specs.declared.shapes.LoopShape.{LoopShape}
+use Rattle.code_flow_system.specs.declared.shapes.Span.{Span}
+use Rattle.code_flow_system.specs.Bounds.{KeepsPromise}
+use Rattle.code_flow_system.specs.Certificates.{Accepts, FitsMark, IsInForm, KeepsMark, listed, potential, whole_part}
+use Rattle.code_flow_system.specs.Flows.{value}
+use Rattle.code_flow_system.specs.Loose.{FlowsAreLoose}
+use Rattle.code_flow_system.specs.Systems.{System}
 use Rattle.path_bound.proofs.BoundLemmas.{goes_back}
-use Rattle.path_enum.specs.declared.bounded.Kind.{Kind}
-use Rattle.path_enum.specs.declared.bounded.Kind.TheVariants as kinds
+use Rattle.path_answer.specs.declared.bounded.Kind.{Kind}
+use Rattle.path_answer.specs.declared.bounded.Kind.TheVariants as kinds
 use Rattle.path_search.specs.Conditions.{CanBound}
 use Rattle.path_search.specs.Kinds.{IsMarked}
 

@@ -1,16 +1,16 @@
 -- What a report is put together from.
 use Rattle.std.specs.Prelude.{◌≡◌, ◌≤◌, ◌^◌, [], ◌++◌, map}
 use Rattle.rv_core.specs.Table.{Table}
-use Rattle.flow_system.specs.Certificates.{Accepts, IsInForm}
-use Rattle.flow_system.specs.Systems.{System, IsSystemOf}
-use Rattle.c_front.specs.declared.reading.Source.{Source}
+use Rattle.code_flow_system.specs.Certificates.{Accepts, IsInForm}
+use Rattle.code_flow_system.specs.Systems.{System, IsSystemOf}
+use Rattle.facts_front.specs.declared.reading.Source.{Source}
 use Rattle.high_pass.specs.Listing.{listing_of}
 use Rattle.path_search.specs.Kinds.{IsMarked}
-use Rattle.report_making.specs.CopyLines.{AreLinesOf}
+use Rattle.compile_lines.specs.CopyLines.{AreLinesOf}
 use Rattle.report_shares.specs.Shares.{with_sum}
 use Rattle.report_text.specs.Reports.{Report, report_of}
-use Rattle.source_image.specs.declared.stages.Made.{Made}
-use Rattle.made_reports.specs.Reported.{AreShared}
+use Rattle.compile_image.specs.declared.stages.Made.{Made}
+use Rattle.compile_reports.specs.Reported.{AreShared}
 use Rattle.wcc_compile.specs.declared.finding.Found.{Found}
 use Rattle.wcc_compile.specs.declared.telling.Told.{Told}
 use Rattle.wcc_compile.specs.Sources.{claims_of, names_of, ranges_of}

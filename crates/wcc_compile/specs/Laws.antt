@@ -6,13 +6,13 @@ use Rattle.elf_image.specs.Text.{text_of}
 use Rattle.report_laws.specs.Typed.{IsTyped}
 use Rattle.report_text.specs.Lines.{report_text}
 use Rattle.report_text.specs.Reports.{Report}
-use Rattle.source_report.specs.Compiled.{IsCompiled}
-use Rattle.c_facts.specs.declared.facts.Facts.{Facts}
-use Rattle.c_front.specs.Fronts.{IsSource}
-use Rattle.c_typed.specs.Tree.{Program}
-use Rattle.source_image.specs.declared.stages.Made.{Made}
-use Rattle.source_image.specs.Made.{IsMade}
-use Rattle.made_reports.specs.Reported.{IsReported}
+use Rattle.promise_report.specs.Compiled.{IsCompiled}
+use Rattle.facts_definitions.specs.declared.facts.Facts.{Facts}
+use Rattle.facts_front.specs.Fronts.{IsSource}
+use Rattle.types_tree.specs.Tree.{Program}
+use Rattle.compile_image.specs.declared.stages.Made.{Made}
+use Rattle.compile_image.specs.Made.{IsMade}
+use Rattle.compile_reports.specs.Reported.{IsReported}
 
 -- the text of an image loads as that image
 pub record LoadsAsItself (m : Made) : Type 0 where

@@ -1,19 +1,19 @@
 -- A source that was read, and what was made of it.
 use Rattle.std.specs.Prelude.{ℕ, List, map}
 use Rattle.rv_core.specs.Table.{Table}
-use Rattle.flow_system.specs.Claims.{Claims}
-use Rattle.c_front.specs.declared.reading.Source.{Source}
-use Rattle.c_front.specs.Fronts.{IsSource}
-use Rattle.c_typed.specs.Tree.{Program}
-use Rattle.c_typed.specs.View.{program_of}
+use Rattle.code_flow_system.specs.Claims.{Claims}
+use Rattle.facts_front.specs.declared.reading.Source.{Source}
+use Rattle.facts_front.specs.Fronts.{IsSource}
+use Rattle.types_tree.specs.Tree.{Program}
+use Rattle.types_tree.specs.View.{program_of}
 use Rattle.high_pass.specs.Listing.{listing_of}
-use Rattle.report_making.specs.Shares.{share_of}
+use Rattle.compile_lines.specs.Shares.{share_of}
 use Rattle.report_text.specs.declared.entries.Share.{Share}
 use Rattle.report_text.specs.Reports.{Report}
-use Rattle.source_claims.specs.Named.{named}
-use Rattle.source_image.specs.declared.stages.Made.{Made}
-use Rattle.source_image.specs.Made.{IsMade}
-use Rattle.made_reports.specs.Reported.{IsReported}
+use Rattle.compile_claims.specs.Named.{named}
+use Rattle.compile_image.specs.declared.stages.Made.{Made}
+use Rattle.compile_image.specs.Made.{IsMade}
+use Rattle.compile_reports.specs.Reported.{IsReported}
 
 abbrev pub names_of : Source → List (List ℕ)
 names_of s = s.typed.program.names.items

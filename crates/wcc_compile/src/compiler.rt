@@ -1,7 +1,7 @@
 // The compiler, as the commands ask for it.
 
 use crate::compiling::compile;
-use source_compiler::{Built, Compiler, Options, Refusal};
+use promise_compiler::{Built, Compiler, Options, Refusal};
 use std::alloc::Global;
 
 /// The compiler that [`compile`] is.

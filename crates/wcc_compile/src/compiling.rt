@@ -3,19 +3,19 @@ ghost use Rattle.std.specs.Prelude.{◌≡◌, ◌≤◌, ◌^◌, ℕ, List, []
 ghost use Rattle.elf_image.specs.Text.{text_of};
 ghost use Rattle.report_text.specs.Lines.{report_text};
 ghost use Rattle.rv_core.specs.Table.{table_of};
-ghost use Rattle.source_report.specs.Compiled.{IsCompiled};
-ghost use Rattle.source_compiler.specs.Refusals.{Fails, IsRestricted};
+ghost use Rattle.promise_report.specs.Compiled.{IsCompiled};
+ghost use Rattle.promise_compiler.specs.Refusals.{Fails, IsRestricted};
 ghost use Rattle.wcc_compile.specs.Sources.{IsOf};
 
 use crate::laws::reported_are_compiled;
 use crate::reporting::reported;
-use c_front::Source;
+use compile_image::{Made, build, read};
 use elf_image::read_of_write;
-use low_lay::Laid;
+use facts_front::Source;
+use facts_laws::one_source;
+use low_layout::Laid;
+use promise_compiler::{Built, Options, Refusal};
 use rv_core::{Costs, Image};
-use source_compiler::{Built, Options, Refusal};
-use source_image::{Made, build, read};
-use source_laws::one_source;
 use std::alloc::Global;
 use wcc_base::Memory;
 

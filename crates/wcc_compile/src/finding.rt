@@ -1,28 +1,28 @@
 // The bound of the image of a source, and its shares.
 ghost use Rattle.std.specs.Prelude.{◌≡◌, ◌≤◌, ◌^◌, pos, ◌<ℤ◌, [], map, IfOk};
-ghost use Rattle.flow_system.specs.declared.cert.Mark.TheVariants as marks;
-ghost use Rattle.flow_system.specs.Certificates.{Accepts, IsInForm, listed};
-ghost use Rattle.flow_system.specs.Flows.{value};
-ghost use Rattle.flow_system.specs.Systems.{IsSystemOf};
+ghost use Rattle.code_flow_system.specs.declared.cert.Mark.TheVariants as marks;
+ghost use Rattle.code_flow_system.specs.Certificates.{Accepts, IsInForm, listed};
+ghost use Rattle.code_flow_system.specs.Flows.{value};
+ghost use Rattle.code_flow_system.specs.Systems.{IsSystemOf};
 ghost use Rattle.path_search.specs.Kinds.{IsMarked};
 ghost use Rattle.report_shares.specs.Shares.{with_sum};
 ghost use Rattle.rv_core.specs.Table.{table_of};
-ghost use Rattle.made_reports.specs.Reported.{AreShared};
+ghost use Rattle.compile_reports.specs.Reported.{AreShared};
 ghost use Rattle.wcc_compile.specs.Sources.{IsMadeOf, claims_of, ranges_of};
 ghost use Rattle.wcc_compile.specs.Found.{HasBound, IsBound};
 
-use c_front::Source;
 use code_flow::{CodeFault, system};
-use flow_system::{Claims, System, flows_are_loose, weak_duality};
-use made_bounds::{made_can_be_bounded, made_have_systems};
-use path_enum::{Bounded, Kind};
+use code_flow_system::{Claims, System, flows_are_loose, weak_duality};
+use compile_bounds::{made_can_be_bounded, made_have_systems};
+use compile_image::Made;
+use compile_lines::shares_of;
+use facts_front::Source;
+use path_answer::{Bounded, Kind};
 use path_places::systems_are_reached;
 use path_search::bound;
-use report_making::shares_of;
 use report_shares::fill_shares;
 use report_text::Share;
 use rv_core::Costs;
-use source_image::Made;
 use std::alloc::Global;
 use wcc_base::Memory;
 

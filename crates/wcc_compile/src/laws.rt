@@ -1,9 +1,9 @@
 // What is reported is what is promised.
 ghost use Rattle.wcc_compile.specs.Laws.{ReportedAreCompiled};
 
-use made_reports::reported_hold;
-use made_runs::reported_run_as_sources;
-use made_told::{made_are_unplaced, reported_are_lined, reported_tell_facts};
+use compile_reports::reported_hold;
+use compile_runs::reported_run_as_sources;
+use compile_told::{made_are_unplaced, reported_are_lined, reported_tell_facts};
 
 /// The image of a source without restrictions and what is reported of it are what `compile` promises.
 pub fn reported_are_compiled()

@@ -3,7 +3,7 @@
 //! [`compile`] is the list of its stages: the source, its image, the claims by the loops of the source, the flow system, its
 //! bound, the report.
 //!
-//! Proved: what [`compile`] answers is what `source_report` promises (`IsCompiled`): on every input on which the run of the
+//! Proved: what [`compile`] answers is what `promise_report` promises (`IsCompiled`): on every input on which the run of the
 //! source is defined and keeps its annotations the image prints and returns what the source does, within the cycles of the
 //! report; the report tells the facts of the source, and the checker accepts it with the image. `Form` is answered exactly
 //! where the source has a restriction, and `Front` with the cause for which it has no program with facts; memory alone is

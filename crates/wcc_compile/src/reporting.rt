@@ -8,13 +8,13 @@ ghost use Rattle.wcc_compile.specs.Sources.{IsMadeOf, IsReportOn};
 
 use crate::finding::{Found, find};
 use crate::telling::{Told, tell};
-use c_front::Source;
-use made_reports::reported_are_reports;
-use path_enum::Bounded;
+use compile_image::Made;
+use compile_reports::reported_are_reports;
+use facts_front::Source;
+use path_answer::Bounded;
 use report_laws::is_typed;
 use report_text::Report;
 use rv_core::Costs;
-use source_image::Made;
 use std::alloc::Global;
 use wcc_base::{Items, Memory};
 

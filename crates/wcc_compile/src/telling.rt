@@ -1,17 +1,17 @@
 // What a report tells of the image of a source.
 ghost use Rattle.std.specs.Prelude.{◌≡◌, ◌++◌, IfOk};
 ghost use Rattle.high_pass.specs.Listing.{listing_of};
-ghost use Rattle.report_making.specs.CopyLines.{AreLinesOf};
+ghost use Rattle.compile_lines.specs.CopyLines.{AreLinesOf};
 ghost use Rattle.wcc_compile.specs.Sources.{IsMadeOf, claims_of, names_of};
 ghost use Rattle.wcc_compile.specs.Found.{IsTold};
 
-use c_front::Source;
-use flow_system::Claims;
-use made_bounds::made_can_be_named;
-use report_making::copy_lines;
+use code_flow_system::Claims;
+use compile_bounds::made_can_be_named;
+use compile_claims::by_source;
+use compile_image::Made;
+use compile_lines::copy_lines;
+use facts_front::Source;
 use report_text::CopyLine;
-use source_claims::by_source;
-use source_image::Made;
 use std::alloc::Global;
 use wcc_base::Memory;
 

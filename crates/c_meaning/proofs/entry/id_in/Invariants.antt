@@ -1,5 +1,5 @@
 use Rattle.std.proofs.Common.{◌≡◌, ◌+◌, drop}
-use Rattle.c_facts.specs.FlowFacts.{id_in}
+use Rattle.facts_definitions.specs.FlowFacts.{id_in}
 use Rattle.c_meaning.proofs.entry.id_in.Given as goal
 
 abbrev pub invariant-loop-index : goal.invariant-loop-index

@@ -1,6 +1,6 @@
 use Rattle.std.proofs.Common.{◌≡◌, ◌+◌, drop, map}
-use Rattle.c_facts.specs.FlowFacts.{function_name, index_of}
-use Rattle.c_typed.specs.View.{function_of}
+use Rattle.facts_definitions.specs.FlowFacts.{function_name, index_of}
+use Rattle.types_tree.specs.View.{function_of}
 use Rattle.c_meaning.proofs.entry.index_of.Given as goal
 
 abbrev pub invariant-loop-index : goal.invariant-loop-index

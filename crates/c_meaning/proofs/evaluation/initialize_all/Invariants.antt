@@ -1,6 +1,6 @@
 use Rattle.std.proofs.Common.{◌≡◌, drop, map}
-use Rattle.c_typed.specs.View.{external_of}
-use Rattle.c_semantics.specs.Runs.{initialised_all}
+use Rattle.types_tree.specs.View.{external_of}
+use Rattle.meaning_semantics.specs.Runs.{initialised_all}
 use Rattle.c_meaning.specs.Scopes.{calls_of, source_of}
 use Rattle.c_meaning.proofs.evaluation.initialize_all.Given as goal
 

@@ -1,6 +1,6 @@
 use Rattle.std.proofs.Common.{◌≡◌, drop, map}
-use Rattle.c_typed.specs.View.{object_of}
-use Rattle.c_semantics.specs.Statements.{unwritten_all}
+use Rattle.types_tree.specs.View.{object_of}
+use Rattle.meaning_semantics.specs.Statements.{unwritten_all}
 use Rattle.c_meaning.proofs.parts.forget_objects.Given as goal
 
 abbrev pub invariant-loop-object : goal.invariant-loop-object

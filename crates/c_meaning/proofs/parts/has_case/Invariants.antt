@@ -1,6 +1,6 @@
 use Rattle.std.proofs.Common.{◌≡◌, drop}
-use Rattle.c_typed.specs.View.{items_of}
-use Rattle.c_semantics.specs.Statements.{has_case}
+use Rattle.types_tree.specs.View.{items_of}
+use Rattle.meaning_semantics.specs.Statements.{has_case}
 use Rattle.c_meaning.proofs.parts.has_case.Given as goal
 
 abbrev pub invariant-loop-item : goal.invariant-loop-item

@@ -1,5 +1,5 @@
 use Rattle.std.proofs.Common.{◌≡◌, drop}
-use Rattle.c_semantics.specs.Runs.{first_violated}
+use Rattle.meaning_semantics.specs.Runs.{first_violated}
 use Rattle.c_meaning.proofs.restrictions.first_violated.Given as goal
 
 abbrev pub invariant-loop-restriction : goal.invariant-loop-restriction

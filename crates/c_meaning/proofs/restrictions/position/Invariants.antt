@@ -1,5 +1,5 @@
 use Rattle.std.proofs.Common.{◌≡◌, ◌+◌, drop, map}
-use Rattle.c_facts.specs.FlowFacts.{index_of}
+use Rattle.facts_definitions.specs.FlowFacts.{index_of}
 use Rattle.c_meaning.proofs.restrictions.position.Given as goal
 
 abbrev pub invariant-loop-index : goal.invariant-loop-index

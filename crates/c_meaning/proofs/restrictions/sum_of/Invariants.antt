@@ -1,5 +1,5 @@
 use Rattle.std.proofs.Common.{◌≡◌, ◌+◌, drop}
-use Rattle.c_semantics.specs.Runs.{sum_of}
+use Rattle.meaning_semantics.specs.Runs.{sum_of}
 use Rattle.c_meaning.proofs.restrictions.sum_of.Given as goal
 
 abbrev pub invariant-loop-term : goal.invariant-loop-term

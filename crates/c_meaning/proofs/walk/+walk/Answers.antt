@@ -1,9 +1,9 @@
 use Rattle.std.proofs.Common.{◌≡◌, ◌+◌, ◌-◌, IfOk, Some, ap, arith, map, subst, suc, sym, ◌∙◌}
 use Rattle.std.specs.Prelude.{slice_get}
-use Rattle.c_typed.specs.View.{function_of, items_of, statement_of}
-use Rattle.c_semantics.specs.Runs.{calls, given_back}
-use Rattle.c_semantics.specs.State.{Fine, bound, outcome_of, then_do}
-use Rattle.c_semantics.specs.Statements.{again, again_or, entered, has_case, loop_of, out_of_switch, run_from, run_items, turns}
+use Rattle.types_tree.specs.View.{function_of, items_of, statement_of}
+use Rattle.meaning_semantics.specs.Runs.{calls, given_back}
+use Rattle.meaning_semantics.specs.State.{Fine, bound, outcome_of, then_do}
+use Rattle.meaning_semantics.specs.Statements.{again, again_or, entered, has_case, loop_of, out_of_switch, run_from, run_items, turns}
 use Rattle.c_meaning.specs.Scopes.{calls_of, source_of}
 use Rattle.c_meaning.proofs.Calling.{call_is, do_run, for_run, function_there, turns_go, while_run}
 use Rattle.c_meaning.proofs.Room.{block_size, call_size, expr_within, item_within, items_behind, items_size, object_within, switch_size}

@@ -1,7 +1,7 @@
 use Rattle.std.proofs.Common.{◌≡◌, ◌+◌, ◌-◌, ◌*◌, drop, map}
-use Rattle.c_facts.specs.Most.{bounds_at}
-use Rattle.c_typed.specs.View.{declaration_of, expr_of, exprs_of, initial_of, items_of, object_of, place_of, start_of, statement_of}
-use Rattle.c_semantics.specs.Statements.{all_declared, listed, loop_of, looped, turns}
+use Rattle.facts_definitions.specs.Most.{bounds_at}
+use Rattle.types_tree.specs.View.{declaration_of, expr_of, exprs_of, initial_of, items_of, object_of, place_of, start_of, statement_of}
+use Rattle.meaning_semantics.specs.Statements.{all_declared, listed, loop_of, looped, turns}
 use Rattle.c_meaning.specs.Scopes.{calls_of, run_from_in, run_items_in, source_of, values_in}
 use Rattle.c_meaning.proofs.Behind.{behind}
 use Rattle.c_meaning.proofs.Room.{declaration_size, expr_size, exprs_size, initial_size, item_size, items_size, objects_size, place_size, room, start_size, statement_size}

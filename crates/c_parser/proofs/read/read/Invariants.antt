@@ -1,9 +1,9 @@
 use Rattle.std.proofs.Common.{◌≡◌, ◌≤◌, ◌++◌, length, map}
-use Rattle.c_begun.specs.Depths.{state_depth}
-use Rattle.c_begun.specs.View.{Names, state_of}
-use Rattle.c_grammar.specs.Law.{run}
-use Rattle.c_grammar.specs.Machine.{Goes}
-use Rattle.c_lexeme.specs.Lexemes.{word_said}
+use Rattle.parse_begun.specs.Depths.{state_depth}
+use Rattle.parse_begun.specs.View.{Names, state_of}
+use Rattle.parse_grammar.specs.Law.{run}
+use Rattle.parse_grammar.specs.Machine.{Goes}
+use Rattle.parse_lexeme.specs.Lexemes.{word_said}
 use Rattle.c_parser.proofs.read.read.Given as goal
 
 abbrev pub invariant-loop-word : goal.invariant-loop-word

@@ -6,10 +6,10 @@ use Rattle.c_tree.specs.Spelling.{spoken}
 use Rattle.c_tree.specs.Units.{named_tree_of}
 use Rattle.c_tree.specs.View.{external_of, row_of}
 use Rattle.c_tree.specs.Tree.{Nothing}
-use Rattle.c_begun.specs.View.{state_of}
-use Rattle.c_begun.proofs.SameDepths.{state_same}
-use Rattle.c_grammar.specs.Depth.{deep}
-use Rattle.c_grammar.specs.Machine.{Goes}
+use Rattle.parse_begun.specs.View.{state_of}
+use Rattle.parse_begun.proofs.SameDepths.{state_same}
+use Rattle.parse_grammar.specs.Depth.{deep}
+use Rattle.parse_grammar.specs.Machine.{Goes}
 use Rattle.c_parser.proofs.Finishing.{IsMade, at_end, count_of, each_fault, each_unit, empty_of, formed_of, led_listed, led_named, made_of, shallow_of, small_of, spelled_of}
 use Rattle.c_parser.proofs.Listing.{in_order}
 use Rattle.c_parser.specs.Refused.{IsTreeOf, Stops}

@@ -1,7 +1,7 @@
 use Rattle.std.proofs.Common.{ap, sym, ◌∙◌, ◌||◌, ◌+◌, drop, arith}
 use Rattle.std.proofs.lemmas.List.{drop_all}
 use Rattle.c_tree.specs.Tree.{Nothing}
-use Rattle.check_expression.proofs.Arguments.{drop_item}
+use Rattle.types_expression.proofs.Arguments.{drop_item}
 use Rattle.c_types.proofs.Functions.{has_main-row, main_among}
 use Rattle.c_types.proofs.checker.has_main.Goals as goal
 

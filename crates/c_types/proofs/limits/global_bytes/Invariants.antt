@@ -1,5 +1,5 @@
 use Rattle.std.proofs.Common.{◌≡◌, ◌+◌, drop}
-use Rattle.c_rules.specs.Limits.{global_bytes}
+use Rattle.types_rules.specs.Limits.{global_bytes}
 use Rattle.c_types.proofs.limits.global_bytes.Given as goal
 
 abbrev pub invariant-loop-v : goal.invariant-loop-v

@@ -1,5 +1,5 @@
 use Rattle.std.proofs.Common.{◌≡◌, ◌+◌, drop}
-use Rattle.c_rules.specs.Sights.{number_of}
+use Rattle.types_rules.specs.Sights.{number_of}
 use Rattle.c_types.proofs.outline.number_of.Given as goal
 
 abbrev pub invariant-loop-i : goal.invariant-loop-i

@@ -1,7 +1,7 @@
 use Rattle.std.proofs.Common.{◌≡◌, refl, ap, ◌∙◌}
 use Rattle.c_tree.specs.Tree.{Nothing}
 use Rattle.c_tree.specs.Units.{tree_of}
-use Rattle.c_rules.specs.Sights.{outline_of}
+use Rattle.types_rules.specs.Sights.{outline_of}
 use Rattle.c_types.specs.Outline.{outline_from}
 use Rattle.c_types.proofs.Outlines.{outline_from-row, outlined}
 use Rattle.c_tree.specs.View.{external_of, row_of}

@@ -3,7 +3,7 @@ use Rattle.std.proofs.lemmas.List.{drop_all}
 use Rattle.c_tree.specs.Tree.{NoItem}
 use Rattle.c_tree.specs.View.{items_of, statement_of}
 use Rattle.c_tree.proofs.Rows.{block_view, switch_view}
-use Rattle.c_rules.specs.Limits.{Tally, tally_items, tally_statement}
+use Rattle.types_rules.specs.Limits.{Tally, tally_items, tally_statement}
 use Rattle.c_types.specs.Tally.{tally_item, tally_said}
 use Rattle.c_types.proofs.Tallies.{tally_each, tally_items-each}
 use Rattle.c_types.proofs.tally.+statements.Goals as goal

@@ -1,5 +1,5 @@
 use Rattle.std.proofs.Common.{◌≡◌, drop}
-use Rattle.c_rules.specs.Limits.{nothing_counted}
+use Rattle.types_rules.specs.Limits.{nothing_counted}
 use Rattle.c_types.specs.Tally.{tally_item, tally_said}
 use Rattle.c_types.proofs.Tallies.{tally_each}
 use Rattle.c_types.proofs.tally.+statements.Given as goal

@@ -1,9 +1,9 @@
 use Rattle.std.proofs.Common.{◌<◌, ◌≤◌, length, ap, sym, ◌∷◌, [], map, arith}
 use Rattle.std.proofs.lemmas.List.{map-append}
 use Rattle.c_tree.specs.View.{external_of as source_external}
-use Rattle.c_typed.specs.View.{external_of, function_of}
-use Rattle.c_rules.specs.Typing.{and_external, typed_function}
-use Rattle.check_declaration.proofs.Rows.{all_after, all_faults, all_made, made_more, one_more}
+use Rattle.types_tree.specs.View.{external_of, function_of}
+use Rattle.types_rules.specs.Typing.{and_external, typed_function}
+use Rattle.types_declaration.proofs.Rows.{all_after, all_faults, all_made, made_more, one_more}
 use Rattle.c_types.proofs.Functions.{externals_walk, typed_function-before}
 use Rattle.c_types.proofs.unit.check_externals.Goals as goal
 

@@ -1,7 +1,7 @@
 use Rattle.std.proofs.Common.{map}
-use Rattle.c_typed.specs.View.{external_of, function_of}
-use Rattle.c_rules.specs.Typing.{and_external, typed_function}
-use Rattle.check_declaration.proofs.Rows.{Made, SoFar}
+use Rattle.types_tree.specs.View.{external_of, function_of}
+use Rattle.types_rules.specs.Typing.{and_external, typed_function}
+use Rattle.types_declaration.proofs.Rows.{Made, SoFar}
 use Rattle.c_types.proofs.Functions.{externals_walk}
 use Rattle.c_types.proofs.unit.check_externals.Given as goal
 

@@ -4,13 +4,13 @@ use Rattle.c_tree.specs.View.{items_of as source_items, param_of as source_param
 use Rattle.c_tree.specs.declared.declaration.Param as params
 use Rattle.c_tree.specs.declared.expression.Specifier.{Specifier}
 use Rattle.c_tree.specs.declared.statement.Item as items
-use Rattle.c_rules.specs.DeclarationRules.{after_list, function_rule, routine, within_function}
-use Rattle.c_rules.specs.Scope.{Around, entered, with_definition, with_routine}
-use Rattle.c_rules.specs.Specifiers.{kind_spelled}
-use Rattle.c_rules.specs.StatementRules.{Within, in_function}
-use Rattle.c_rules.specs.Typing.{typed_params}
-use Rattle.check_statement.specs.Checked.{AreTyped}
-use Rattle.check_statement.specs.Within.{within_said}
+use Rattle.types_rules.specs.DeclarationRules.{after_list, function_rule, routine, within_function}
+use Rattle.types_rules.specs.Scope.{Around, entered, with_definition, with_routine}
+use Rattle.types_rules.specs.Specifiers.{kind_spelled}
+use Rattle.types_rules.specs.StatementRules.{Within, in_function}
+use Rattle.types_rules.specs.Typing.{typed_params}
+use Rattle.types_statement.specs.Checked.{AreTyped}
+use Rattle.types_statement.specs.Within.{within_said}
 use Rattle.c_types.specs.Unit.{definition_fault}
 use Rattle.c_types.proofs.Definitions.{function_is}
 use Rattle.c_types.proofs.unit.check_function.Goals as goal

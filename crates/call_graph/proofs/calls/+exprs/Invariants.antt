@@ -1,6 +1,6 @@
 use Rattle.std.proofs.Common.{◌≡◌, ◌++◌, drop}
-use Rattle.c_facts.specs.Calls.{exprs_calls}
-use Rattle.c_typed.specs.View.{exprs_of}
+use Rattle.facts_definitions.specs.Calls.{exprs_calls}
+use Rattle.types_tree.specs.View.{exprs_of}
 use Rattle.call_graph.proofs.calls.+exprs.Given as goal
 
 abbrev pub invariant-add_exprs-loop-expr : goal.invariant-add_exprs-loop-expr

@@ -1,6 +1,6 @@
 use Rattle.std.proofs.Common.{◌≡◌, ◌++◌, drop}
-use Rattle.c_facts.specs.Calls.{items_calls}
-use Rattle.c_typed.specs.View.{items_of}
+use Rattle.facts_definitions.specs.Calls.{items_calls}
+use Rattle.types_tree.specs.View.{items_of}
 use Rattle.call_graph.proofs.calls.+statements.Given as goal
 
 abbrev pub invariant-add_items-loop-item : goal.invariant-add_items-loop-item

@@ -1,6 +1,6 @@
 use Rattle.std.proofs.Common.{◌≡◌, ◌++◌, drop, map}
-use Rattle.c_facts.specs.Calls.{objects_calls}
-use Rattle.c_typed.specs.View.{object_of}
+use Rattle.facts_definitions.specs.Calls.{objects_calls}
+use Rattle.types_tree.specs.View.{object_of}
 use Rattle.call_graph.proofs.calls.add_objects.Given as goal
 
 abbrev pub invariant-loop-object : goal.invariant-loop-object

@@ -1,6 +1,6 @@
 use Rattle.std.proofs.Common.{◌≡◌, ◌++◌, drop, map}
-use Rattle.c_facts.specs.Calls.{params_calls}
-use Rattle.c_typed.specs.View.{param_of}
+use Rattle.facts_definitions.specs.Calls.{params_calls}
+use Rattle.types_tree.specs.View.{param_of}
 use Rattle.call_graph.proofs.calls.add_params.Given as goal
 
 abbrev pub invariant-loop-param : goal.invariant-loop-param

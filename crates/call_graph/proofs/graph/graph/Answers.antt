@@ -1,5 +1,5 @@
 use Rattle.std.proofs.Common.{refl, sym, subst}
-use Rattle.c_typed.specs.View.{program_of}
+use Rattle.types_tree.specs.View.{program_of}
 use Rattle.call_graph.specs.Search.{IsInRange}
 use Rattle.call_graph.proofs.Graphs.{graph_range, graph_whole}
 use Rattle.call_graph.proofs.graph.graph.Goals as goal

@@ -1,5 +1,5 @@
 use Rattle.std.proofs.Common.{[], ap, ◌∙◌}
-use Rattle.flow_system.specs.Moves.{code_by}
+use Rattle.code_flow_system.specs.Moves.{code_by}
 use Rattle.code_flow.specs.Faults.{lesser}
 use Rattle.code_flow.proofs.CrossLemmas.{crossing-back}
 use Rattle.code_flow.proofs.faults.crossing.Goals as goal

@@ -1,5 +1,5 @@
 use Rattle.std.proofs.Common.{◌≡◌, drop}
-use Rattle.flow_system.specs.Moves.{code_by}
+use Rattle.code_flow_system.specs.Moves.{code_by}
 use Rattle.code_flow.specs.Faults.{first_from, false_exits}
 use Rattle.code_flow.proofs.faults.false_exit.Given as goal
 

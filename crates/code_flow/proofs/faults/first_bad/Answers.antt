@@ -1,6 +1,6 @@
 use Rattle.std.proofs.Common.{◌<◌, ◌^◌, arith, ap, sym, ◌∙◌}
-use Rattle.flow_system.specs.Claims.{flaws}
-use Rattle.flow_system.specs.Moves.{code_by, code_of}
+use Rattle.code_flow_system.specs.Claims.{flaws}
+use Rattle.code_flow_system.specs.Moves.{code_by, code_of}
 use Rattle.code_flow.specs.Faults.{lesser, first_from, false_exits}
 use Rattle.code_flow.proofs.ListLemmas.{if_some}
 use Rattle.code_flow.proofs.SystemLemmas.{first_bad-below}

@@ -1,5 +1,5 @@
 use Rattle.std.proofs.Common.{◌≡◌, drop}
-use Rattle.flow_system.specs.Moves.{code_by}
+use Rattle.code_flow_system.specs.Moves.{code_by}
 use Rattle.code_flow.specs.Faults.{first_stray}
 use Rattle.code_flow.proofs.faults.first_stray.Given as goal
 

@@ -1,5 +1,5 @@
 use Rattle.std.proofs.Common.{ap, subst, ◌∙◌}
-use Rattle.flow_system.specs.Claims.{is_listed}
+use Rattle.code_flow_system.specs.Claims.{is_listed}
 use Rattle.code_flow.specs.Walks.{IsReach}
 use Rattle.code_flow.proofs.SystemLemmas.{code_same}
 use Rattle.code_flow.proofs.finding.system.Goals as goal

@@ -1,6 +1,6 @@
 use Rattle.std.proofs.Common.{ap, sym, subst, ◌∙◌}
-use Rattle.flow_system.specs.Moves.{code_by}
-use Rattle.flow_system.specs.Systems.{IsSystemOf, IsBad}
+use Rattle.code_flow_system.specs.Moves.{code_by}
+use Rattle.code_flow_system.specs.Systems.{IsSystemOf, IsBad}
 use Rattle.code_flow.specs.Faults.{IsLeastOf, collected, least_no_code}
 use Rattle.code_flow.proofs.ListLemmas.{if_ok}
 use Rattle.code_flow.proofs.SystemLemmas.{first_bad_is, Passed, first_no_code, system_valid, system_right}

@@ -1,5 +1,5 @@
 use Rattle.std.proofs.Common.{◌≡◌, drop}
-use Rattle.flow_system.specs.Claims.{are_aligned}
+use Rattle.code_flow_system.specs.Claims.{are_aligned}
 use Rattle.code_flow.proofs.flaws.are_aligned.Given as goal
 
 abbrev pub invariant-loop-i : goal.invariant-loop-i

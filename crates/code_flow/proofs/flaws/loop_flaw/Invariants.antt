@@ -1,5 +1,5 @@
 use Rattle.std.proofs.Common.{◌≡◌, ◌+◌, drop, None}
-use Rattle.flow_system.specs.Claims.{loop_flaws}
+use Rattle.code_flow_system.specs.Claims.{loop_flaws}
 use Rattle.code_flow.specs.Faults.{first_from}
 use Rattle.code_flow.proofs.flaws.loop_flaw.Given as goal
 

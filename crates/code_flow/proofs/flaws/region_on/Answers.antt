@@ -1,5 +1,5 @@
 use Rattle.std.proofs.Common.{◌+◌, ◌++◌, ap, ◌∙◌, arith, length, None}
-use Rattle.flow_system.specs.Claims.{region_flaws, loop_flaws, fact_flaws}
+use Rattle.code_flow_system.specs.Claims.{region_flaws, loop_flaws, fact_flaws}
 use Rattle.code_flow.specs.Faults.{first_from}
 use Rattle.code_flow.proofs.FlawLemmas.{first_from-here, first_from-later, length-region_flaws}
 use Rattle.code_flow.proofs.flaws.region_on.Goals as goal

@@ -1,5 +1,5 @@
 use Rattle.std.proofs.Common.{◌≡◌, ◌∷◌, [], length, vec_len, subst, refl, rules}
-use Rattle.flow_system.specs.Moves.{code_by}
+use Rattle.code_flow_system.specs.Moves.{code_by}
 use Rattle.code_flow.specs.Walks.{targets, Sees}
 use Rattle.code_flow.proofs.PlaceLemmas.{stands_at_places}
 use Rattle.code_flow.proofs.WalkLemmas.{started, turn, explored_by}

@@ -1,4 +1,4 @@
-use Rattle.flow_system.specs.Moves.{code_by}
+use Rattle.code_flow_system.specs.Moves.{code_by}
 use Rattle.code_flow.specs.Walks.{left}
 use Rattle.code_flow.proofs.WalkLemmas.{Walks}
 use Rattle.code_flow.proofs.walk.explore.Given as goal

@@ -1,5 +1,5 @@
 use Rattle.std.proofs.Common.{refl}
-use Rattle.flow_system.specs.Moves.{code_by}
+use Rattle.code_flow_system.specs.Moves.{code_by}
 use Rattle.code_flow.proofs.WalkLemmas.{reach-sorted}
 use Rattle.code_flow.proofs.walk.reach.Goals as goal
 

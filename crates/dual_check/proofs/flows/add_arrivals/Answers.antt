@@ -1,8 +1,8 @@
 use Rattle.std.proofs.Common.{arith, neg_ℤ, FitsSigned}
 use Rattle.std.specs.Int.{w128}
 use Rattle.std.proofs.lemmas.Int.{ints, to_z-of_z}
-use Rattle.flow_system.specs.Certificates.{listed}
-use Rattle.flow_system.specs.Lookups.{amount_at}
+use Rattle.code_flow_system.specs.Certificates.{listed}
+use Rattle.code_flow_system.specs.Lookups.{amount_at}
 use Rattle.dual_check.proofs.SumLemmas.{added}
 use Rattle.dual_check.proofs.flows.add_arrivals.Goals as goal
 

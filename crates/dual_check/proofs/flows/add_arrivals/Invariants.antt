@@ -1,6 +1,6 @@
 use Rattle.std.proofs.Common.{neg_ℤ}
-use Rattle.flow_system.specs.Lookups.{amount_at}
-use Rattle.flow_system.specs.Certificates.{listed}
+use Rattle.code_flow_system.specs.Lookups.{amount_at}
+use Rattle.code_flow_system.specs.Certificates.{listed}
 use Rattle.dual_check.proofs.SumLemmas.{Adds}
 use Rattle.dual_check.proofs.flows.add_arrivals.Given as goal
 

@@ -1,5 +1,5 @@
-use Rattle.flow_system.specs.Counts.{amount}
-use Rattle.flow_system.specs.Certificates.{listed}
+use Rattle.code_flow_system.specs.Counts.{amount}
+use Rattle.code_flow_system.specs.Certificates.{listed}
 use Rattle.dual_check.proofs.SumLemmas.{Adds}
 use Rattle.dual_check.proofs.flows.add_moves.Given as goal
 

@@ -1,9 +1,9 @@
 use Rattle.std.proofs.Common.{◌∙◌, ap, FitsSigned}
 use Rattle.std.specs.Int.{w128}
 use Rattle.std.proofs.lemmas.Int.{to_z-of_z}
-use Rattle.flow_system.specs.Counts.{amount}
-use Rattle.flow_system.specs.Certificates.{listed}
-use Rattle.flow_system.specs.Lookups.{amount_at}
+use Rattle.code_flow_system.specs.Counts.{amount}
+use Rattle.code_flow_system.specs.Certificates.{listed}
+use Rattle.code_flow_system.specs.Lookups.{amount_at}
 use Rattle.dual_check.proofs.LookupLemmas.{amount_here, no_amount}
 use Rattle.dual_check.proofs.flows.amount_at.Goals as goal
 

@@ -4,10 +4,10 @@ use Rattle.std.specs.Int.{w128}
 use Rattle.std.proofs.lemmas.Int.{ints, to_z-of_z}
 use Rattle.std.proofs.lemmas.Option.{IfSome_then}
 use Rattle.frac128.specs.Terms.{int_sum_by, when_same}
-use Rattle.flow_system.specs.Counts.{amount}
-use Rattle.flow_system.specs.Lookups.{amount_at}
-use Rattle.flow_system.specs.Certificates.{listed, size_by}
-use Rattle.flow_lookup.specs.Runs.{those_at}
+use Rattle.code_flow_system.specs.Counts.{amount}
+use Rattle.code_flow_system.specs.Lookups.{amount_at}
+use Rattle.code_flow_system.specs.Certificates.{listed, size_by}
+use Rattle.code_flow_lookup.specs.Runs.{those_at}
 use Rattle.dual_check.specs.Rows.{counts}
 use Rattle.dual_check.proofs.FlowLemmas.{adds_up, inflow_at, sizes_add, first_size, first_total}
 use Rattle.dual_check.proofs.flows.balance.Goals as goal

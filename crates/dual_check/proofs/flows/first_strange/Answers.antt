@@ -1,8 +1,8 @@
 use Rattle.std.specs.Prelude.{not}
 use Rattle.std.proofs.Common.{◌≡◌, ap, sym, pos, false}
 use Rattle.std.proofs.lemmas.List.Elements.{All-more}
-use Rattle.flow_system.specs.Certificates.{has_move}
-use Rattle.flow_lookup.proofs.RunLemmas.{parts_ascend}
+use Rattle.code_flow_system.specs.Certificates.{has_move}
+use Rattle.code_flow_lookup.proofs.RunLemmas.{parts_ascend}
 use Rattle.dual_check.proofs.LeastLemmas.{first_bad, none_left}
 use Rattle.dual_check.proofs.flows.first_strange.Goals as goal
 

@@ -3,7 +3,7 @@ use Rattle.std.proofs.Common.{◌≡◌, ◌∙◌, ap, sym, false}
 use Rattle.std.proofs.lemmas.List.{get_or_default}
 use Rattle.std.proofs.lemmas.List.Elements.{All-more}
 use Rattle.dual_check.specs.Tests.{is_balanced_at}
-use Rattle.flow_lookup.proofs.RunLemmas.{moves_ascend}
+use Rattle.code_flow_lookup.proofs.RunLemmas.{moves_ascend}
 use Rattle.dual_check.proofs.LeastLemmas.{first_bad, none_left}
 use Rattle.dual_check.proofs.flows.first_unbalanced.Goals as goal
 

@@ -1,7 +1,7 @@
 use Rattle.std.proofs.Common.{◌*ℤ◌}
 use Rattle.rv_core.specs.Table.{table_of}
-use Rattle.flow_system.specs.Counts.{amount}
-use Rattle.flow_system.specs.Certificates.{listed, scaled_price}
+use Rattle.code_flow_system.specs.Counts.{amount}
+use Rattle.code_flow_system.specs.Certificates.{listed, scaled_price}
 use Rattle.dual_check.proofs.SumLemmas.{Adds}
 use Rattle.dual_check.proofs.greatest.add_prices.Given as goal
 

@@ -3,8 +3,8 @@ use Rattle.std.specs.Int.{w128}
 use Rattle.std.proofs.lemmas.Int.{ints, to_z-of_z}
 use Rattle.std.proofs.lemmas.Option.{IfSome_then}
 use Rattle.rv_core.specs.Table.{table_of}
-use Rattle.flow_system.specs.Flows.{value}
-use Rattle.flow_system.specs.Certificates.{listed, potential}
+use Rattle.code_flow_system.specs.Flows.{value}
+use Rattle.code_flow_system.specs.Certificates.{listed, potential}
 use Rattle.dual_check.proofs.ValueLemmas.{scaled_total, scaled_size, bound_is, excess_size, begins}
 use Rattle.dual_check.proofs.greatest.excess.Goals as goal
 

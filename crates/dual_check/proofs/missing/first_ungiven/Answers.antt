@@ -2,8 +2,8 @@ use Rattle.std.specs.Prelude.{not}
 use Rattle.std.proofs.Common.{◌≡◌, ◌∙◌, ap, sym, false}
 use Rattle.std.proofs.lemmas.List.{get_or_default}
 use Rattle.std.proofs.lemmas.List.Elements.{All-more}
-use Rattle.flow_system.specs.Certificates.{is_given}
-use Rattle.flow_lookup.proofs.RunLemmas.{moves_ascend}
+use Rattle.code_flow_system.specs.Certificates.{is_given}
+use Rattle.code_flow_lookup.proofs.RunLemmas.{moves_ascend}
 use Rattle.dual_check.proofs.LeastLemmas.{first_bad, none_left}
 use Rattle.dual_check.proofs.missing.first_ungiven.Goals as goal
 

@@ -3,7 +3,7 @@ use Rattle.std.specs.Int.{w128}
 use Rattle.std.specs.Option.{option_to_list}
 use Rattle.std.proofs.lemmas.Int.{ints, to_z-of_z}
 use Rattle.std.proofs.lemmas.Option.{IfSome_then}
-use Rattle.flow_system.specs.Certificates.{potential}
+use Rattle.code_flow_system.specs.Certificates.{potential}
 use Rattle.dual_check.proofs.SumLemmas.{sum-append}
 use Rattle.dual_check.proofs.rows.add_fall.Goals as goal
 

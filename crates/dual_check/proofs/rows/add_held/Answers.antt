@@ -2,8 +2,8 @@ use Rattle.std.proofs.Common.{arith, ap, ◌∙◌, sym, ◌*ℤ◌}
 use Rattle.std.proofs.lemmas.Int.{ints}
 use Rattle.std.proofs.lemmas.Option.{IfSome_then}
 use Rattle.frac128.specs.Terms.{int_sum_by}
-use Rattle.flow_system.specs.Certificates.{limits, size_by}
-use Rattle.flow_system.specs.Lookups.{by_at}
+use Rattle.code_flow_system.specs.Certificates.{limits, size_by}
+use Rattle.code_flow_system.specs.Lookups.{by_at}
 use Rattle.dual_check.proofs.LookupLemmas.{holding-those}
 use Rattle.dual_check.proofs.rows.add_held.Goals as goal
 

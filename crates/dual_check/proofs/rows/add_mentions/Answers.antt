@@ -1,8 +1,8 @@
 use Rattle.std.proofs.Common.{pos, ◌*ℤ◌, get_or, rules, FitsSigned}
 use Rattle.std.specs.Int.{w128}
 use Rattle.std.proofs.lemmas.Int.{to_z-of_z}
-use Rattle.flow_system.specs.Certificates.{limits}
-use Rattle.flow_system.specs.Lookups.{by_at}
+use Rattle.code_flow_system.specs.Certificates.{limits}
+use Rattle.code_flow_system.specs.Lookups.{by_at}
 use Rattle.dual_check.proofs.SumLemmas.{added}
 use Rattle.dual_check.proofs.rows.add_mentions.Goals as goal
 

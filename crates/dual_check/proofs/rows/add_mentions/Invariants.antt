@@ -1,6 +1,6 @@
 use Rattle.std.proofs.Common.{◌*ℤ◌}
-use Rattle.flow_system.specs.Lookups.{by_at}
-use Rattle.flow_system.specs.Certificates.{limits}
+use Rattle.code_flow_system.specs.Lookups.{by_at}
+use Rattle.code_flow_system.specs.Certificates.{limits}
 use Rattle.dual_check.proofs.SumLemmas.{Adds}
 use Rattle.dual_check.proofs.rows.add_mentions.Given as goal
 

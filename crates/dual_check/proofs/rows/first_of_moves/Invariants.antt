@@ -1,6 +1,6 @@
 use Rattle.std.proofs.Common.{◌≡◌, drop}
 use Rattle.rv_core.specs.Table.{table_of}
-use Rattle.flow_system.specs.Certificates.{limits, potential, scaled_price}
+use Rattle.code_flow_system.specs.Certificates.{limits, potential, scaled_price}
 use Rattle.dual_check.specs.Rows.{first_move_fault}
 use Rattle.dual_check.proofs.rows.first_of_moves.Given as goal
 

@@ -1,6 +1,6 @@
 use Rattle.std.proofs.Common.{◌∙◌, ◌+ℤ◌}
 use Rattle.rv_core.specs.Table.{table_of}
-use Rattle.flow_system.specs.Certificates.{limits, held, fall, row_size, potential, scaled_price}
+use Rattle.code_flow_system.specs.Certificates.{limits, held, fall, row_size, potential, scaled_price}
 use Rattle.dual_check.specs.declared.row.Row.TheVariants.{Wide, Move}
 use Rattle.dual_check.proofs.MoveLemmas.{row_by, narrow_of}
 use Rattle.dual_check.proofs.rows.move_fault.Goals as goal

@@ -2,9 +2,9 @@ use Rattle.std.proofs.Common.{◌≡◌, ◌<◌, ◌^◌, arith, ap, refl, ◌�
 use Rattle.std.specs.Int.{w128}
 use Rattle.std.proofs.lemmas.Int.{ints, to_z-of_z}
 use Rattle.frac128.specs.Terms.{int_sum_by}
-use Rattle.flow_system.specs.Counts.{amount}
-use Rattle.flow_system.specs.Certificates.{listed, size_by}
-use Rattle.flow_lookup.specs.Runs.{those_at}
+use Rattle.code_flow_system.specs.Counts.{amount}
+use Rattle.code_flow_system.specs.Certificates.{listed, size_by}
+use Rattle.code_flow_lookup.specs.Runs.{those_at}
 use Rattle.dual_check.specs.Rows.{counts}
 use Rattle.dual_check.proofs.FlowLemmas.{counts_sum}
 use Rattle.dual_check.proofs.unmet.count.Goals as goal

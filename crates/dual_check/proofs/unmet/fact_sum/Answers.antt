@@ -3,7 +3,7 @@ use Rattle.std.specs.Prelude.{is_some}
 use Rattle.std.proofs.lemmas.Int.{ints}
 use Rattle.std.proofs.lemmas.Option.{IfSome_then}
 use Rattle.frac128.specs.Terms.{int_sum_by}
-use Rattle.flow_system.specs.Certificates.{negated, size_by}
+use Rattle.code_flow_system.specs.Certificates.{negated, size_by}
 use Rattle.dual_check.specs.Rows.{counts}
 use Rattle.dual_check.proofs.SumLemmas.{sum-append}
 use Rattle.dual_check.proofs.ClaimLemmas.{negated_is}

@@ -1,5 +1,5 @@
 use Rattle.std.proofs.Common.{◌≡◌, ◌++◌, drop, map}
-use Rattle.c_facts.specs.FlowFacts.{name_id}
+use Rattle.facts_definitions.specs.FlowFacts.{name_id}
 use Rattle.flow_facts.proofs.gathering.as_names.Given as goal
 
 abbrev pub invariant-loop-id : goal.invariant-loop-id

@@ -1,6 +1,6 @@
 use Rattle.std.proofs.Common.{◌≡◌, ◌++◌, drop, map}
-use Rattle.c_facts.specs.FlowFacts.{function_name}
-use Rattle.c_typed.specs.View.{function_of}
+use Rattle.facts_definitions.specs.FlowFacts.{function_name}
+use Rattle.types_tree.specs.View.{function_of}
 use Rattle.flow_facts.proofs.gathering.defined_ids.Given as goal
 
 abbrev pub invariant-loop-function : goal.invariant-loop-function

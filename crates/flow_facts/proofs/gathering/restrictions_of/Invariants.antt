@@ -1,5 +1,5 @@
 use Rattle.std.proofs.Common.{◌≡◌, ◌++◌, drop}
-use Rattle.c_facts.specs.FlowFacts.{gathered, restriction_at}
+use Rattle.facts_definitions.specs.FlowFacts.{gathered, restriction_at}
 use Rattle.flow_facts.proofs.gathering.restrictions_of.Given as goal
 
 abbrev pub invariant-loop-site : goal.invariant-loop-site

@@ -1,5 +1,5 @@
 use Rattle.std.proofs.Common.{◌≡◌, drop}
-use Rattle.c_facts.specs.FlowFacts.{derived_bounds}
+use Rattle.facts_definitions.specs.FlowFacts.{derived_bounds}
 use Rattle.flow_facts.proofs.known.derived_bounds.Given as goal
 
 abbrev pub invariant-loop-i : goal.invariant-loop-i

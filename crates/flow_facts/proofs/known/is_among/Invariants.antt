@@ -1,5 +1,5 @@
 use Rattle.std.proofs.Common.{◌≡◌, drop}
-use Rattle.c_facts.specs.FlowFacts.{is_among}
+use Rattle.facts_definitions.specs.FlowFacts.{is_among}
 use Rattle.flow_facts.proofs.known.is_among.Given as goal
 
 abbrev pub invariant-loop-i : goal.invariant-loop-i

@@ -1,5 +1,5 @@
 use Rattle.std.proofs.Common.{◌≡◌, ◌+◌, drop}
-use Rattle.c_facts.specs.FlowFacts.{index_of}
+use Rattle.facts_definitions.specs.FlowFacts.{index_of}
 use Rattle.flow_facts.proofs.making.index_of.Given as goal
 
 abbrev pub invariant-loop-i : goal.invariant-loop-i

@@ -1,5 +1,5 @@
 use Rattle.std.proofs.Common.{rules}
-use Rattle.c_typed.specs.View.{program_of}
+use Rattle.types_tree.specs.View.{program_of}
 use Rattle.flow_facts.proofs.Outcome.{faultless}
 use Rattle.flow_facts.proofs.making.outcome.Goals as goal
 

@@ -1,6 +1,6 @@
 use Rattle.std.proofs.Common.{◌∙◌, ap, rules}
 use Rattle.std.specs.Prelude.{Ok}
-use Rattle.c_typed.specs.View.{program_of}
+use Rattle.types_tree.specs.View.{program_of}
 use Rattle.flow_facts.proofs.Outcome.{sound_whole, too_often}
 use Rattle.flow_facts.proofs.making.sound.Goals as goal
 

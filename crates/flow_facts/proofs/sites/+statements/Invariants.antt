@@ -1,6 +1,6 @@
 use Rattle.std.proofs.Common.{◌≡◌, ◌++◌, drop}
-use Rattle.c_facts.specs.Sites.{items_sites}
-use Rattle.c_typed.specs.View.{items_of}
+use Rattle.facts_definitions.specs.Sites.{items_sites}
+use Rattle.types_tree.specs.View.{items_of}
 use Rattle.flow_facts.proofs.sites.+statements.Given as goal
 
 abbrev pub invariant-push_items-loop-item : goal.invariant-push_items-loop-item

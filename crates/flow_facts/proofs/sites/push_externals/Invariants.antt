@@ -1,6 +1,6 @@
 use Rattle.std.proofs.Common.{◌≡◌, ◌++◌, drop, map}
-use Rattle.c_facts.specs.Sites.{externals_sites}
-use Rattle.c_typed.specs.View.{external_of, program_of}
+use Rattle.facts_definitions.specs.Sites.{externals_sites}
+use Rattle.types_tree.specs.View.{external_of, program_of}
 use Rattle.flow_facts.proofs.sites.push_externals.Given as goal
 
 abbrev pub invariant-loop-external : goal.invariant-loop-external

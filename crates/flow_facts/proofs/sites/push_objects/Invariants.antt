@@ -1,6 +1,6 @@
 use Rattle.std.proofs.Common.{◌≡◌, ◌++◌, drop, map}
-use Rattle.c_facts.specs.Sites.{objects_sites}
-use Rattle.c_typed.specs.View.{object_of}
+use Rattle.facts_definitions.specs.Sites.{objects_sites}
+use Rattle.types_tree.specs.View.{object_of}
 use Rattle.flow_facts.proofs.sites.push_objects.Given as goal
 
 abbrev pub invariant-loop-object : goal.invariant-loop-object

@@ -1,8 +1,8 @@
 use Rattle.std.proofs.Common.{◌≡◌, ◌+◌, ap, arith, length, map, ◌∙◌}
 use Rattle.std.proofs.lemmas.List.{length-map}
-use Rattle.c_typed.specs.View.{function_of, program_of}
+use Rattle.types_tree.specs.View.{function_of, program_of}
 use Rattle.high_pass.specs.Listing.{loop_entry, mark_entry}
-use Rattle.high_program.specs.Kept.{same_marks}
+use Rattle.plan_runs.specs.Kept.{same_marks}
 use Rattle.make_loops.specs.Numbers.{functions_numbers}
 use Rattle.high_make.specs.Entries.{once}
 use Rattle.high_make.proofs.Listed.{functions_listed}

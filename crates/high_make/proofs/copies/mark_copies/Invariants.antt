@@ -1,6 +1,6 @@
 use Rattle.std.proofs.Common.{◌≡◌, map}
 use Rattle.high_pass.specs.Listing.{mark_entry}
-use Rattle.high_program.specs.Kept.{same_marks}
+use Rattle.plan_runs.specs.Kept.{same_marks}
 use Rattle.high_make.proofs.copies.mark_copies.Given as goal
 
 abbrev pub invariant-loop-mark : goal.invariant-loop-mark

@@ -1,8 +1,8 @@
 use Rattle.std.proofs.Common.{◌≡◌, ap, arith, subst, sym, ◌∙◌}
-use Rattle.c_facts.specs.FlowFacts.{main_of}
-use Rattle.c_typed.specs.View.{program_of as source_of}
+use Rattle.facts_definitions.specs.FlowFacts.{main_of}
+use Rattle.types_tree.specs.View.{program_of as source_of}
 use Rattle.high_ir.specs.Formed.{IsHigh}
-use Rattle.high_plan.specs.Programs.{program_planned}
+use Rattle.plan_definition.specs.Programs.{program_planned}
 use Rattle.high_make.proofs.Keeps.{is_high, small}
 use Rattle.high_make.proofs.made.high.Goals as goal
 

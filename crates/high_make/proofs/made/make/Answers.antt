@@ -1,10 +1,10 @@
 use Rattle.std.proofs.Common.{ap, subst, sym, ◌∙◌}
-use Rattle.c_facts.specs.FlowFacts.{main_of}
-use Rattle.c_typed.specs.View.{program_of as source_of}
-use Rattle.high_carried.specs.Sources.{planned_listing}
-use Rattle.high_law.specs.Plans.{KeepsSource}
+use Rattle.facts_definitions.specs.FlowFacts.{main_of}
+use Rattle.types_tree.specs.View.{program_of as source_of}
+use Rattle.plan_carried.specs.Sources.{planned_listing}
+use Rattle.plan_law.specs.Plans.{KeepsSource}
 use Rattle.high_pass.specs.Listing.{listing_of}
-use Rattle.high_plan.specs.Programs.{program_planned}
+use Rattle.plan_definition.specs.Programs.{program_planned}
 use Rattle.high_make.specs.Trees.{FitsTree}
 use Rattle.high_make.proofs.Keeps.{fits, keeps}
 use Rattle.high_make.proofs.made.make.Goals as goal

@@ -1,7 +1,7 @@
 use Rattle.std.proofs.Common.{◌≡◌, ◌++◌, drop, map}
 use Rattle.low_ir.specs.View.{claim_of}
 use Rattle.low_make.specs.View.{claims_of}
-use Rattle.low_plan.specs.Calls.{claims_among}
+use Rattle.lower_definition.specs.Calls.{claims_among}
 use Rattle.low_make.proofs.claims.add_claims.Given as goal
 
 abbrev pub invariant-loop-claim : goal.invariant-loop-claim

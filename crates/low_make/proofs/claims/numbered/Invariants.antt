@@ -1,6 +1,6 @@
 use Rattle.std.proofs.Common.{◌≡◌, ◌++◌, drop}
 use Rattle.low_make.specs.View.{claims_of}
-use Rattle.low_plan.specs.Calls.{numbered}
+use Rattle.lower_definition.specs.Calls.{numbered}
 use Rattle.low_make.proofs.claims.numbered.Given as goal
 
 abbrev pub invariant-loop-claim : goal.invariant-loop-claim

@@ -1,7 +1,7 @@
 use Rattle.std.proofs.Common.{◌≡◌, ◌++◌, length, map}
 use Rattle.std.specs.Prelude.{reverse}
 use Rattle.low_ir.specs.View.{block_of}
-use Rattle.low_plan.specs.Programs.{turned}
+use Rattle.lower_definition.specs.Programs.{turned}
 use Rattle.low_make.proofs.functions.turned_blocks.Given as goal
 
 abbrev pub invariant-loop-block : goal.invariant-loop-block

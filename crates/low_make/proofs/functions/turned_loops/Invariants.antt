@@ -1,7 +1,7 @@
 use Rattle.std.proofs.Common.{◌≡◌, ◌++◌, length, map}
 use Rattle.std.specs.Prelude.{reverse}
 use Rattle.low_ir.specs.View.{loop_of}
-use Rattle.low_plan.specs.Programs.{turned_loop}
+use Rattle.lower_definition.specs.Programs.{turned_loop}
 use Rattle.low_make.proofs.functions.turned_loops.Given as goal
 
 abbrev pub invariant-loop-other : goal.invariant-loop-other

@@ -1,9 +1,9 @@
 use Rattle.std.proofs.Common.{subst, sym}
 use Rattle.high_ir.specs.Programs.{program_of}
-use Rattle.low_formed.proofs.Programs.{is_low}
+use Rattle.lower_formed.proofs.Programs.{is_low}
 use Rattle.low_ir.specs.Formed.{IsLow}
-use Rattle.low_law.specs.Programs.{KeepsProgram}
-use Rattle.low_law.proofs.Law.{keeps}
+use Rattle.lower_law.specs.Programs.{KeepsProgram}
+use Rattle.lower_law.proofs.Law.{keeps}
 use Rattle.low_make.proofs.lowering.lower.Goals as goal
 
 pub invariant_of-result : goal.invariant_of-result

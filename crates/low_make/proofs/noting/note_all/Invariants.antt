@@ -1,6 +1,6 @@
 use Rattle.std.proofs.Common.{◌≡◌, drop}
 use Rattle.low_make.specs.Marks.{Marks}
-use Rattle.low_plan.specs.Calls.{noted}
+use Rattle.lower_definition.specs.Calls.{noted}
 use Rattle.low_make.proofs.noting.note_all.Given as goal
 
 abbrev pub invariant-loop-object : goal.invariant-loop-object

@@ -1,5 +1,5 @@
 use Rattle.std.proofs.Common.{◌++◌, ap, arith, ◌∙◌}
-use Rattle.low_statement.proofs.Parts.{part_size, size_of_seq}
+use Rattle.lower_statement.proofs.Parts.{part_size, size_of_seq}
 use Rattle.low_make.proofs.Walks.{callees_more, callees_of_seq}
 use Rattle.low_make.proofs.order.+callees.Goals as goal
 

@@ -1,6 +1,6 @@
 use Rattle.std.proofs.Common.{◌≡◌, ◌+◌, ◌*◌, drop, map}
 use Rattle.high_ir.specs.View.{function_of}
-use Rattle.low_plan.specs.Calls.{visited, visited_all}
+use Rattle.lower_definition.specs.Calls.{visited, visited_all}
 use Rattle.low_make.proofs.order.+visits.Given as goal
 
 abbrev pub decreases-visit : goal.decreases-visit

@@ -1,7 +1,7 @@
 use Rattle.std.proofs.Common.{ap, arith, ◌∙◌}
 use Rattle.low_make.specs.View.{claims_of, passed_of}
-use Rattle.low_plan.specs.Calls.{at_sites}
-use Rattle.low_statement.proofs.Parts.{part_size, size_of_seq}
+use Rattle.lower_definition.specs.Calls.{at_sites}
+use Rattle.lower_statement.proofs.Parts.{part_size, size_of_seq}
 use Rattle.low_make.proofs.Walks.{sites_more, sites_of_seq}
 use Rattle.low_make.proofs.passing.+sites.Goals as goal
 

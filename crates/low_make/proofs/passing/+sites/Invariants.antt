@@ -2,7 +2,7 @@ use Rattle.std.proofs.Common.{◌≡◌, ◌+◌, ◌*◌, drop}
 use Rattle.high_ir.specs.Size.{nodes, nodes_all}
 use Rattle.high_ir.specs.View.{statement_of, statements_of}
 use Rattle.low_make.specs.View.{claims_of, passed_of}
-use Rattle.low_plan.specs.Calls.{at_sites, sites_of_all}
+use Rattle.lower_definition.specs.Calls.{at_sites, sites_of_all}
 use Rattle.low_make.proofs.passing.+sites.Given as goal
 
 abbrev pub decreases-at_sites : goal.decreases-at_sites

@@ -2,7 +2,7 @@ use Rattle.std.proofs.Common.{◌≡◌, ◌≤◌, length, map, take}
 use Rattle.std.specs.Prelude.{reverse}
 use Rattle.high_ir.specs.View.{function_of}
 use Rattle.low_make.specs.View.{passed_of}
-use Rattle.low_plan.specs.Calls.{by_functions}
+use Rattle.lower_definition.specs.Calls.{by_functions}
 use Rattle.low_make.proofs.passing.all_passed.Given as goal
 
 abbrev pub invariant-loop-i : goal.invariant-loop-i

@@ -1,6 +1,6 @@
 use Rattle.std.proofs.Common.{◌≡◌, ◌++◌, drop, take}
 use Rattle.low_make.specs.View.{claims_of}
-use Rattle.low_plan.specs.Calls.{passed_to}
+use Rattle.lower_definition.specs.Calls.{passed_to}
 use Rattle.low_make.proofs.passing.pass.Given as goal
 
 abbrev pub invariant-loop-i : goal.invariant-loop-i

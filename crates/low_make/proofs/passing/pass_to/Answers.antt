@@ -2,7 +2,7 @@ use Rattle.std.proofs.Common.{ℕ, ◌<◌, [], length, refl, subst}
 use Rattle.std.specs.Prelude.{Vec}
 use Rattle.std.specs.Global.{Global}
 use Rattle.low_make.specs.View.{claims_of}
-use Rattle.low_plan.specs.Calls.{passed_to}
+use Rattle.lower_definition.specs.Calls.{passed_to}
 use Rattle.low_make.proofs.Sites.{view_set}
 use Rattle.low_make.proofs.passing.pass_to.Goals as goal
 

@@ -4,8 +4,8 @@ use Rattle.std.specs.Prelude.{slice_index_or}
 use Rattle.high_ir.specs.Programs.{program_of}
 use Rattle.low_ir.specs.View.{claim_of, function_of}
 use Rattle.low_make.specs.View.{passed_of}
-use Rattle.low_plan.specs.Calls.{claims_among}
-use Rattle.low_plan.specs.Programs.{lowered_functions}
+use Rattle.lower_definition.specs.Calls.{claims_among}
+use Rattle.lower_definition.specs.Programs.{lowered_functions}
 use Rattle.low_make.proofs.Adding.{claims_more, count_more, functions_more}
 use Rattle.low_make.proofs.program.add_all.Goals as goal
 

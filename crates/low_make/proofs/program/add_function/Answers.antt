@@ -6,8 +6,8 @@ use Rattle.high_ir.specs.Programs.{program_of}
 use Rattle.high_ir.specs.View.{object_of}
 use Rattle.low_ir.specs.View.{function_of}
 use Rattle.low_make.specs.View.{passed_of}
-use Rattle.low_plan.specs.Calls.{numbered}
-use Rattle.low_plan.specs.Values.{Scope}
+use Rattle.lower_definition.specs.Calls.{numbered}
+use Rattle.lower_definition.specs.Values.{Scope}
 use Rattle.low_make.proofs.Adding.{none_added, one_added}
 use Rattle.low_make.proofs.program.add_function.Goals as goal
 

@@ -1,7 +1,7 @@
 use Rattle.std.proofs.Common.{◌≡◌, map, take}
 use Rattle.high_ir.specs.View.{object_of as high_object}
 use Rattle.low_ir.specs.View.{object_of as low_object}
-use Rattle.low_plan.specs.Objects.{object_of}
+use Rattle.lower_definition.specs.Objects.{object_of}
 use Rattle.low_make.proofs.program.objects_of.Given as goal
 
 abbrev pub invariant-loop-object : goal.invariant-loop-object

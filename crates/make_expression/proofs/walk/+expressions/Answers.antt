@@ -1,7 +1,7 @@
 use Rattle.std.proofs.Common.{◌-◌, ◌<◌, ap, arith, length, subst, sym, ◌∙◌}
-use Rattle.c_typed.specs.Tree.{And, Assign, Or, Step, Update}
-use Rattle.c_typed.specs.View.{expr_of, exprs_of, place_of}
-use Rattle.high_plan.specs.Values.{called, finished, made, passing, plain}
+use Rattle.types_tree.specs.Tree.{And, Assign, Or, Step, Update}
+use Rattle.types_tree.specs.View.{expr_of, exprs_of, place_of}
+use Rattle.plan_definition.specs.Values.{called, finished, made, passing, plain}
 use Rattle.make_expression.specs.Makes.{Makes}
 use Rattle.make_expression.proofs.Making.{converted_makes, made_at, made_of_call, makes_same, size_at, size_of_call}
 use Rattle.make_expression.proofs.walk.+expressions.Goals as goal

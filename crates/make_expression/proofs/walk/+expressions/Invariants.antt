@@ -1,6 +1,6 @@
 use Rattle.std.proofs.Common.{◌≡◌, ◌+◌, ◌*◌, ◌≤◌, drop, length}
-use Rattle.c_typed.specs.View.{expr_of, exprs_of, place_of}
-use Rattle.high_plan.specs.Values.{passing}
+use Rattle.types_tree.specs.View.{expr_of, exprs_of, place_of}
+use Rattle.plan_definition.specs.Values.{passing}
 use Rattle.make_expression.specs.Makes.{passing_of}
 use Rattle.make_expression.specs.Sizes.{expr_size, exprs_size, place_size}
 use Rattle.make_expression.proofs.walk.+expressions.Given as goal

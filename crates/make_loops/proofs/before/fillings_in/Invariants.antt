@@ -1,6 +1,6 @@
 use Rattle.std.proofs.Common.{◌≡◌, ◌+◌, drop, map}
-use Rattle.c_typed.specs.View.{object_of}
-use Rattle.high_plan.specs.Statements.{fillings_in}
+use Rattle.types_tree.specs.View.{object_of}
+use Rattle.plan_definition.specs.Statements.{fillings_in}
 use Rattle.make_loops.proofs.before.fillings_in.Given as goal
 
 abbrev pub invariant-loop-object : goal.invariant-loop-object

@@ -1,5 +1,5 @@
 use Rattle.std.proofs.Common.{◌≡◌, ◌++◌, drop}
-use Rattle.c_typed.specs.View.{items_of}
+use Rattle.types_tree.specs.View.{items_of}
 use Rattle.make_loops.specs.Numbers.{items_numbers}
 use Rattle.make_loops.proofs.walk.+statements.Given as goal
 

@@ -1,5 +1,5 @@
 use Rattle.std.proofs.Common.{◌≡◌, ◌++◌, drop, map}
-use Rattle.c_typed.specs.View.{function_of}
+use Rattle.types_tree.specs.View.{function_of}
 use Rattle.make_loops.specs.Numbers.{functions_numbers}
 use Rattle.make_loops.proofs.walk.loops_of.Given as goal
 

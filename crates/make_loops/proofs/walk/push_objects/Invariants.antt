@@ -1,5 +1,5 @@
 use Rattle.std.proofs.Common.{◌≡◌, ◌++◌, drop, map}
-use Rattle.c_typed.specs.View.{object_of}
+use Rattle.types_tree.specs.View.{object_of}
 use Rattle.make_loops.specs.Numbers.{objects_numbers}
 use Rattle.make_loops.proofs.walk.push_objects.Given as goal
 

@@ -1,7 +1,7 @@
 use Rattle.std.proofs.Common.{◌≡◌, ◌++◌, drop, map}
-use Rattle.c_typed.specs.View.{function_of as defined_of}
+use Rattle.types_tree.specs.View.{function_of as defined_of}
 use Rattle.high_ir.specs.View.{function_of}
-use Rattle.high_plan.specs.Programs.{functions_planned}
+use Rattle.plan_definition.specs.Programs.{functions_planned}
 use Rattle.make_statement.specs.Planned.{plan_said}
 use Rattle.make_program.proofs.functions.functions.Given as goal
 

@@ -1,6 +1,6 @@
 use Rattle.std.proofs.Common.{◌≡◌, ◌+◌, drop, map}
-use Rattle.c_typed.specs.View.{param_of}
-use Rattle.high_plan.specs.Programs.{named_params}
+use Rattle.types_tree.specs.View.{param_of}
+use Rattle.plan_definition.specs.Programs.{named_params}
 use Rattle.make_program.proofs.functions.named_params.Given as goal
 
 abbrev pub invariant-loop-param : goal.invariant-loop-param

@@ -1,6 +1,6 @@
 use Rattle.std.proofs.Common.{◌≡◌, List, ◌++◌, drop, map}
-use Rattle.c_typed.specs.View.{object_of}
-use Rattle.high_plan.specs.Layouts.{Given, givens_of}
+use Rattle.types_tree.specs.View.{object_of}
+use Rattle.plan_definition.specs.Layouts.{Given, givens_of}
 use Rattle.make_program.specs.Parts.{given_of}
 use Rattle.make_program.proofs.givens.add_givens.Given as goal
 

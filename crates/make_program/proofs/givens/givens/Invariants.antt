@@ -1,6 +1,6 @@
 use Rattle.std.proofs.Common.{◌≡◌, ◌++◌, drop, map}
-use Rattle.c_typed.specs.View.{external_of}
-use Rattle.high_plan.specs.Layouts.{givens}
+use Rattle.types_tree.specs.View.{external_of}
+use Rattle.plan_definition.specs.Layouts.{givens}
 use Rattle.make_program.specs.Parts.{given_of}
 use Rattle.make_program.proofs.givens.givens.Given as goal
 

@@ -1,6 +1,6 @@
 use Rattle.std.proofs.Common.{◌≡◌, ◌++◌, drop}
-use Rattle.c_typed.specs.View.{exprs_of}
-use Rattle.high_plan.specs.Layouts.{words_of}
+use Rattle.types_tree.specs.View.{exprs_of}
+use Rattle.plan_definition.specs.Layouts.{words_of}
 use Rattle.make_program.proofs.givens.words_of.Given as goal
 
 abbrev pub invariant-loop-expr : goal.invariant-loop-expr

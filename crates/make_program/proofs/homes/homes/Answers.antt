@@ -1,6 +1,6 @@
 use Rattle.std.proofs.Common.{◌+◌, drop, rules, arith, ap, ◌∙◌, ◌++◌}
 use Rattle.std.proofs.lemmas.List.{length-drop, take_rest}
-use Rattle.high_plan.specs.Layouts.{homes_from}
+use Rattle.plan_definition.specs.Layouts.{homes_from}
 use Rattle.make_program.specs.Parts.{next_of}
 use Rattle.make_program.proofs.Begun.{begins, firsts, one_home}
 use Rattle.make_program.proofs.homes.homes.Goals as goal

@@ -1,6 +1,6 @@
 use Rattle.std.proofs.Common.{◌≡◌, ◌≤◌, ◌++◌, drop, length, map}
-use Rattle.c_typed.specs.View.{function_of, program_of}
-use Rattle.high_plan.specs.Layouts.{firsts_of, homes_from, homes_of}
+use Rattle.types_tree.specs.View.{function_of, program_of}
+use Rattle.plan_definition.specs.Layouts.{firsts_of, homes_from, homes_of}
 use Rattle.make_program.specs.Parts.{next_of}
 use Rattle.make_program.proofs.homes.homes.Given as goal
 

@@ -1,7 +1,7 @@
 use Rattle.std.proofs.Common.{◌≡◌, ◌++◌, drop, map}
-use Rattle.c_typed.specs.View.{external_of}
+use Rattle.types_tree.specs.View.{external_of}
 use Rattle.high_ir.specs.View.{object_of}
-use Rattle.high_plan.specs.Layouts.{givens, objects_from}
+use Rattle.plan_definition.specs.Layouts.{givens, objects_from}
 use Rattle.make_program.specs.Parts.{given_of}
 use Rattle.make_program.proofs.objects.objects.Given as goal
 

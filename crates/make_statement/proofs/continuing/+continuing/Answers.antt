@@ -1,6 +1,6 @@
 use Rattle.std.proofs.Common.{ap, sym, ◌∙◌}
-use Rattle.c_typed.specs.View.{items_of}
-use Rattle.high_plan.specs.Statements.{items_continue}
+use Rattle.types_tree.specs.View.{items_of}
+use Rattle.plan_definition.specs.Statements.{items_continue}
 use Rattle.make_statement.proofs.Rows.{block_continues, switch_continues}
 use Rattle.make_statement.proofs.continuing.+continuing.Goals as goal
 

@@ -1,7 +1,7 @@
 use Rattle.std.proofs.Common.{◌≡◌, IfOk, ap, subst, sym, ◌∙◌}
 use Rattle.high_code.specs.Code.{alone, joined}
 use Rattle.high_ir.specs.View.{statements_of}
-use Rattle.high_plan.specs.Statements.{last_in_block}
+use Rattle.plan_definition.specs.Statements.{last_in_block}
 use Rattle.make_pieces.specs.View.{code_of}
 use Rattle.make_statement.proofs.Lasts.{last_view}
 use Rattle.make_statement.proofs.continuing.last_in_block.Goals as goal

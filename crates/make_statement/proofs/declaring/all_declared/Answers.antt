@@ -1,8 +1,8 @@
 use Rattle.std.proofs.Common.{ap, map, sym, ◌∙◌}
 use Rattle.std.proofs.Math.ListN.{drop_of_length-le}
-use Rattle.c_typed.specs.View.{object_of}
+use Rattle.types_tree.specs.View.{object_of}
 use Rattle.high_code.specs.Code.{joined}
-use Rattle.high_plan.specs.Statements.{all_declared}
+use Rattle.plan_definition.specs.Statements.{all_declared}
 use Rattle.make_pieces.proofs.Lists.{joined_end}
 use Rattle.make_pieces.specs.View.{code_of}
 use Rattle.make_statement.specs.Planned.{plan_said}

@@ -1,7 +1,7 @@
 use Rattle.std.proofs.Common.{◌≡◌, drop, map}
-use Rattle.c_typed.specs.View.{object_of}
+use Rattle.types_tree.specs.View.{object_of}
 use Rattle.high_code.specs.Code.{joined}
-use Rattle.high_plan.specs.Statements.{all_declared}
+use Rattle.plan_definition.specs.Statements.{all_declared}
 use Rattle.make_pieces.specs.View.{code_of}
 use Rattle.make_statement.specs.Planned.{plan_said}
 use Rattle.make_statement.proofs.declaring.all_declared.Given as goal

@@ -1,9 +1,9 @@
 use Rattle.std.proofs.Common.{◌≡◌, IfOk, ap, arith, subst, ◌∙◌}
-use Rattle.c_facts.specs.Sites.{count_exprs}
+use Rattle.facts_definitions.specs.Sites.{count_exprs}
 use Rattle.c_tree.specs.Named.{map_option}
-use Rattle.c_typed.specs.View.{exprs_of, loop_of}
+use Rattle.types_tree.specs.View.{exprs_of, loop_of}
 use Rattle.high_code.specs.Code.{joined}
-use Rattle.high_plan.specs.Statements.{filling, listed}
+use Rattle.plan_definition.specs.Statements.{filling, listed}
 use Rattle.make_pieces.specs.View.{code_of}
 use Rattle.make_statement.specs.Planned.{plan_said}
 use Rattle.make_statement.proofs.Lists.{count_length}

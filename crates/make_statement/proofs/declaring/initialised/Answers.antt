@@ -1,7 +1,7 @@
 use Rattle.std.proofs.Common.{ap, sym, ◌∙◌}
 use Rattle.c_tree.specs.Named.{map_option}
-use Rattle.c_typed.specs.View.{exprs_of, initial_of, loop_of}
-use Rattle.high_plan.specs.Statements.{initialised}
+use Rattle.types_tree.specs.View.{exprs_of, initial_of, loop_of}
+use Rattle.plan_definition.specs.Statements.{initialised}
 use Rattle.make_statement.specs.Planned.{list_planned, plan_said}
 use Rattle.make_statement.proofs.declaring.initialised.Goals as goal
 

@@ -1,7 +1,7 @@
 use Rattle.std.proofs.Common.{◌≡◌, drop}
-use Rattle.c_typed.specs.View.{exprs_of}
+use Rattle.types_tree.specs.View.{exprs_of}
 use Rattle.high_code.specs.Code.{joined}
-use Rattle.high_plan.specs.Statements.{listed}
+use Rattle.plan_definition.specs.Statements.{listed}
 use Rattle.make_pieces.specs.View.{code_of}
 use Rattle.make_statement.specs.Planned.{plan_said}
 use Rattle.make_statement.proofs.declaring.listed.Given as goal

@@ -1,6 +1,6 @@
 use Rattle.std.proofs.Common.{◌≡◌, drop}
-use Rattle.c_typed.specs.View.{items_of}
-use Rattle.high_plan.specs.Statements.{default_number}
+use Rattle.types_tree.specs.View.{items_of}
+use Rattle.plan_definition.specs.Statements.{default_number}
 use Rattle.make_statement.proofs.labels.default_number.Given as goal
 
 abbrev pub invariant-loop-item : goal.invariant-loop-item

@@ -1,6 +1,6 @@
 use Rattle.std.proofs.Common.{◌≡◌, ◌+◌, drop}
-use Rattle.c_typed.specs.View.{items_of}
-use Rattle.high_plan.specs.Statements.{label_count}
+use Rattle.types_tree.specs.View.{items_of}
+use Rattle.plan_definition.specs.Statements.{label_count}
 use Rattle.make_statement.proofs.labels.label_count.Given as goal
 
 abbrev pub invariant-loop-item : goal.invariant-loop-item

@@ -1,6 +1,6 @@
 use Rattle.std.proofs.Common.{◌≡◌, ◌+◌, ◌-◌, ◌<◌, ◌≤◌, ap, arith, drop, length, sym}
-use Rattle.c_typed.specs.View.{items_of}
-use Rattle.high_plan.specs.Statements.{label_count}
+use Rattle.types_tree.specs.View.{items_of}
+use Rattle.plan_definition.specs.Statements.{label_count}
 use Rattle.make_pieces.specs.View.{code_of, leaf_expr}
 use Rattle.make_statement.specs.Parts.{labels_in}
 use Rattle.make_statement.proofs.Noting.{count_fewer, count_from, one_test}

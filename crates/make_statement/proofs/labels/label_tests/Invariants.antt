@@ -1,6 +1,6 @@
 use Rattle.std.proofs.Common.{◌≡◌, ◌+◌, ◌≤◌, drop, length}
-use Rattle.c_typed.specs.View.{items_of}
-use Rattle.high_plan.specs.Statements.{label_count, label_tests}
+use Rattle.types_tree.specs.View.{items_of}
+use Rattle.plan_definition.specs.Statements.{label_count, label_tests}
 use Rattle.make_pieces.specs.View.{code_of, leaf_expr}
 use Rattle.make_statement.proofs.labels.label_tests.Given as goal
 

@@ -1,5 +1,5 @@
 use Rattle.std.proofs.Common.{ap, ◌∙◌}
-use Rattle.c_typed.specs.declared.statement.Item.TheVariants as item
+use Rattle.types_tree.specs.declared.statement.Item.TheVariants as item
 use Rattle.make_pieces.specs.View.{code_of, leaf_expr}
 use Rattle.make_statement.specs.Planned.{item_tests}
 use Rattle.make_statement.proofs.Items.{joined_none}

@@ -1,9 +1,9 @@
 use Rattle.std.proofs.Common.{◌≡◌, ◌+◌, ap, arith, drop, sym, ◌∙◌}
 use Rattle.std.proofs.Math.ListN.{drop_of_length-le}
-use Rattle.c_typed.specs.Tree.{If, IfElse, Switch}
-use Rattle.c_typed.specs.View.{expr_of, items_of, statement_of}
+use Rattle.types_tree.specs.Tree.{If, IfElse, Switch}
+use Rattle.types_tree.specs.View.{expr_of, items_of, statement_of}
 use Rattle.high_code.specs.Code.{joined}
-use Rattle.high_plan.specs.Statements.{all_planned, parts_planned, planned}
+use Rattle.plan_definition.specs.Statements.{all_planned, parts_planned, planned}
 use Rattle.make_pieces.proofs.Lists.{joined_end}
 use Rattle.make_pieces.specs.View.{code_of}
 use Rattle.make_statement.specs.Parts.{labels_in, parts_of}

@@ -1,7 +1,7 @@
 use Rattle.std.proofs.Common.{◌≡◌, ◌+◌, ◌*◌, drop}
-use Rattle.c_typed.specs.View.{items_of, statement_of}
+use Rattle.types_tree.specs.View.{items_of, statement_of}
 use Rattle.high_code.specs.Code.{joined}
-use Rattle.high_plan.specs.Statements.{all_planned, parts_planned}
+use Rattle.plan_definition.specs.Statements.{all_planned, parts_planned}
 use Rattle.make_pieces.specs.View.{code_of}
 use Rattle.make_statement.specs.Parts.{parts_of}
 use Rattle.make_statement.specs.Planned.{exits_of, plan_said}

@@ -1,7 +1,7 @@
 use Rattle.std.proofs.Common.{ap}
 use Rattle.c_tree.specs.Named.{map_option}
-use Rattle.c_typed.specs.View.{expr_of}
-use Rattle.high_plan.specs.Statements.{stepped}
+use Rattle.types_tree.specs.View.{expr_of}
+use Rattle.plan_definition.specs.Statements.{stepped}
 use Rattle.make_pieces.specs.View.{code_of}
 use Rattle.make_statement.specs.Planned.{plan_said}
 use Rattle.make_statement.proofs.Items.{joined_none}

@@ -1,7 +1,7 @@
 use Rattle.std.proofs.Common.{◌≡◌, IfOk, ap, subst, ◌∙◌}
 use Rattle.high_code.specs.Code.{alone, joined}
 use Rattle.high_ir.specs.Tree.{Constant, Set}
-use Rattle.high_plan.specs.Values.{in_block}
+use Rattle.plan_definition.specs.Values.{in_block}
 use Rattle.make_pieces.proofs.Lists.{joined_then}
 use Rattle.make_pieces.specs.View.{code_of}
 use Rattle.make_statement.proofs.walk.switched.Goals as goal

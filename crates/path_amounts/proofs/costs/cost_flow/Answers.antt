@@ -4,8 +4,8 @@ use Rattle.std.specs.Int.{w128}
 use Rattle.std.proofs.lemmas.Int.{to_z-of_z}
 use Rattle.std.proofs.lemmas.Result.{IfOk-weaker}
 use Rattle.rv_core.specs.Table.{table_of}
-use Rattle.flow_system.specs.declared.cert.Part.{Part}
-use Rattle.flow_system.specs.Flows.{price}
+use Rattle.code_flow_system.specs.declared.cert.Part.{Part}
+use Rattle.code_flow_system.specs.Flows.{price}
 use Rattle.path_duals.specs.Duals.{final_level}
 use Rattle.path_flows.specs.Flows.{amounts_of, parts_of}
 use Rattle.path_rows.specs.Driver.{blank}

@@ -1,5 +1,5 @@
 use Rattle.std.proofs.Common.{arith, ◌≡◌, ◌<◌, ◌∙◌, sym, ap, subst, length, get_or, true}
-use Rattle.flow_system.specs.declared.moves.Move.{Move}
+use Rattle.code_flow_system.specs.declared.moves.Move.{Move}
 use Rattle.path_places.specs.Reached.{in_span}
 use Rattle.path_places.specs.Places.{is_walked}
 use Rattle.path_walks.specs.Opens.{is_open}

@@ -1,5 +1,5 @@
 use Rattle.std.proofs.Common.{arith, ◌≡◌, ◌+◌, ◌-◌, ◌<◌, ◌∙◌, ap, subst, ℕ, length}
-use Rattle.flow_system.specs.declared.shapes.Span.{Span}
+use Rattle.code_flow_system.specs.declared.shapes.Span.{Span}
 use Rattle.std.proofs.lemmas.List.{length-replicate}
 use Rattle.loop_walks.specs.Levels.{level_of}
 use Rattle.loop_flows.proofs.TotalLemmas.{only-long}

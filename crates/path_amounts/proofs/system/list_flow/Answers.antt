@@ -2,8 +2,8 @@ use Rattle.std.proofs.Common.{arith, ◌≡◌, ◌<◌, ◌^◌, ◌∙◌, sym
 use Rattle.std.proofs.Math.ListN.{replicate}
 use Rattle.std.proofs.lemmas.Result.{IfOk-weaker}
 use Rattle.std.proofs.lemmas.List.{length-replicate}
-use Rattle.flow_system.specs.declared.cert.Part.{Part}
-use Rattle.flow_system.specs.declared.moves.Move.{Move}
+use Rattle.code_flow_system.specs.declared.cert.Part.{Part}
+use Rattle.code_flow_system.specs.declared.moves.Move.{Move}
 use Rattle.loop_amounts.specs.Wraps.{all_wrapped}
 use Rattle.path_flows.specs.Flows.{amounts_of, parts_of}
 use Rattle.path_walks.specs.Prices.{prices_of}

@@ -2,10 +2,10 @@ use Rattle.std.proofs.Common.{rules, ◌∙◌, sym, ap, subst}
 use Rattle.std.specs.Int.{w128}
 use Rattle.std.proofs.lemmas.Int.{to_z-of_z}
 use Rattle.rv_core.specs.Table.{table_of}
-use Rattle.cost_ranges.proofs.RangeLemmas.{costs_ranged}
-use Rattle.flow_system.specs.declared.cert.Flow.{Flow}
-use Rattle.flow_system.specs.declared.cert.Mark.TheVariants.{Greatest, Empty}
-use Rattle.flow_system.specs.Certificates.{AddressesAscend}
+use Rattle.path_cost_ranges.proofs.RangeLemmas.{costs_ranged}
+use Rattle.code_flow_system.specs.declared.cert.Flow.{Flow}
+use Rattle.code_flow_system.specs.declared.cert.Mark.TheVariants.{Greatest, Empty}
+use Rattle.code_flow_system.specs.Certificates.{AddressesAscend}
 use Rattle.frac128.specs.Terms.{coefficient}
 use Rattle.path_search.specs.Unmarked.{marked}
 use Rattle.path_search.proofs.SearchLemmas.{found_addable, found_ascend, found_empty, found_small, found_amounts, found_greatest}

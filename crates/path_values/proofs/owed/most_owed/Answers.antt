@@ -1,9 +1,9 @@
 use Rattle.std.proofs.Common.{arith, ◌<◌, ◌-◌, ◌∙◌, sym, ap, subst, All, Option, ℤ, length}
 use Rattle.rv_core.specs.Table.{table_of}
-use Rattle.flow_lookup.specs.Runs.{those_at}
-use Rattle.flow_system.specs.declared.moves.Move.{Move}
-use Rattle.flow_system.specs.Systems.{IsPlaced}
-use Rattle.flow_system.specs.Certificates.{limits, potential, scaled_price}
+use Rattle.code_flow_lookup.specs.Runs.{those_at}
+use Rattle.code_flow_system.specs.declared.moves.Move.{Move}
+use Rattle.code_flow_system.specs.Systems.{IsPlaced}
+use Rattle.code_flow_system.specs.Certificates.{limits, potential, scaled_price}
 use Rattle.path_values.specs.Owed.{larger_of}
 use Rattle.path_values.proofs.OwedLemmas.{those_all, most_on}
 use Rattle.path_values.proofs.owed.most_owed.Goals as goal

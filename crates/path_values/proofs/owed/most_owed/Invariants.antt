@@ -1,6 +1,6 @@
 use Rattle.std.proofs.Common.{◌≡◌, ◌-◌, length, drop, IfSome}
 use Rattle.rv_core.specs.Table.{table_of}
-use Rattle.flow_system.specs.Certificates.{limits, potential, scaled_price}
+use Rattle.code_flow_system.specs.Certificates.{limits, potential, scaled_price}
 use Rattle.path_values.specs.Owed.{IsNarrowNumber, most_by}
 use Rattle.path_values.proofs.owed.most_owed.Given as goal
 

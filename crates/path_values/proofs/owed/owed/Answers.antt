@@ -3,7 +3,7 @@ use mir.Val.{to_z, of_z}
 use Rattle.std.specs.Int.{w128}
 use Rattle.std.proofs.lemmas.Int.{to_z-of_z}
 use Rattle.rv_core.specs.Table.{table_of}
-use Rattle.flow_system.specs.Certificates.{limits, held, fall, row_size, potential, scaled_price}
+use Rattle.code_flow_system.specs.Certificates.{limits, held, fall, row_size, potential, scaled_price}
 use Rattle.path_duals.specs.Duals.{owed}
 use Rattle.path_values.specs.Owed.{IsNarrowNumber}
 use Rattle.path_values.proofs.OwedLemmas.{wide_none, narrow_some, owed_is}

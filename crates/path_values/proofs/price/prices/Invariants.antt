@@ -1,6 +1,6 @@
 use Rattle.std.proofs.Common.{◌≡◌, ◌++◌, drop, map}
 use Rattle.rv_core.specs.Table.{table_of}
-use Rattle.flow_system.specs.Flows.{price}
+use Rattle.code_flow_system.specs.Flows.{price}
 use Rattle.path_values.proofs.price.prices.Given as goal
 
 abbrev pub invariant-loop-i : goal.invariant-loop-i

@@ -4,7 +4,7 @@ use Rattle.std.specs.Int.{w128}
 use Rattle.std.proofs.lemmas.Int.{to_z-of_z}
 use Rattle.std.proofs.lemmas.Result.{IfOk-weaker}
 use Rattle.rv_core.specs.Table.{table_of}
-use Rattle.flow_system.specs.Flows.{price}
+use Rattle.code_flow_system.specs.Flows.{price}
 use Rattle.loop_walks.specs.Levels.{level_of}
 use Rattle.path_duals.specs.Duals.{final_level, final_pairs}
 use Rattle.path_rows.specs.Driver.{blank}

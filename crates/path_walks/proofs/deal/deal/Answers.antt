@@ -1,5 +1,5 @@
 use Rattle.std.proofs.Common.{arith, ◌<◌, None, length, get_or}
-use Rattle.flow_system.specs.declared.shapes.LoopShape.{LoopShape}
+use Rattle.code_flow_system.specs.declared.shapes.LoopShape.{LoopShape}
 use Rattle.path_walks.specs.Deals.{no_pair}
 use Rattle.path_walks.proofs.ListLemmas.{before_span, behind_span, within_span}
 use Rattle.path_walks.proofs.DealLemmas.{deals_start, deals_next, deals_end}

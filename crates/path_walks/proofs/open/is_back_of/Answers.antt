@@ -1,6 +1,6 @@
 use Rattle.std.specs.Prelude.{◌==◌, ◌&&◌}
 use Rattle.std.proofs.Common.{arith, ap, sym, ◌∙◌, Bool, None, length, get_or, ◌<◌, ◌≤◌}
-use Rattle.flow_system.specs.declared.shapes.LoopShape.{LoopShape}
+use Rattle.code_flow_system.specs.declared.shapes.LoopShape.{LoopShape}
 use Rattle.path_walks.proofs.PointLemmas.{any_missing, any_found, is_eq, not_eq, and_same}
 use Rattle.path_walks.proofs.open.is_back_of.Goals as goal
 

@@ -1,7 +1,7 @@
 use Rattle.std.specs.Prelude.{nat_lt}
 use Rattle.std.proofs.Common.{rules, arith, sym, ◌∙◌, true, length, ◌<◌, ◌≤◌}
 use Rattle.std.proofs.lemmas.List.Sorted.{IsPartitionPoint-from_clause, IsPartitionedBy-ltb}
-use Rattle.flow_system.specs.declared.claims.Never.{Never}
+use Rattle.code_flow_system.specs.declared.claims.Never.{Never}
 use Rattle.path_walks.proofs.PointLemmas.{rises, never_any, any_missing, any_found, plain}
 use Rattle.path_walks.proofs.open.is_never.Goals as goal
 

@@ -1,7 +1,7 @@
 use Rattle.std.specs.Prelude.{nat_lt, ◌==◌, ◌&&◌}
 use Rattle.std.proofs.Common.{rules, arith, ap, sym, ◌∙◌, Bool, length, get_or, ◌<◌, ◌≤◌}
 use Rattle.std.proofs.lemmas.List.Sorted.{IsPartitionPoint-from_clause, IsPartitionedBy-ltb}
-use Rattle.flow_system.specs.declared.claims.LoopClaim.{LoopClaim}
+use Rattle.code_flow_system.specs.declared.claims.LoopClaim.{LoopClaim}
 use Rattle.path_walks.proofs.PointLemmas.{rises, shut_any, any_missing, any_found, is_eq, not_eq, and_same}
 use Rattle.path_walks.proofs.open.is_shut.Goals as goal
 

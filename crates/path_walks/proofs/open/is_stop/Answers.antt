@@ -1,6 +1,6 @@
 use Rattle.std.proofs.Common.{subst, sym}
-use Rattle.flow_system.specs.declared.claims.Never.{Never}
-use Rattle.flow_system.specs.declared.claims.LoopClaim.{LoopClaim}
+use Rattle.code_flow_system.specs.declared.claims.Never.{Never}
+use Rattle.code_flow_system.specs.declared.claims.LoopClaim.{LoopClaim}
 use Rattle.path_walks.specs.Opens.{AddressesRise}
 use Rattle.path_walks.proofs.SoundLemmas.{nevers_rise, loops_rise}
 use Rattle.path_walks.proofs.open.is_stop.Goals as goal

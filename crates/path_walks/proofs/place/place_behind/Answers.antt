@@ -1,7 +1,7 @@
 use Rattle.std.specs.Prelude.{nat_le}
 use Rattle.std.proofs.Common.{rules, arith, ◌+◌}
 use Rattle.std.proofs.lemmas.List.Sorted.{IsPartitionPoint-from_clause, IsPartitionedBy-leb}
-use Rattle.flow_lookup.proofs.RunLemmas.{moves_ascend}
+use Rattle.code_flow_lookup.proofs.RunLemmas.{moves_ascend}
 use Rattle.path_places.proofs.PlaceLemmas.{place_up}
 use Rattle.path_walks.proofs.PointLemmas.{behind_is}
 use Rattle.path_walks.proofs.place.place_behind.Goals as goal

@@ -1,7 +1,7 @@
 use Rattle.std.specs.Prelude.{nat_lt}
 use Rattle.std.proofs.Common.{rules}
 use Rattle.std.proofs.lemmas.List.Sorted.{IsPartitionPoint-from_clause, IsPartitionedBy-ltb}
-use Rattle.flow_lookup.proofs.RunLemmas.{moves_ascend}
+use Rattle.code_flow_lookup.proofs.RunLemmas.{moves_ascend}
 use Rattle.path_walks.proofs.PointLemmas.{place_is}
 use Rattle.path_walks.proofs.place.place_of.Goals as goal
 

@@ -1,8 +1,8 @@
 use Rattle.std.proofs.Common.{arith, ◌<◌, ◌+◌, ◌++◌, ◌∙◌, sym, ap, List, [], ◌∷◌, None, length, drop, get_or, append-nil}
 use Rattle.std.specs.Prelude.{if◌then◌else◌}
-use Rattle.flow_system.specs.declared.claims.LoopClaim.{LoopClaim}
-use Rattle.flow_system.specs.declared.shapes.LoopShape.{LoopShape}
-use Rattle.flow_system.specs.Systems.{has_moves}
+use Rattle.code_flow_system.specs.declared.claims.LoopClaim.{LoopClaim}
+use Rattle.code_flow_system.specs.declared.shapes.LoopShape.{LoopShape}
+use Rattle.code_flow_system.specs.Systems.{has_moves}
 use Rattle.loop_walks.specs.declared.step.Loop.{Loop}
 use Rattle.path_places.specs.Places.{loop_of, loops_of}
 use Rattle.path_walks.specs.Prices.{price_in}

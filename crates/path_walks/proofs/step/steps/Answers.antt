@@ -2,7 +2,7 @@ use Rattle.std.proofs.Common.{rules, arith, FitsSigned, ◌≡◌, ◌<◌, ◌+
 use mir.Val.{to_z, of_z}
 use Rattle.std.specs.Int.{w128}
 use Rattle.std.proofs.lemmas.Int.{to_z-of_z}
-use Rattle.flow_system.specs.declared.moves.Move.{Move}
+use Rattle.code_flow_system.specs.declared.moves.Move.{Move}
 use Rattle.loop_walks.specs.declared.step.Step.{Step}
 use Rattle.loop_worths.specs.Sizes.{HaveSmallPrices}
 use Rattle.path_places.specs.Reached.{in_span}

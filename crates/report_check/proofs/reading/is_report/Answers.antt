@@ -1,5 +1,5 @@
 use Rattle.std.proofs.Common.{All, subst}
-use Rattle.flow_system.specs.Claims.{AreSums}
+use Rattle.code_flow_system.specs.Claims.{AreSums}
 use Rattle.report_text.specs.Reports.{Report}
 use Rattle.report_check.proofs.reading.is_report.Goals as goal
 

@@ -1,5 +1,5 @@
 use Rattle.std.proofs.Common.{All, subst}
-use Rattle.flow_system.specs.Claims.{AreSums}
+use Rattle.code_flow_system.specs.Claims.{AreSums}
 use Rattle.report_text.specs.Forms.{IsReport}
 use Rattle.report_laws.proofs.TextLaws.{no_fault}
 use Rattle.report_laws.proofs.laws.no_fault.Goals as goal

@@ -1,5 +1,5 @@
 use Rattle.std.proofs.Common.{◌≡◌, ◌<◌, ◌⊎◌, map, length, All}
-use Rattle.flow_system.specs.Certificates.{IsPart}
+use Rattle.code_flow_system.specs.Certificates.{IsPart}
 use Rattle.report_text.specs.Lines.{flow_line}
 use Rattle.report_reading.specs.Orders.{IsOrdered}
 use Rattle.report_rules.specs.CertRules.{flow_rule}

@@ -1,5 +1,5 @@
 use Rattle.std.proofs.Common.{◌≡◌, length, All}
-use Rattle.flow_system.specs.Certificates.{IsSmall}
+use Rattle.code_flow_system.specs.Certificates.{IsSmall}
 use Rattle.report_text.specs.Forms.{IsFact}
 use Rattle.report_text.specs.Lines.{fact_line, paired}
 use Rattle.report_rules.specs.FactRules.{fact_rule}

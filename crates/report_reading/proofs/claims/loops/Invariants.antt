@@ -1,5 +1,5 @@
 use Rattle.std.proofs.Common.{◌≡◌, ◌<◌, length, All}
-use Rattle.flow_system.specs.Certificates.{IsSmall}
+use Rattle.code_flow_system.specs.Certificates.{IsSmall}
 use Rattle.report_text.specs.Lines.{loop_line, paired}
 use Rattle.report_reading.specs.Orders.{IsOrdered}
 use Rattle.report_rules.specs.ClaimRules.{loop_rule}

@@ -1,5 +1,5 @@
 use Rattle.std.proofs.Common.{◌≡◌}
-use Rattle.flow_system.specs.Claims.{claims_of}
+use Rattle.code_flow_system.specs.Claims.{claims_of}
 use Rattle.report_reading.specs.Reading.{at_of}
 use Rattle.report_reading.proofs.ClaimParts.{claims_pass, few_claims}
 use Rattle.report_reading.proofs.middle.claims_at.Goals as goal

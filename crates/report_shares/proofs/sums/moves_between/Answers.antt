@@ -1,6 +1,6 @@
 use Rattle.std.proofs.Common.{ltb, rules}
 use Rattle.std.proofs.lemmas.List.Sorted.{IsPartitionPoint-from_clause, IsPartitionedBy-ltb}
-use Rattle.flow_lookup.proofs.RunLemmas.{rest_rises, moves_ascend}
+use Rattle.code_flow_lookup.proofs.RunLemmas.{rest_rises, moves_ascend}
 use Rattle.report_shares.proofs.BetweenLemmas.{found_between}
 use Rattle.report_shares.proofs.sums.moves_between.Goals as goal
 

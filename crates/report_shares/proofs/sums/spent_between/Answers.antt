@@ -1,5 +1,5 @@
 use Rattle.std.proofs.Common.{All, ap, sym, subst, ◌∙◌}
-use Rattle.flow_system.specs.Systems.{IsPlaced}
+use Rattle.code_flow_system.specs.Systems.{IsPlaced}
 use Rattle.report_shares.specs.Shares.{moves_between}
 use Rattle.report_shares.proofs.SpentLemmas.{between_all}
 use Rattle.report_shares.proofs.sums.spent_between.Goals as goal

@@ -2,7 +2,7 @@ use Rattle.std.proofs.Common.{sym, subst}
 use Rattle.rv_core.specs.Table.{table_of}
 use Rattle.elf_image.specs.Text.{text_of}
 use Rattle.report_text.specs.Lines.{report_text}
-use Rattle.source_report.specs.Compiled.{IsCompiled}
+use Rattle.promise_report.specs.Compiled.{IsCompiled}
 use Rattle.wcc_compile.specs.Sources.{names_of, tree_of}
 use Rattle.wcc_compile.proofs.compiling.built.Goals as goal
 

@@ -1,5 +1,5 @@
 use Rattle.std.proofs.Common.{sym, ap, ◌∙◌}
-use Rattle.c_facts.specs.declared.facts.Facts.{Facts}
+use Rattle.facts_definitions.specs.declared.facts.Facts.{Facts}
 use Rattle.wcc_compile.specs.Sources.{names_of, tree_of}
 use Rattle.wcc_compile.proofs.compiling.compile.Goals as goal
 

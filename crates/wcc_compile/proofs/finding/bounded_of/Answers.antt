@@ -1,5 +1,5 @@
 use Rattle.std.proofs.Common.{sym, subst}
-use Rattle.flow_system.specs.Systems.{IsSystemOf}
+use Rattle.code_flow_system.specs.Systems.{IsSystemOf}
 use Rattle.rv_core.specs.Table.{table_of}
 use Rattle.path_search.specs.Conditions.{CanBound}
 use Rattle.wcc_compile.specs.Sources.{names_of, tree_of}

@@ -1,5 +1,5 @@
 use Rattle.std.proofs.Common.{subst}
-use Rattle.flow_system.specs.Systems.{IsSystemOf}
+use Rattle.code_flow_system.specs.Systems.{IsSystemOf}
 use Rattle.wcc_compile.proofs.finding.find.Goals as goal
 
 pub find_in-requires-clause-system : goal.find_in-requires-clause-system

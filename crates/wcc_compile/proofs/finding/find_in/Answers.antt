@@ -1,6 +1,6 @@
 use Rattle.std.proofs.Common.{map, subst}
 use Rattle.rv_core.specs.Table.{table_of}
-use Rattle.made_reports.specs.Reported.{AreShared}
+use Rattle.compile_reports.specs.Reported.{AreShared}
 use Rattle.report_shares.specs.Shares.{with_sum}
 use Rattle.wcc_compile.proofs.finding.find_in.Goals as goal
 

@@ -1,5 +1,5 @@
 use Rattle.std.proofs.Common.{refl, subst}
-use Rattle.flow_system.specs.Systems.{IsSystemOf}
+use Rattle.code_flow_system.specs.Systems.{IsSystemOf}
 use Rattle.wcc_compile.proofs.Shared.{one_kind}
 use Rattle.wcc_compile.proofs.laws.reported_are_compiled.Goals as goal
 

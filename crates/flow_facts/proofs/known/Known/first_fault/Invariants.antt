@@ -1,5 +1,5 @@
 use Rattle.std.proofs.Common.{◌≡◌, drop}
-use Rattle.c_facts.specs.FlowFacts.{first_fault}
+use Rattle.facts_definitions.specs.FlowFacts.{first_fault}
 use Rattle.flow_facts.proofs.known.Known.first_fault.Given as goal
 
 abbrev pub invariant-loop-site : goal.invariant-loop-site

@@ -1,6 +1,6 @@
 use Rattle.std.proofs.Common.{◌≡◌, ◌∙◌, ap, rules}
-use Rattle.c_facts.specs.FlowFacts.{numbered_restriction}
-use Rattle.c_facts.specs.PragmaTexts.{restriction}
+use Rattle.facts_definitions.specs.FlowFacts.{numbered_restriction}
+use Rattle.facts_definitions.specs.PragmaTexts.{restriction}
 use Rattle.flow_facts.specs.Sums.{restriction_fault}
 use Rattle.flow_facts.proofs.Named.{restriction_fault-numbered}
 use Rattle.flow_facts.proofs.known.Known.site_fault.Goals as goal

@@ -1,7 +1,7 @@
 use Rattle.std.proofs.Common.{◌≡◌, IfOk, subst, sym}
 use Rattle.high_code.specs.Code.{joined}
 use Rattle.high_ir.specs.Tree.{End}
-use Rattle.high_plan.specs.Statements.{guarded}
+use Rattle.plan_definition.specs.Statements.{guarded}
 use Rattle.make_pieces.proofs.Lists.{joined_end}
 use Rattle.make_pieces.specs.View.{code_of}
 use Rattle.make_statement.proofs.parts.Parts.ended.Goals as goal

@@ -1,0 +1,28 @@
+use Rattle.std.proofs.Common.{◌+◌, ◌<◌, ◌≤◌, length, map, drop, get_or, arith}
+use Rattle.asm_program.specs.Emission.{late_code}
+use Rattle.asm_emission.specs.declared.placed.PlacedOperand.TheVariants as operands
+use Rattle.asm_emission.specs.View.{operand_of}
+use Rattle.asm_emission.proofs.Passing.{emitted, drop-next, late-step, late-done}
+use Rattle.asm_emission.proofs.calls.emit_late.Goals as goal
+
+pub loop-index-preserved : goal.loop-index-preserved
+loop-index-preserved c =
+    let test = c.loop-index-test.true in
+    let few = c.requires.few in
+    let k = c.loop-index.index in
+    let fr = c.args.frame.now in
+    let callee = c.args.callee.now in
+    let args = c.args.arguments.now in
+    let places = c.args.places.now in
+    let less : k < length args = omega arith in
+    let none = operands.Constant 0 in
+    emitted c.loop-index.code.items c.emit_loaded.new.code.items _ _ (late_code fr callee places (map operand_of (drop (k + 1) args)) (drop (k + 1) places)) (late_code fr callee places (map operand_of (drop k args)) (drop k places))
+    c.in_ok-emit_loaded.ensures
+    (late-step fr callee places args places k (get_or args k none) _ c.goes_at_once-direct.result (drop-next args k none less) (drop-next places k _ test) c.goes_at_once-direct.ensures)
+    c.loop-index.invariant
+
+pub returns : goal.returns
+returns c =
+    let past = c.loop-index-test.false in
+    let args = map operand_of (drop c.loop-index.index c.args.arguments.now) in
+    late-done c.args.frame.now c.args.callee.now c.args.places.now args c.args.places.now c.loop-index.index c.loop-index.code.items _ past c.loop-index.invariant

@@ -1,5 +1,0 @@
-use Rattle.c_grammar.proofs.Completion.{goes_true}
-use Rattle.c_grammar.proofs.law.goes_true.Goals as goal
-
-pub returns : goal.returns
-returns c = goes_true

@@ -1,5 +1,0 @@
-use Rattle.c_grammar.proofs.ReadUnit.{read_unit}
-use Rattle.c_grammar.proofs.law.reads_back.Goals as goal
-
-pub returns : goal.returns
-returns c = read_unit

@@ -1,5 +1,0 @@
-use Rattle.c_grammar.proofs.SoundSteps.{read_sound}
-use Rattle.c_grammar.proofs.law.reads_true.Goals as goal
-
-pub returns : goal.returns
-returns c = read_sound

@@ -1,5 +1,0 @@
-use Rattle.c_grammar.proofs.Laws.{stops_true}
-use Rattle.c_grammar.proofs.law.stops_true.Goals as goal
-
-pub returns : goal.returns
-returns c = stops_true

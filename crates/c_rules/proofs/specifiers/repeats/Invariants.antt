@@ -1,6 +1,0 @@
-use Rattle.std.proofs.Common.{◌≡◌, drop}
-use Rattle.c_rules.specs.Specifiers.{repeats}
-use Rattle.c_rules.proofs.specifiers.repeats.Given as goal
-
-abbrev pub invariant-loop-i : goal.invariant-loop-i
-invariant-loop-i l = repeats l.specifiers ≡ repeats (drop l.i l.specifiers)

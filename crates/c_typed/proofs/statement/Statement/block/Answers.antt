@@ -1,5 +1,0 @@
-use Rattle.c_typed.proofs.Rows.{block_view}
-use Rattle.c_typed.proofs.statement.Statement.block.Goals as goal
-
-pub returns : goal.returns
-returns c = block_view c.args.items c.args.at

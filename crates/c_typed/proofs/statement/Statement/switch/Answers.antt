@@ -1,5 +1,0 @@
-use Rattle.c_typed.proofs.Rows.{switch_view}
-use Rattle.c_typed.proofs.statement.Statement.switch.Goals as goal
-
-pub returns : goal.returns
-returns c = switch_view c.args.test c.args.items c.args.at

@@ -1,0 +1,55 @@
+// What is claimed of laid code.
+ghost use Rattle.claims_definition.specs.Laws.{
+  AccessesAreListed,
+  AccessesHaveLines,
+  ClaimsAreFew,
+  ClaimsAreSound,
+  LoopsAreClaimed,
+  MarksHavePlaces,
+  PlacesAreApart,
+  RangesHold,
+};
+
+/// None of the claims is bad by itself: exits, lines of regions and loops stand in the order of their
+/// addresses, each at a multiple of 4.
+pub fn claims_are_sound()
+    ensures { ClaimsAreSound }
+{}
+
+/// Each load and store lies in a line that has exactly the regions of the arrays that it may touch, or
+/// RAM alone where it touches a frame; there are no more lines than loads and stores.
+pub fn accesses_have_lines()
+    ensures { AccessesHaveLines }
+{}
+
+/// The loop claims are those of the loops of the program, each with its number and bounds.
+pub fn loops_are_claimed()
+    ensures { LoopsAreClaimed }
+{}
+
+/// The places of a mark are where its blocks begin, in the order of their addresses.
+pub fn marks_have_places()
+    ensures { MarksHavePlaces }
+{}
+
+/// No two marks share an address.
+pub fn places_are_apart()
+    ensures { PlacesAreApart }
+{}
+
+/// The ranges of functions ascend and share no address; each begins with its function's first block, and
+/// the start code alone has no name.
+pub fn ranges_hold()
+    ensures { RangesHold }
+{}
+
+/// There are no more exits and no more lines of regions than instructions, and no more loop claims than
+/// loops.
+pub fn claims_are_few()
+    ensures { ClaimsAreFew }
+{}
+
+/// Whatever an item of a block may access is among the accesses, at the item's address.
+pub fn accesses_are_listed()
+    ensures { AccessesAreListed }
+{}

@@ -1,5 +1,0 @@
-use Rattle.code_items.proofs.MoveLemmas.{keeps_promises}
-use Rattle.code_items.proofs.laws.blocks_keep_promises.Goals as goal
-
-pub returns : goal.returns
-returns c = keeps_promises

@@ -1,5 +1,0 @@
-use Rattle.code_items.proofs.PlacedLemmas.{items_stand}
-use Rattle.code_items.proofs.laws.items_stand.Goals as goal
-
-pub returns : goal.returns
-returns c = λ p code f a xs h e. items_stand code p f a xs h e

@@ -1,7 +1,0 @@
-use Rattle.std.proofs.Common.{subst}
-use Rattle.rv_core.specs.Images.{AreLoadable}
-use Rattle.code_steps.proofs.StepLemmas.{steps_leave}
-use Rattle.code_steps.proofs.steps_leave.Goals as goal
-
-pub returns : goal.returns
-returns c = steps_leave c.args.image.now (subst AreLoadable c.segments.ensures.value c.segments.ensures.valid)

@@ -1,5 +1,0 @@
-use Rattle.code_writing.proofs.FormLemmas.{forms-keep}
-use Rattle.code_writing.proofs.laws.forms_keep.Goals as goal
-
-pub returns : goal.returns
-returns c = forms-keep

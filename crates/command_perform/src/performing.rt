@@ -1,0 +1,55 @@
+// A command from its words to its status.
+ghost use Rattle.std.specs.Prelude.{◌≡◌, map, string_bytes, MatchResult};
+ghost use Rattle.command_perform.specs.Words.{asked_by};
+ghost use Rattle.command_perform.specs.Asked.{command_of};
+ghost use Rattle.command_perform.specs.Outputs.{outputs_of};
+ghost use Rattle.command_perform.specs.Gathering.{OnlyRead};
+ghost use Rattle.command_perform.specs.Ends.{IsEnd, MakesIn, Fails, EndsWith};
+
+use crate::finish::finish;
+use crate::gather::gather;
+use crate::make::{Made, make};
+use crate::status_lines::report_status;
+use crate::words::{Command, read_command};
+use promise_compiler::Compiler;
+use std::alloc::Global;
+use wcc_base::{Sink, Status, Store};
+
+// Reads the files of a command, and makes of them what it asks.
+fn work<'a, C: Compiler, S: Store>(
+    compiler: &C,
+    alloc: Global,
+    store: &mut S,
+    command: Command<'a>,
+) -> Result<Made<'a>, Status>
+    ensures made { MatchResult result
+        (λ m. IsEnd m.status × MakesIn (command_of command.entry) (S.state store.old).files (outputs_of m))
+        (λ s. Fails (command_of command.entry) (S.state store.old) (S.state store.new) s) }
+    ensures reads { OnlyRead (S.state store.old) (S.state store.new) }
+{
+    match gather(alloc, store, command) {
+        Ok(contents) => make(compiler, alloc, command, contents),
+        Err(status) => Err(status),
+    }
+}
+
+/// Does what the words ask, by this compiler where something is compiled, and prints how it ended. The words come without the
+/// program's name.
+pub fn perform<C: Compiler, S: Store, O: Sink>(
+    compiler: &C,
+    alloc: Global,
+    words: &[String],
+    store: &mut S,
+    out: &mut O,
+) -> Status
+    ensures { EndsWith (asked_by (map string_bytes words.now)) (S.state store.old) (S.state store.new) (O.state out.old) (O.state out.new) result }
+{
+    match read_command(alloc, words) {
+        Ok(Some(command)) => {
+            let made = work(compiler, alloc, store, command);
+            finish(store, out, made)
+        }
+        Ok(None) => report_status(out, Status::Usage),
+        Err(_) => report_status(out, Status::Memory),
+    }
+}

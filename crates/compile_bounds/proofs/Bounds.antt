@@ -1,0 +1,74 @@
+-- The flow system of what is made of a source, and the search for its greatest flow.
+use Rattle.std.proofs.Common.{◌≡◌, ℕ, List, sym, subst}
+use Rattle.rv_core.specs.declared.costs.Costs.{Costs}
+use Rattle.rv_core.specs.Images.{Image}
+use Rattle.rv_core.specs.Table.{table_of}
+use Rattle.code_flow_system.specs.Claims.{Claims}
+use Rattle.code_flow_system.specs.Systems.{IsSystemOf, System}
+use Rattle.code_flow.specs.CodeFaults.{IsFault}
+use Rattle.code_flow.specs.declared.finding.CodeFault.{CodeFault}
+use Rattle.code_flow.specs.declared.finding.CodeFault.TheVariants.{Memory}
+use Rattle.facts_definitions.specs.declared.facts.Facts.{Facts}
+use Rattle.facts_front.specs.Fronts.{IsSource}
+use Rattle.types_tree.specs.Tree as c
+use Rattle.plan_checked.proofs.Sources.{checked}
+use Rattle.high_ir.specs.Tree.{Program}
+use Rattle.high_pass.specs.Listing.{LoopEntry, listing_of}
+use Rattle.low_ir.specs.Code.{Low}
+use Rattle.low_ir.specs.Placings.{placed_of}
+use Rattle.low_ir.specs.Programs.{low_of}
+use Rattle.low_layout.specs.declared.laying.Laid as lays
+use Rattle.claims_definition.specs.Listed.{Laid, claims_of}
+use Rattle.claims_image.specs.Images.{HasClaims, laid_of}
+use Rattle.layout_law.specs.Kept.{IsLight}
+use Rattle.path_search.specs.Conditions.{CanBound}
+use Rattle.compile_claims.specs.Laws.{under}
+use Rattle.compile_claims.specs.Named.{named}
+use Rattle.compile_claims.proofs.Bounds.{bound_same}
+use Rattle.compile_claims.proofs.Systems.{system_same}
+use Rattle.compile_image.specs.declared.stages.Made.{Made}
+use Rattle.compile_image.specs.Made.{IsInMemory, IsMade}
+use Rattle.compile_sizes.specs.Limits.{nothing}
+use Rattle.compile_turns.proofs.Light.{source_light}
+use Rattle.compile_turns.proofs.Whole.{all_kept}
+use Rattle.compile_bounds.proofs.Faults.{only_memory}
+
+-- of a program in memory, whatever its loops are called
+module _ (p : Program) (y : lays.Laid) (h : IsInMemory p y) (es : List LoopEntry) where
+  abbrev low : Low
+  low = low_of h.code.low
+
+  abbrev laid : Laid
+  laid = laid_of nothing (placed_of h.code)
+
+  abbrev claims : Claims
+  claims = claims_of laid
+
+  has_claims : HasClaims laid y.image
+  has_claims = subst (λ (i : Image). HasClaims laid i) (sym h.laid.image) h.keeps_low.claims
+
+  pub has_system : (fault : CodeFault) → IsFault y.image (named es y.claimed.claims) fault → fault ≡ Memory
+  has_system fault is = only_memory laid y.image has_claims es fault (subst (λ (c : Claims). IsFault y.image (named es c) fault) h.laid.claimed.claims is)
+
+  can_bound : IsLight low → (c : Costs) (s : System) → IsSystemOf y.image (named es y.claimed.claims) s → CanBound (table_of c) s y.claimed.shapes.items y.lists.spans.items
+  can_bound light c s is =
+      let shapes = y.claimed.shapes.items in
+      let own = subst (λ (k : Claims). IsSystemOf y.image (named es k) s) h.laid.claimed.claims is in
+      let plain = subst (λ (i : Image). IsSystemOf i claims (under claims s)) h.laid.image (system_same es y.image claims s own) in
+      let can = h.keeps_low.bounded c (under claims s) shapes plain h.laid.claimed.shapes light in
+      bound_same es (table_of c) claims s shapes y.lists.spans.items own.same_claims (subst (λ ps. CanBound (table_of c) (under claims s) shapes ps) (sym h.laid.lists.spans) can)
+
+module _ (source : List ℕ) (names : List (List ℕ)) (program : c.Program) (facts : Facts) (m : Made) (is : IsSource source names program facts) (made : IsMade names program facts m) where
+  light : IsLight (low_of made.in_memory.code.low)
+  light =
+      let low = low_of made.in_memory.code.low in
+      let are = (checked source names program facts is).facts_are in
+      let kept = made.keeps_source in
+      let lowered = made.in_memory.keeps_program in
+      record {
+        turns = all_kept program names facts made.program (listing_of m.copies) low are kept.carries kept.is_high lowered;
+        light = source_light program names facts made.program low are kept.weight lowered;
+      }
+
+  pub made_bounded : (c : Costs) (s : System) → IsSystemOf m.laid.image (named (listing_of m.copies).loops m.laid.claimed.claims) s → CanBound (table_of c) s m.laid.claimed.shapes.items m.laid.lists.spans.items
+  made_bounded c s h = can_bound made.program m.laid made.in_memory (listing_of m.copies).loops light c s h

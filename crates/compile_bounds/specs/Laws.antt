@@ -1,0 +1,39 @@
+-- The claims on what is made of a source, its flow system, and the search for its greatest flow.
+use Rattle.std.specs.Prelude.{◌≡◌, ℕ, ◌<◌, List, [], All}
+use Rattle.rv_core.specs.declared.costs.Costs.{Costs}
+use Rattle.rv_core.specs.Table.{table_of}
+use Rattle.code_flow_system.specs.Systems.{System, IsSystemOf}
+use Rattle.code_flow.specs.CodeFaults.{IsFault}
+use Rattle.code_flow.specs.declared.finding.CodeFault.{CodeFault}
+use Rattle.code_flow.specs.declared.finding.CodeFault.TheVariants.{Memory}
+use Rattle.facts_definitions.specs.declared.facts.Facts.{Facts}
+use Rattle.facts_front.specs.Fronts.{IsSource}
+use Rattle.types_tree.specs.Tree.{Program}
+use Rattle.high_ir.specs.declared.copies.LoopCopies.{LoopCopies}
+use Rattle.high_pass.specs.Listing.{listing_of}
+use Rattle.path_search.specs.Conditions.{CanBound}
+use Rattle.compile_claims.specs.Named.{named}
+use Rattle.compile_image.specs.declared.stages.Made.{Made}
+use Rattle.compile_image.specs.Made.{IsMade}
+
+-- loops have numbers below how many there are, in the claims, in their copies and in the source; there are no restrictions
+pub record CanBeNamed (m : Made) : Type 0 where
+  pub there : All (λ c. c.source < m.loops) m.laid.claimed.claims.loops
+  pub listed : All (λ e. All (λ l. l.id < m.loops) e.new) (listing_of m.copies).loops
+  pub old : All (λ (e : LoopCopies). e.old < m.loops) m.copies.loops.items
+  pub facts : m.laid.claimed.claims.facts ≡ []
+
+-- claims can be named by the loops of the source
+abbrev pub MadeCanBeNamed : Type 0
+MadeCanBeNamed = (source : List ℕ) (names : List (List ℕ)) (program : Program) (facts : Facts) (m : Made) → IsSource source names program facts → IsMade names program facts m → CanBeNamed m
+
+-- nothing but memory can be wanting for the flow system: no claim is bad, and what is reached is code
+abbrev pub MadeHaveSystems : Type 0
+MadeHaveSystems =
+    (source : List ℕ) (names : List (List ℕ)) (program : Program) (facts : Facts) (m : Made) (fault : CodeFault) → IsSource source names program facts → IsMade names program facts m → IsFault m.laid.image (named (listing_of m.copies).loops m.laid.claimed.claims) fault → fault ≡ Memory
+
+-- the search can be made
+abbrev pub MadeCanBeBounded : Type 0
+MadeCanBeBounded =
+    (source : List ℕ) (names : List (List ℕ)) (program : Program) (facts : Facts) (m : Made) (c : Costs) (s : System) → IsSource source names program facts → IsMade names program facts m → IsSystemOf m.laid.image (named (listing_of m.copies).loops m.laid.claimed.claims) s
+    → CanBound (table_of c) s m.laid.claimed.shapes.items m.laid.lists.spans.items

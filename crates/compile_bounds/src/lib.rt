@@ -1,0 +1,25 @@
+//! The claims on what is made of a source, its flow system, and the search for its greatest flow.
+//!
+//! Proved, by calls with empty bodies: [`made_can_be_named`], that the loops of its claims can be named by those of the source;
+//! [`made_have_systems`], that under such claims nothing but memory can be wanting for its flow system: no claim is bad, and what
+//! is reached is code; and [`made_can_be_bounded`], that the greatest flow of that system can be searched for.
+//!
+//! The crate knows no reports, and not how an image is made.
+#![tactic(auto)]
+
+ghost use Rattle.compile_bounds.specs.Laws.{MadeCanBeBounded, MadeCanBeNamed, MadeHaveSystems};
+
+/// The loops of the claims can be named by those of the source.
+pub fn made_can_be_named()
+    ensures { MadeCanBeNamed }
+{}
+
+/// Nothing but memory can be wanting for the flow system.
+pub fn made_have_systems()
+    ensures { MadeHaveSystems }
+{}
+
+/// The greatest flow can be searched for.
+pub fn made_can_be_bounded()
+    ensures { MadeCanBeBounded }
+{}

@@ -1,0 +1,37 @@
+-- The report on what a source becomes.
+use Rattle.std.specs.Prelude.{◌≡◌, ℕ, List, [], ◌++◌, map}
+use Rattle.rv_core.specs.Table.{Table}
+use Rattle.code_flow_system.specs.Certificates.{Accepts, IsInForm}
+use Rattle.code_flow_system.specs.Systems.{System, IsSystemOf}
+use Rattle.facts_definitions.specs.declared.facts.Facts.{Facts}
+use Rattle.high_pass.specs.Listing.{listing_of}
+use Rattle.path_answer.specs.declared.bounded.Kind.{Kind}
+use Rattle.path_answer.specs.declared.bounded.Kind.TheVariants.{Greatest, Empty, Wide, Spent}
+use Rattle.path_search.specs.Kinds.{IsMarked}
+use Rattle.compile_lines.specs.CopyLines.{AreLinesOf}
+use Rattle.compile_lines.specs.Shares.{share_of}
+use Rattle.report_shares.specs.Shares.{with_sum}
+use Rattle.report_text.specs.declared.entries.Share.{Share}
+use Rattle.report_text.specs.Reports.{Report}
+use Rattle.compile_claims.specs.Named.{named}
+use Rattle.compile_image.specs.declared.stages.Made.{Made}
+
+-- a bound that a flow reaches is shared among the ranges of code
+abbrev pub AreShared : Kind → (with_parts : List Share) → List Share → Type 0
+AreShared Greatest with_parts shares = shares ≡ with_parts
+AreShared Empty with_parts shares = shares ≡ []
+AreShared (Wide pivot) with_parts shares = shares ≡ []
+AreShared (Spent columns pivots) with_parts shares = shares ≡ []
+
+pub record IsReported (costs : Table) (names : List (List ℕ)) (facts : Facts) (m : Made) (r : Report) : Type 0 where
+  pub version : r.version ≡ 2
+  pub lines : AreLinesOf names m.laid.lists.places.items (facts.functions ++ facts.markers) (listing_of m.copies).marks r.names
+  pub claims : r.claims ≡ named (listing_of m.copies).loops m.laid.claimed.claims
+  pub columns : r.columns ≡ []
+  -- the bound of the image's flow system under these claims
+  pub system : System
+  pub is_system : IsSystemOf m.laid.image r.claims system
+  pub form : IsInForm r.claims r.cert
+  pub accepted : Accepts costs system r.cert
+  pub marked : IsMarked r.kind r.cert.mark
+  pub shared : AreShared r.kind (map (λ s. with_sum costs system r.cert.flow.parts s) (map (share_of names facts.functions) m.laid.lists.ranges.items)) r.shares

@@ -1,0 +1,118 @@
+-- The machine that runs what is made of a source does what is reported.
+use Rattle.std.proofs.Common.{◌≡◌, ℕ, ℤ, pos, List, [], ◌++◌, refl, sym, ap, ◌∙◌, subst}
+use Rattle.std.specs.Prelude.{slice_index_or}
+use Rattle.std.proofs.lemmas.Option.{get_or_from_slice_get, slice_get_within}
+use Rattle.frac128.specs.Terms.{int_sum_by}
+use Rattle.frac128.proofs.TermsLemmas.{int_sum_by-same}
+use Rattle.rv_core.specs.Images.{Image}
+use Rattle.rv_core.specs.Runs.{Run, mrun, setup}
+use Rattle.rv_core.specs.Table.{Table}
+use Rattle.code_flow_system.specs.Claims.{Claims}
+use Rattle.code_flow_system.specs.KeptRuns.{KeepsClaims, visit_count}
+use Rattle.code_flow_system.specs.Systems.{IsSystemOf}
+use Rattle.facts_definitions.specs.declared.facts.Facts.{Facts}
+use Rattle.facts_front.specs.Fronts.{IsSource}
+use Rattle.types_tree.specs.Tree.{Program}
+use Rattle.high_pass.specs.Listing.{Listing, LoopEntry, MarkEntry, listing_of}
+use Rattle.high_pass.proofs.Entries.{number_at}
+use Rattle.plan_carried.specs.Sources.{source_marks}
+use Rattle.low_ir.specs.Code.{Low}
+use Rattle.low_ir.specs.Places.{Placed, Placing}
+use Rattle.low_ir.specs.Placings.{placed_of, placings_of}
+use Rattle.low_ir.specs.Programs.{low_of}
+use Rattle.image_definition.specs.Images.{image_in}
+use Rattle.simulation_kept.specs.Laws.{run_of}
+use Rattle.lower_program.specs.Kept.{IsWhole}
+use Rattle.claims_definition.specs.Listed.{claims_of}
+use Rattle.claims_image.specs.Images.{laid_of}
+use Rattle.compile_image_law.specs.Laws.{EndsAsMain, IsCompiled, passed}
+use Rattle.compile_image_law.proofs.Sources.{source_shows}
+use Rattle.compile_words.proofs.Sources.{source_is_whole}
+use Rattle.compile_sizes.specs.Limits.{nothing}
+use Rattle.compile_claims.specs.Laws.{under}
+use Rattle.compile_claims.specs.Named.{named}
+use Rattle.compile_claims.proofs.Bounds.{run_keeps}
+use Rattle.compile_claims.proofs.Certificates.{accepted_same}
+use Rattle.compile_claims.proofs.Systems.{system_same}
+use Rattle.promise_report.specs.Runs.{RunsAs, RunsAsSource, visits_at}
+use Rattle.report_text.specs.declared.entries.CopyLine.{CopyLine}
+use Rattle.report_text.specs.Reports.{Report}
+use Rattle.compile_lines.specs.CopyLines.{places_at}
+use Rattle.compile_image.specs.declared.stages.Made.{Made}
+use Rattle.compile_image.specs.Made.{IsInMemory, IsMade}
+use Rattle.compile_reports.specs.Reported.{IsReported}
+use Rattle.compile_runs.proofs.Counting.{IsSummed, lines_summed}
+use Rattle.compile_runs.proofs.Places.{places_same}
+
+module _ (source : List ℕ) (names : List (List ℕ)) (program : Program) (facts : Facts) (m : Made) (t : Table) (r : Report) (is : IsSource source names program facts) (made : IsMade names program facts m) (reported : IsReported t names facts m r) where
+  abbrev listing : Listing
+  listing = listing_of m.copies
+
+  abbrev loops : List LoopEntry
+  loops = listing.loops
+
+  abbrev memory : IsInMemory made.program m.laid
+  memory = made.in_memory
+
+  abbrev low : Low
+  low = low_of memory.code.low
+
+  abbrev placings : List Placing
+  placings = placings_of memory.code
+
+  abbrev over : Placed
+  over = placed_of memory.code
+
+  abbrev image : Image
+  image = image_in nothing over
+
+  -- the claims on the image, by the loops of the program
+  abbrev claims : Claims
+  claims = claims_of (laid_of nothing over)
+
+  claims_are : r.claims ≡ named loops claims
+  claims_are = reported.claims ∙ ap (named loops) memory.laid.claimed.claims
+
+  system_is : IsSystemOf image (named loops claims) reported.system
+  system_is = subst (λ c. IsSystemOf image c reported.system) claims_are (subst (λ i. IsSystemOf i r.claims reported.system) memory.laid.image reported.is_system)
+
+  compiled : IsCompiled made.program low nothing placings (under claims reported.system) t r.cert
+  compiled = record {
+    whole = subst IsWhole (sym made.planned) (source_is_whole source names program facts is);
+    keeps_program = memory.keeps_program;
+    keeps_low = memory.keeps_low;
+    system = system_same loops image claims reported.system system_is;
+    scale = reported.form.scale.0;
+    accepted = accepted_same loops t claims reported.system r.cert system_is.same_claims reported.accepted;
+  }
+
+  module _ (input : List ℕ) (output : List ℕ) (value : ℤ) (counts : List ℕ) (n : ℕ) (h : EndsAsMain listing output value counts nothing over t input r.cert.cycles n) where
+    abbrev run : Run
+    run = run_of nothing over t input n
+
+    -- each line has the counts of a mark
+    line_counts : (k : ℕ) (c : CopyLine) → IsSummed names m.laid.lists.places.items (visit_count run.visits) listing.marks k c → visits_at run.visits c ≡ pos (slice_index_or counts k 0)
+    line_counts k c summed =
+        let e = summed.entry in
+        let past : MarkEntry = record { old = k; new = [] } in
+        let number : e.old ≡ k = ap (λ (x : MarkEntry). x.old) (sym (get_or_from_slice_get listing.marks k e past summed.there)) ∙ number_at (λ (x : MarkEntry). x.old) listing.marks (source_marks program facts) k past made.keeps_source.carries.marks refl in
+        let there : slice_index_or listing.marks k e ≡ e = get_or_from_slice_get listing.marks k e e summed.there in
+        let counted = subst (λ (x : MarkEntry). int_sum_by (passed nothing over run) x.new ≡ pos (slice_index_or counts x.old 0)) there (h.counted k e (slice_get_within listing.marks k e summed.there)) in
+        summed.sum
+        ∙ int_sum_by-same (λ mark. int_sum_by (visit_count run.visits) (places_at m.laid.lists.places.items mark)) (passed nothing over run) e.new (λ mark. ap (int_sum_by (visit_count run.visits)) (places_same made.program m.laid memory mark))
+        ∙ counted
+        ∙ ap (λ i. pos (slice_index_or counts i 0)) number
+
+    as_reported : RunsAs r output value counts run
+    as_reported = record {
+      ends = h.ending;
+      prints = h.written;
+      cycles = h.within;
+      keeps = subst (λ c. KeepsClaims c run) (sym claims_are) (run_keeps loops claims run h.keeps);
+      counted = λ k c there. line_counts k c (lines_summed names m.laid.lists.places.items (visit_count run.visits) (facts.functions ++ facts.markers) listing.marks r.names reported.lines k c there);
+    }
+
+  pub runs_as_source : RunsAsSource program names facts t m.laid.image r
+  runs_as_source input bytes output value counts means =
+      let ends = source_shows program names facts made.program listing low nothing placings (under claims reported.system) t r.cert made.keeps_source.carries compiled input bytes output value counts means in
+      (ends.0, subst (λ i. RunsAs r output value counts (mrun (setup i t input) ends.0)) (sym memory.laid.image) (as_reported input output value counts ends.0 ends.1))

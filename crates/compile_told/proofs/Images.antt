@@ -1,0 +1,79 @@
+-- The image of a source: nothing lies in its scratchpad, and its loads and stores lie in lines.
+use Rattle.std.proofs.Common.{◌≡◌, ℕ, List, sym, ap, ◌∙◌, subst, true, Contains, All}
+use Rattle.std.specs.Prelude.{slice_get}
+use Rattle.std.proofs.lemmas.List.Elements.{All-contains_itself, All-weaker}
+use Rattle.rv_core.specs.Images.{Image}
+use Rattle.rv_core.specs.Rows.{row_of}
+use Rattle.rv_core.specs.Table.{Table, accesses}
+use Rattle.code_flow_system.specs.declared.claims.Within.{Within}
+use Rattle.code_flow_system.specs.declared.moves.Move.{Move}
+use Rattle.code_flow_system.specs.Claims.{Claims}
+use Rattle.code_flow_system.specs.Systems.{IsSystemOf, System}
+use Rattle.facts_definitions.specs.declared.facts.Facts.{Facts}
+use Rattle.facts_front.specs.Fronts.{IsSource}
+use Rattle.types_tree.specs.Tree.{Program}
+use Rattle.plan_checked.proofs.Sources.{checked}
+use Rattle.plan_elements.specs.Elements.{HasElements as HaveSome}
+use Rattle.plan_elements.proofs.Programs.{lowered_some, plan_some}
+use Rattle.high_pass.specs.Listing.{LoopEntry, listing_of}
+use Rattle.low_ir.specs.Places.{Placed, assignment, placed}
+use Rattle.low_ir.specs.Placings.{placings_of}
+use Rattle.low_ir.specs.Programs.{low_of}
+use Rattle.image_definition.specs.Images.{image_in}
+use Rattle.claims_definition.specs.Listed.{Laid, claims_of, regions_of}
+use Rattle.claims_image.specs.Images.{laid_of}
+use Rattle.layout_sizes.specs.Items.{HasElements}
+use Rattle.report_text.specs.Reports.{Report}
+use Rattle.compile_claims.specs.Laws.{under}
+use Rattle.compile_claims.specs.Named.{named}
+use Rattle.compile_claims.proofs.Systems.{system_same}
+use Rattle.compile_image.specs.declared.stages.Made.{Made}
+use Rattle.compile_image.specs.Made.{IsMade}
+use Rattle.promise_report.specs.Compiled.{AreLined, IsLined, scratchpad_taken}
+use Rattle.compile_sizes.specs.Limits.{nothing}
+use Rattle.compile_reports.specs.Reported.{IsReported}
+use Rattle.compile_told.proofs.Lined.{move_lined}
+use Rattle.compile_told.proofs.Unplaced.{moves_none, unplaced}
+
+module _ (names : List (List ℕ)) (program : Program) (facts : Facts) (m : Made) (made : IsMade names program facts m) where
+  abbrev over : Placed
+  over = placed (assignment (placings_of made.in_memory.code)) (low_of made.in_memory.code.low)
+
+  abbrev own : Laid
+  own = laid_of nothing over
+
+  image_is : m.laid.image ≡ image_in nothing over
+  image_is = made.in_memory.laid.image
+
+  pub made_unplaced : scratchpad_taken m.laid.image.segments ≡ 0
+  made_unplaced = subst (λ (i : Image). scratchpad_taken i.segments ≡ 0) (sym image_is) (unplaced over (made.in_memory.keeps_low.small (moves_none over)))
+
+  module _ (source : List ℕ) (is : IsSource source names program facts) where
+    elements : HasElements over
+    elements o x e =
+        let some : HaveSome made.program = subst HaveSome (sym made.planned) (plan_some names program facts (checked source names program facts is)) in
+        lowered_some made.program.objects some o x (sym (ap (λ l. slice_get l o) made.in_memory.keeps_program.objects) ∙ e)
+
+    module _ (t : Table) (r : Report) (s : System) (reported : IsReported t names facts m r) (system : IsSystemOf m.laid.image r.claims s) where
+      abbrev es : List LoopEntry
+      es = (listing_of m.copies).loops
+
+      claims_are : r.claims ≡ named es (claims_of own)
+      claims_are = reported.claims ∙ ap (named es) made.in_memory.laid.claimed.claims
+
+      -- under the claims on the image, whose loops have numbers of their own
+      own_system : IsSystemOf (image_in nothing over) (claims_of own) (under (claims_of own) s)
+      own_system =
+          system_same es (image_in nothing over) (claims_of own) s
+          (subst (λ (c : Claims). IsSystemOf (image_in nothing over) c s) claims_are (subst (λ (i : Image). IsSystemOf i r.claims s) image_is system))
+
+      pub reported_lined : AreLined m.laid.image r s
+      reported_lined =
+          let kept = made.in_memory.keeps_low in
+          let filled = kept.filled (moves_none over) elements in
+          let Lined : Image → List Within → Move → Type 0 = λ image lines move. accesses (row_of move.instr.op).class ≡ true → IsLined image lines move in
+          let each : All (Lined (image_in nothing over) (regions_of own)) s.moves =
+          All-weaker (Contains s.moves) (Lined (image_in nothing over) (regions_of own)) (λ move there loads. move_lined own (image_in nothing over) kept.claims (under (claims_of own) s) own_system kept.listed kept.lines filled move there loads) s.moves
+          (All-contains_itself s.moves) in
+          subst (λ (i : Image). All (Lined i r.claims.regions) s.moves) (sym image_is)
+          (subst (λ (lines : List Within). All (Lined (image_in nothing over) lines) s.moves) (sym (ap (λ (c : Claims). c.regions) claims_are)) each)

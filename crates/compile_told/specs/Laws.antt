@@ -1,0 +1,29 @@
+-- What is reported of a source tells its facts, and where the accesses of the image go.
+use Rattle.std.specs.Prelude.{◌≡◌, ℕ, List, []}
+use Rattle.rv_core.specs.Table.{Table}
+use Rattle.code_flow_system.specs.Systems.{System, IsSystemOf}
+use Rattle.report_text.specs.Reports.{Report}
+use Rattle.promise_report.specs.Compiled.{AreLined, scratchpad_taken}
+use Rattle.promise_report.specs.Facts.{TellsFacts}
+use Rattle.facts_definitions.specs.declared.facts.Facts.{Facts}
+use Rattle.facts_front.specs.Fronts.{IsSource}
+use Rattle.types_tree.specs.Tree.{Program}
+use Rattle.compile_image.specs.declared.stages.Made.{Made}
+use Rattle.compile_image.specs.Made.{IsMade}
+use Rattle.compile_reports.specs.Reported.{IsReported}
+
+-- a source without restrictions is told in whole
+abbrev pub ReportedTellFacts : Type 0
+ReportedTellFacts =
+    (source : List ℕ) (names : List (List ℕ)) (program : Program) (facts : Facts) (m : Made) (t : Table) (r : Report) → facts.restrictions ≡ [] → IsSource source names program facts → IsMade names program facts m → IsReported t names facts m r
+    → TellsFacts program names facts r
+
+-- each load and store lies in a line of regions, in which the image has bytes
+abbrev pub ReportedAreLined : Type 0
+ReportedAreLined =
+    (source : List ℕ) (names : List (List ℕ)) (program : Program) (facts : Facts) (m : Made) (t : Table) (r : Report) (s : System) → IsSource source names program facts → IsMade names program facts m → IsReported t names facts m r → IsSystemOf m.laid.image r.claims s
+    → AreLined m.laid.image r s
+
+-- nothing lies in the scratchpad
+abbrev pub MadeAreUnplaced : Type 0
+MadeAreUnplaced = (source : List ℕ) (names : List (List ℕ)) (program : Program) (facts : Facts) (m : Made) → IsSource source names program facts → IsMade names program facts m → scratchpad_taken m.laid.image.segments ≡ 0

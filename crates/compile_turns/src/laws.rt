@@ -1,0 +1,32 @@
+// The laws of turns.
+ghost use Rattle.compile_turns.specs.Laws.{AllAreLight, AllTurn, CarriedTurn, LoweredTurn, PlacedTurn, SourcesTurn};
+
+/// Each loop of a source has bounds that can be kept.
+pub fn sources_turn()
+    ensures { SourcesTurn }
+{}
+
+/// So does each loop of a program in the high form that carries on such loops.
+pub fn carried_turn()
+    ensures { CarriedTurn }
+{}
+
+/// And of its low program.
+pub fn lowered_turn()
+    ensures { LoweredTurn }
+{}
+
+/// And of that one over the places of an assignment.
+pub fn placed_turn()
+    ensures { PlacedTurn }
+{}
+
+/// From a source with its facts to a low program.
+pub fn all_turn()
+    ensures { AllTurn }
+{}
+
+/// What its facts allow a source to execute leaves room for the numbers of a search.
+pub fn all_are_light()
+    ensures { AllAreLight }
+{}

@@ -1,5 +1,0 @@
-use Rattle.data_segments.proofs.SegmentLemmas.{loadable}
-use Rattle.data_segments.proofs.laws.segments_are_loadable.Goals as goal
-
-pub returns : goal.returns
-returns c = λ d flash scratchpad fits. loadable d flash scratchpad fits

@@ -1,6 +1,0 @@
-use Rattle.c_typed.specs.View.{program_of}
-use Rattle.flow_most.proofs.Table.{IsFilling}
-use Rattle.flow_most.proofs.functions.fill.Given as goal
-
-abbrev pub invariant-loop-f : goal.invariant-loop-f
-invariant-loop-f l = IsFilling (program_of l.program) l.bounds l.ranks l.rank l.f l.most

@@ -1,6 +1,0 @@
-use Rattle.std.proofs.Common.{◌≡◌, ◌+◌, drop}
-use Rattle.c_facts.specs.FlowFacts.{id_in}
-use Rattle.flow_pragma.proofs.names.index.Given as goal
-
-abbrev pub invariant-loop-i : goal.invariant-loop-i
-invariant-loop-i l = id_in l.names l.name ≡ l.i + id_in (drop l.i l.names) l.name

@@ -1,6 +1,0 @@
-use Rattle.std.proofs.Common.{◌≡◌, drop}
-use Rattle.c_facts.specs.PragmaTexts.{runs}
-use Rattle.flow_pragma.proofs.runs.behind_blanks.Given as goal
-
-abbrev pub invariant-loop-i : goal.invariant-loop-i
-invariant-loop-i l = runs l.text ≡ runs (drop l.i l.text)

@@ -1,8 +1,0 @@
-use Rattle.flow_system.proofs.DualityLemmas.{bounds_totals, reaches_potential}
-use Rattle.flow_system.proofs.laws.duality_of_prices.Goals as goal
-
-pub returns : goal.returns
-returns c = record {
-  bound = λ d dual. bounds_totals _ d dual;
-  reached = λ d. reaches_potential _ d;
-}

@@ -1,6 +1,0 @@
--- Bounds that leave room for one start more.
-use Rattle.std.specs.Prelude.{◌≤◌}
-use Rattle.c_facts.specs.declared.facts.Bounds.{Bounds}
-
-abbrev pub Small : Bounds → Type 0
-Small b = (b.min ≤ 2147483647) × (b.max ≤ 2147483647)

@@ -1,6 +1,0 @@
-use Rattle.std.proofs.Common.{ℕ, ◌<◌}
-use Rattle.high_try.specs.Verdicts.{CountsAlike}
-use Rattle.high_try.proofs.comparing.other_count.Given as goal
-
-abbrev pub invariant-loop-number : goal.invariant-loop-number
-invariant-loop-number l = (k : ℕ) → k < l.number → CountsAlike l.trace l.marks l.counts k

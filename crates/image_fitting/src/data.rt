@@ -1,0 +1,144 @@
+// The bytes that frames, arrays and placed code take at most.
+ghost use Rattle.std.specs.Prelude.{◌≡◌, ◌*◌, map, slice_index_or, false};
+ghost use Rattle.low_ir.specs.Effects.{can_store};
+ghost use Rattle.low_ir.specs.Places.{place_functions};
+ghost use Rattle.low_ir.specs.Placings.{assignment_of};
+ghost use Rattle.low_ir.specs.Room.{function_room};
+ghost use Rattle.low_ir.specs.View.{function_of, object_of};
+ghost use Rattle.image_rows.specs.Rows.{room_of};
+ghost use Rattle.image_sizes.specs.Sizes.{arrays_placed, constants_room, frames_room, functions_placed, variables_room};
+ghost use Rattle.image_fitting.specs.Spending.{Spends, bytes_placed};
+
+use super::code::{spend, spend_function};
+use low_ir::object::{Object, Storage};
+use low_ir::{Function, LowReg};
+
+/// Whether a placement names a function or an array; what the list doesn't reach, it doesn't.
+pub fn is_placed(placed: &[bool], number: usize) -> bool
+    ensures { result ≡ slice_index_or placed.now number false }
+{
+    match placed.get(number) {
+        Some(placed) => *placed,
+        None => false,
+    }
+}
+
+/// What an array takes, in bytes.
+pub fn object_room(object: &Object) -> u64
+    ensures { result ≡ room_of (object_of object.now) }
+{
+    (u64::from(object.kind.bytes()) * u64::from(object.length) + 3) / 4 * 4
+}
+
+fn is_variable(storage: Storage) -> bool
+    ensures { result ≡ can_store storage }
+{
+    match storage {
+        Storage::Constant => false,
+        Storage::Global => true,
+        Storage::Local => true,
+    }
+}
+
+/// Takes the room of the constant arrays.
+pub fn spend_constants(from: u64, objects: &[Object]) -> Option<u64>
+    ensures { Spends from (constants_room (map object_of objects.now)) result }
+{
+    let mut left = from;
+    for object in objects {
+        if !is_variable(object.storage) {
+            match spend(left, object_room(object)) {
+                None => return None,
+                Some(rest) => left = rest,
+            }
+        }
+    }
+    Some(left)
+}
+
+/// Takes the room of the other arrays.
+pub fn spend_variables(from: u64, objects: &[Object]) -> Option<u64>
+    ensures { Spends from (variables_room (map object_of objects.now)) result }
+{
+    let mut left = from;
+    for object in objects {
+        if is_variable(object.storage) {
+            match spend(left, object_room(object)) {
+                None => return None,
+                Some(rest) => left = rest,
+            }
+        }
+    }
+    Some(left)
+}
+
+/// Takes the room of the arrays that are placed.
+pub fn spend_arrays(from: u64, placed: &[bool], objects: &[Object]) -> Option<u64>
+    ensures { Spends from (arrays_placed placed.now 0 (map object_of objects.now)) result }
+{
+    let mut left = from;
+    for (number, object) in objects.iter().enumerate() {
+        if is_placed(placed, number) {
+            match spend(left, object_room(object)) {
+                None => return None,
+                Some(rest) => left = rest,
+            }
+        }
+    }
+    Some(left)
+}
+
+fn slots_of(code: &LowReg, function: usize) -> u32
+    ensures { result ≡ (assignment_of code.now).slots function }
+{
+    match code.placings.get(function) {
+        Some(placing) => placing.slots,
+        None => 0,
+    }
+}
+
+/// Takes the room of the frames.
+pub fn spend_frames(from: u64, code: &LowReg) -> Option<u64>
+    ensures { Spends from (frames_room (place_functions (assignment_of code.now) 0 (map function_of code.now.low.functions.items))) result }
+{
+    let mut left = from;
+    for (number, _) in code.low.functions.iter().enumerate() {
+        match spend(left, 4 * (49 + u64::from(slots_of(code, number)))) {
+            None => return None,
+            Some(rest) => left = rest,
+        }
+    }
+    Some(left)
+}
+
+/// Takes four bytes for each instruction of a function in its longest form.
+pub fn spend_bytes(from: u64, each: &Function) -> Option<u64>
+    ensures { Spends from (4 * function_room (function_of each.now)) result }
+{
+    match spend_function(from / 4, each) {
+        None => None,
+        Some(left) => Some(from - 4 * (from / 4 - left)),
+    }
+}
+
+fn spend_functions_placed(from: u64, placed: &[bool], functions: &[Function]) -> Option<u64>
+    ensures { Spends from (bytes_placed placed.now 0 (map function_of functions.now)) result }
+{
+    let mut left = from;
+    for (number, each) in functions.iter().enumerate() {
+        if is_placed(placed, number) {
+            match spend_bytes(left, each) {
+                None => return None,
+                Some(rest) => left = rest,
+            }
+        }
+    }
+    Some(left)
+}
+
+/// Takes the bytes of the functions that are placed.
+pub fn spend_placed(from: u64, placed: &[bool], code: &LowReg) -> Option<u64>
+    ensures { Spends from (functions_placed placed.now 0 (place_functions (assignment_of code.now) 0 (map function_of code.now.low.functions.items))) result }
+{
+    spend_functions_placed(from, placed, &code.low.functions)
+}

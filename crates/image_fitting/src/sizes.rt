@@ -1,0 +1,87 @@
+// The bounds of code and data.
+ghost use Rattle.std.specs.Prelude.{◌≡◌, ◌+◌, ◌^◌, ◌<◌, ◌≤◌, true, false, length, slice_index_or};
+ghost use Rattle.low_ir.specs.Placings.{placed_of};
+ghost use Rattle.low_ir.specs.Room.{room};
+ghost use Rattle.image_sizes.specs.Sizes.{HasSizes, arrays_placed, constants_room, frames_room, functions_placed, variables_room};
+
+use super::code::spend_functions;
+use super::data::{
+    is_placed, spend_arrays, spend_constants, spend_frames, spend_placed, spend_variables,
+};
+use image_memory::Placement;
+use low_ir::LowReg;
+
+fn has_code(code: &LowReg) -> bool
+    ensures whole { result ≡ true → room (placed_of code.now) ≤ 1589248 }
+    ensures exact { result ≡ false → 1589248 < room (placed_of code.now) }
+{
+    match spend_functions(1_589_248, &code.low.functions) {
+        None => false,
+        Some(_) => true,
+    }
+}
+
+fn has_constants(code: &LowReg) -> bool
+    ensures whole { result ≡ true → constants_room (placed_of code.now).objects ≤ 2 ^ 18 }
+    ensures exact { result ≡ false → 2 ^ 18 < constants_room (placed_of code.now).objects }
+{
+    match spend_constants(0x4_0000, &code.low.objects) {
+        None => false,
+        Some(_) => true,
+    }
+}
+
+fn has_variables(code: &LowReg) -> bool
+    ensures whole { result ≡ true → frames_room (placed_of code.now).functions + variables_room (placed_of code.now).objects ≤ 2 ^ 21 }
+    ensures exact { result ≡ false → 2 ^ 21 < frames_room (placed_of code.now).functions + variables_room (placed_of code.now).objects }
+{
+    match spend_frames(0x20_0000, code) {
+        None => false,
+        Some(left) => match spend_variables(left, &code.low.objects) {
+            None => false,
+            Some(_) => true,
+        },
+    }
+}
+
+fn has_placed(code: &LowReg, placement: &Placement) -> bool
+    ensures whole { result ≡ true → arrays_placed placement.now.objects 0 (placed_of code.now).objects + functions_placed placement.now.functions 0 (placed_of code.now).functions ≤ 2 ^ 16 }
+    ensures exact { result ≡ false → 2 ^ 16 < arrays_placed placement.now.objects 0 (placed_of code.now).objects + functions_placed placement.now.functions 0 (placed_of code.now).functions }
+{
+    match spend_arrays(0x1_0000, &placement.objects, &code.low.objects) {
+        None => false,
+        Some(left) => match spend_placed(left, &placement.functions, code) {
+            None => false,
+            Some(_) => true,
+        },
+    }
+}
+
+/// Whether the start code, which is the last function, is named.
+#[tactic(auto, using(crate::proofs::RoomLemmas::start_is))]
+fn is_start_placed(code: &LowReg, placement: &Placement) -> bool
+    ensures { result ≡ slice_index_or placement.now.functions (length (placed_of code.now).functions) false }
+{
+    is_placed(&placement.functions, code.low.functions.len())
+}
+
+/// Whether a program has room, with the functions and arrays in the scratchpad that the placement names.
+#[tactic(auto, using(crate::proofs::RoomLemmas::has_all, crate::proofs::RoomLemmas::no_code, crate::proofs::RoomLemmas::no_constants, crate::proofs::RoomLemmas::no_variables, crate::proofs::RoomLemmas::no_placed))]
+pub fn has_sizes(code: &LowReg, placement: &Placement) -> bool
+    ensures whole { result ≡ true → HasSizes placement.now (placed_of code.now) }
+    ensures exact { HasSizes placement.now (placed_of code.now) → result ≡ true }
+{
+    if !has_code(code) {
+        return false;
+    }
+    if !has_constants(code) {
+        return false;
+    }
+    if !has_variables(code) {
+        return false;
+    }
+    if !has_placed(code, placement) {
+        return false;
+    }
+    !is_start_placed(code, placement)
+}

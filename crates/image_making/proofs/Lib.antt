@@ -1,0 +1,2 @@
+pub mod LayingLemmas
+pub mod RegionLemmas

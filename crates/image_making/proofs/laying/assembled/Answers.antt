@@ -1,0 +1,12 @@
+use Rattle.std.proofs.Common.{ap, sym, subst}
+use Rattle.low_ir.specs.Placings.{placed_of}
+use Rattle.image_rows.specs.Rows.{HaveSizes}
+use Rattle.image_segments.specs.Segments.{Data}
+use Rattle.image_frames.specs.Frames.{frames_end}
+use Rattle.image_memory.proofs.RoomLemmas.{arrays_have_sizes}
+use Rattle.image_making.proofs.laying.assembled.Goals as goal
+
+pub placed_end-requires-clause-sizes : goal.placed_end-requires-clause-sizes
+placed_end-requires-clause-sizes c =
+    let p = placed_of c.args.code.now in
+    subst HaveSizes (sym (ap (λ (d : Data). d.objects) c.requires.segments)) (arrays_have_sizes (frames_end p) c.args.placement.now.objects p.objects c.requires.fit.memory)

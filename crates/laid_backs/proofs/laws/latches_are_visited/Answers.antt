@@ -1,5 +1,0 @@
-use Rattle.laid_backs.proofs.BackLemmas.{latch_visited}
-use Rattle.laid_backs.proofs.laws.latches_are_visited.Goals as goal
-
-pub returns : goal.returns
-returns c = λ g l main image claims s here sys loadable t input n ended f k i r. latch_visited g l main image claims s here sys loadable t input n ended f k i r

@@ -1,7 +1,0 @@
-// The law of jumps back.
-ghost use Rattle.laid_backs.specs.Laws.{LatchesAreVisited};
-
-/// The last instruction of a latch is visited as often as its first.
-pub fn latches_are_visited()
-    ensures { LatchesAreVisited }
-{}

@@ -1,5 +1,0 @@
-use Rattle.laid_bounds.proofs.BoundLemmas.{laid_can_bound}
-use Rattle.laid_bounds.proofs.laid_can_bound.Goals as goal
-
-pub returns : goal.returns
-returns c = laid_can_bound c.args.costs.now

@@ -1,5 +1,0 @@
-use Rattle.laid_claims.proofs.Claimed.{are_claims}
-use Rattle.laid_claims.proofs.laws.loops_are_claimed.Goals as goal
-
-pub returns : goal.returns
-returns c = λ l is. are_claims l is

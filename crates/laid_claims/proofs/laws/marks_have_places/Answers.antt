@@ -1,5 +1,0 @@
-use Rattle.laid_claims.proofs.Marks.{places_hold}
-use Rattle.laid_claims.proofs.laws.marks_have_places.Goals as goal
-
-pub returns : goal.returns
-returns c = λ l is mark. places_hold l mark is

@@ -1,5 +1,0 @@
-use Rattle.laid_claims.proofs.Marks.{places_apart}
-use Rattle.laid_claims.proofs.laws.places_are_apart.Goals as goal
-
-pub returns : goal.returns
-returns c = λ l is m n a h k. places_apart l is m n a h k

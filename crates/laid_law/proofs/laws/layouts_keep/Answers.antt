@@ -1,5 +1,0 @@
-use Rattle.laid_law.proofs.KeptLemmas.{keeps}
-use Rattle.laid_law.proofs.laws.layouts_keep.Goals as goal
-
-pub returns : goal.returns
-returns c = λ pl ps low is fits words sizes. keeps pl ps low is fits words sizes

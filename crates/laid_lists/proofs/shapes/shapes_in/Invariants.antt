@@ -1,6 +1,0 @@
-use Rattle.std.proofs.Common.{◌≡◌, ◌++◌, drop, map}
-use Rattle.laid_lists.specs.Spans.{shape_in}
-use Rattle.laid_lists.proofs.shapes.shapes_in.Given as goal
-
-abbrev pub invariant-loop-claim : goal.invariant-loop-claim
-invariant-loop-claim l = l.shapes.items ++ map shape_in (drop l.claim-index l.claims) ≡ map shape_in l.claims

@@ -1,6 +1,0 @@
-use Rattle.std.proofs.Common.{◌≡◌, drop}
-use Rattle.laid_items.specs.Movables.{is_only}
-use Rattle.laid_movables.proofs.alone.is_only.Given as goal
-
-abbrev pub invariant-loop-other : goal.invariant-loop-other
-invariant-loop-other l = is_only l.array (drop l.other-index l.arrays) ≡ is_only l.array l.arrays

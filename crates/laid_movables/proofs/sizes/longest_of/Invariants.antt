@@ -1,7 +1,0 @@
-use Rattle.std.proofs.Common.{◌≡◌, ◌+◌, drop}
-use Rattle.code_items.specs.Placings.{blocks_size}
-use Rattle.code_forms.specs.Shorter.{blocks_longest}
-use Rattle.laid_movables.proofs.sizes.longest_of.Given as goal
-
-abbrev pub invariant-loop-block : goal.invariant-loop-block
-invariant-loop-block l = l.bytes + blocks_size (blocks_longest (drop l.block-index l.blocks)) ≡ blocks_size (blocks_longest l.blocks)

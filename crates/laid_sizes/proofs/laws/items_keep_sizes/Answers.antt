@@ -1,5 +1,0 @@
-use Rattle.laid_sizes.proofs.Keeping.{sizes_stay}
-use Rattle.laid_sizes.proofs.laws.items_keep_sizes.Goals as goal
-
-pub returns : goal.returns
-returns c = λ before behind p. sizes_stay before behind p

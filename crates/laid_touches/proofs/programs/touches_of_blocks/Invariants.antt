@@ -1,6 +1,0 @@
-use Rattle.std.proofs.Common.{◌≡◌, ◌++◌, drop, map}
-use Rattle.laid_touches.specs.Named.{item_names}
-use Rattle.laid_touches.proofs.programs.touches_of_blocks.Given as goal
-
-abbrev pub invariant-loop-block : goal.invariant-loop-block
-invariant-loop-block l = l.all.items ++ map item_names (drop l.block-index l.blocks) ≡ map item_names l.blocks

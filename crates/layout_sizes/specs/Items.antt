@@ -1,0 +1,48 @@
+-- Placements of items, and what they take.
+use Rattle.std.specs.Prelude.{◌≡◌, ◌≢◌, ℕ, ◌+◌, ◌<◌, Bool, true, false, List, [], ◌∷◌, length, Some, slice_get, slice_index_or, if◌then◌else◌}
+use Rattle.rv_core.specs.declared.regions.Region.{Region}
+use Rattle.rv_core.specs.declared.regions.Region.TheVariants.{Flash, Spm, Ram}
+use Rattle.asm_placed.specs.Written.{flash_words, scratchpad_words}
+use Rattle.low_ir.specs.declared.object.Storage.{Storage}
+use Rattle.low_ir.specs.declared.object.Storage.TheVariants.{Constant as Fixed', Global, Local}
+use Rattle.low_ir.specs.Code.{Object}
+use Rattle.low_ir.specs.Places.{Placed}
+use Rattle.image_frames.specs.Memories.{Placement}
+use Rattle.image_definition.specs.Images.{formed_in, rows_in}
+use Rattle.claims_accesses.specs.Lines.{same_region}
+use Rattle.claims_items.specs.Movables.{Movable, array_size}
+
+-- the start code is no item, and a local array is none
+pub record MovesItems (pl : Placement) (p : Placed) : Type 0 where
+  pub start : slice_index_or pl.functions (length p.functions) false ≡ false
+  pub arrays : (o : ℕ) (x : Object) → slice_get p.objects o ≡ Some x → slice_index_or pl.objects o false ≡ true → x.storage ≢ Local
+
+-- each array has elements
+abbrev pub HasElements : Placed → Type 0
+HasElements p = (o : ℕ) (x : Object) → slice_get p.objects o ≡ Some x → 0 < x.size
+
+-- the instructions of an image
+abbrev pub instructions_in : Placement → Placed → ℕ
+instructions_in pl p = length (flash_words (rows_in pl p) (formed_in pl p)) + length (scratchpad_words (rows_in pl p) (formed_in pl p))
+
+-- the bytes of arrays that aren't local
+abbrev pub unless_local : Storage → ℕ → ℕ
+unless_local Fixed' n = n
+unless_local Global n = n
+unless_local Local n = 0
+
+abbrev pub globals_size : List Object → ℕ
+globals_size [] = 0
+globals_size (x ∷ xs) = unless_local x.storage (array_size x) + globals_size xs
+
+-- what items in the scratchpad take together
+abbrev pub scratchpad_size : List Movable → ℕ
+scratchpad_size [] = 0
+scratchpad_size (m ∷ ms) = (if same_region Spm m.region then m.size else 0) + scratchpad_size ms
+
+-- the region of an array: the scratchpad, or that of its storage
+abbrev pub array_region : Bool → Storage → Region
+array_region true s = Spm
+array_region false Fixed' = Flash
+array_region false Global = Ram
+array_region false Local = Ram

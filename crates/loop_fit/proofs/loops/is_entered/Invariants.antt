@@ -1,6 +1,0 @@
-use Rattle.std.specs.List.{AllWithin}
-use Rattle.loop_fit.specs.Loops.{EntersBy}
-use Rattle.loop_fit.proofs.loops.is_entered.Given as goal
-
-abbrev pub invariant-loop-i : goal.invariant-loop-i
-invariant-loop-i l = AllWithin (EntersBy l.fn.shape l.moves) l.there 0 l.i

@@ -1,9 +1,0 @@
-use Rattle.std.proofs.Common.{◌-◌, length}
-use Rattle.loop_fit.proofs.NestLemmas.{EndBy}
-use Rattle.loop_fit.proofs.nest.is_closed.Given as goal
-
-abbrev pub invariant-loop-next : goal.invariant-loop-next
-invariant-loop-next l = EndBy l.shapes l.fn.place l.next l.last
-
-abbrev pub decreases-loop-next : goal.decreases-loop-next
-decreases-loop-next l = length l.shapes - l.next

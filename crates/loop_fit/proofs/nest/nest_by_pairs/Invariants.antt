@@ -1,6 +1,0 @@
-use Rattle.std.proofs.Common.{drop}
-use Rattle.loop_fit.proofs.NestLemmas.{NestAlike}
-use Rattle.loop_fit.proofs.nest.nest_by_pairs.Given as goal
-
-abbrev pub invariant-loop-i : goal.invariant-loop-i
-invariant-loop-i l = NestAlike l.shapes (drop l.i l.shapes)

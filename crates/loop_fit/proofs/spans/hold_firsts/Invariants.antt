@@ -1,6 +1,0 @@
-use Rattle.std.specs.List.{AllWithin}
-use Rattle.loop_fit.specs.Spans.{HoldsFirst}
-use Rattle.loop_fit.proofs.spans.hold_firsts.Given as goal
-
-abbrev pub invariant-loop-i : goal.invariant-loop-i
-invariant-loop-i l = AllWithin HoldsFirst l.spans 0 l.i

@@ -1,5 +1,0 @@
-use Rattle.low_budget.proofs.Programs.{functions_few}
-use Rattle.low_budget.proofs.laws.functions_are_few.Goals as goal
-
-pub returns : goal.returns
-returns c = λ p high. functions_few p high

@@ -1,5 +1,0 @@
-use Rattle.low_budget.proofs.Loops.{loops_kept}
-use Rattle.low_budget.proofs.laws.loops_are_kept.Goals as goal
-
-pub returns : goal.returns
-returns c = λ scope f h. loops_kept scope f h

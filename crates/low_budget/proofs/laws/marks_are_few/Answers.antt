@@ -1,5 +1,0 @@
-use Rattle.low_budget.proofs.Loops.{marks_few}
-use Rattle.low_budget.proofs.laws.marks_are_few.Goals as goal
-
-pub returns : goal.returns
-returns c = λ scope f h. marks_few scope f h

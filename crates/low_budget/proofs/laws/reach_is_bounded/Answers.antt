@@ -1,5 +1,0 @@
-use Rattle.low_budget.proofs.Reaches.{reach_less}
-use Rattle.low_budget.proofs.laws.reach_is_bounded.Goals as goal
-
-pub returns : goal.returns
-returns c = λ p high mark. reach_less p high mark

@@ -1,5 +1,0 @@
-use Rattle.low_budget.proofs.Programs.{room_few}
-use Rattle.low_budget.proofs.laws.room_is_bounded.Goals as goal
-
-pub returns : goal.returns
-returns c = λ p high. room_few p high

@@ -1,5 +1,0 @@
-use Rattle.low_budget.proofs.Weights.{weight_less}
-use Rattle.low_budget.proofs.laws.weight_is_bounded.Goals as goal
-
-pub returns : goal.returns
-returns c = λ p high. weight_less p high

@@ -1,7 +1,0 @@
-// Laws on programs over places.
-ghost use Rattle.low_code.specs.Laws.{PlacesAreThere};
-
-/// The places of a program's registers are among the registers that hold values.
-pub fn places_are_there()
-    ensures { PlacesAreThere }
-{}

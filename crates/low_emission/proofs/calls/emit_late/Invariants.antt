@@ -1,8 +1,0 @@
-use Rattle.std.proofs.Common.{◌≡◌, ◌++◌, drop, map}
-use Rattle.low_items.specs.Emission.{late_code}
-use Rattle.low_items.specs.Functions.{singles}
-use Rattle.low_emission.specs.View.{operand_of}
-use Rattle.low_emission.proofs.calls.emit_late.Given as goal
-
-abbrev pub invariant-loop-index : goal.invariant-loop-index
-invariant-loop-index l = l.code.items ++ singles (late_code l.frame l.callee l.places (map operand_of (drop l.index l.arguments)) (drop l.index l.places)) ≡ l.initial.code.items ++ singles (late_code l.frame l.callee l.places (map operand_of l.arguments) l.places)

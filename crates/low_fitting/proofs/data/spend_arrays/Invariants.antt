@@ -1,7 +1,0 @@
-use Rattle.std.proofs.Common.{◌≡◌, ◌+◌, drop, map}
-use Rattle.low_ir.specs.View.{object_of}
-use Rattle.low_sizes.specs.Sizes.{arrays_placed}
-use Rattle.low_fitting.proofs.data.spend_arrays.Given as goal
-
-abbrev pub invariant-loop-number : goal.invariant-loop-number
-invariant-loop-number l = l.from + arrays_placed l.placed l.number (map object_of (drop l.number l.objects)) ≡ l.left + arrays_placed l.placed 0 (map object_of l.objects)

@@ -1,5 +1,0 @@
-use Rattle.low_formed.proofs.Programs.{is_low}
-use Rattle.low_formed.proofs.laws.lowered_is_low.Goals as goal
-
-pub returns : goal.returns
-returns c = λ p high. is_low p high

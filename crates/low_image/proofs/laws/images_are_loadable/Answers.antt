@@ -1,5 +1,0 @@
-use Rattle.low_image.proofs.LaidLemmas.{image_loadable}
-use Rattle.low_image.proofs.laws.images_are_loadable.Goals as goal
-
-pub returns : goal.returns
-returns c = λ pl p fits. image_loadable pl p fits

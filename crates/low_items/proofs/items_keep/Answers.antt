@@ -1,5 +1,0 @@
-use Rattle.low_items.proofs.ItemLemmas.{items_keep}
-use Rattle.low_items.proofs.items_keep.Goals as goal
-
-pub returns : goal.returns
-returns c = λ m p ok f b h less. items_keep m p ok f b h less

@@ -1,5 +1,0 @@
-use Rattle.low_kept.proofs.KeptLemmas.{claims_kept}
-use Rattle.low_kept.proofs.laws.images_keep_claims.Goals as goal
-
-pub returns : goal.returns
-returns c = λ pl p s formed sound named fits sys t input n v u ends totals. claims_kept pl p s formed sound named fits sys t input n v u ends totals

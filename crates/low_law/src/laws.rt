@@ -1,8 +1,0 @@
-// What the low program of a program keeps of it.
-ghost use Rattle.low_law.specs.Programs.{LoweredKeeps};
-
-/// Of each program in the high form its low program keeps the runs, the functions, the loops, the
-/// marks and the arrays, within the budgets of the low form.
-pub fn lowered_keeps()
-    ensures { LoweredKeeps }
-{}

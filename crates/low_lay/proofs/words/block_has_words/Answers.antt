@@ -1,6 +1,0 @@
-use Rattle.std.proofs.Common.{All, subst}
-use Rattle.low_lay.specs.Words.{InstrHasWords}
-use Rattle.low_lay.proofs.words.block_has_words.Goals as goal
-
-pub returns : goal.returns
-returns c = subst (All InstrHasWords) c.deref.ensures.value c.code_has_words.ensures

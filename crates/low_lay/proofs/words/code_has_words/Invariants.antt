@@ -1,7 +1,0 @@
-use Rattle.std.proofs.Common.{ℕ, ◌<◌, get_or}
-use Rattle.low_ir.specs.declared.instruction.Instr.{Instr}
-use Rattle.low_lay.specs.Words.{InstrHasWords}
-use Rattle.low_lay.proofs.words.code_has_words.Given as goal
-
-abbrev pub invariant-loop-i : goal.invariant-loop-i
-invariant-loop-i l = (k : ℕ) (d : Instr) → k < l.i → InstrHasWords (get_or l.code k d)

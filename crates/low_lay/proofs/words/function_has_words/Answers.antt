@@ -1,6 +1,0 @@
-use Rattle.std.proofs.Common.{All, subst}
-use Rattle.low_lay.specs.Words.{BlockHasWords}
-use Rattle.low_lay.proofs.words.function_has_words.Goals as goal
-
-pub returns : goal.returns
-returns c = subst (All BlockHasWords) c.deref.ensures.value c.blocks_have_words.ensures

@@ -1,5 +1,0 @@
-use Rattle.low_loaded.proofs.LaidLemmas.{is_laid}
-use Rattle.low_loaded.proofs.laws.layouts_are_laid.Goals as goal
-
-pub returns : goal.returns
-returns c = λ pl p formed sound keeps fits. is_laid pl p formed sound keeps fits

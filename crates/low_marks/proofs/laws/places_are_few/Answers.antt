@@ -1,5 +1,0 @@
-use Rattle.low_marks.proofs.Places.{places_many}
-use Rattle.low_marks.proofs.laws.places_are_few.Goals as goal
-
-pub returns : goal.returns
-returns c = λ l mark. places_many mark l

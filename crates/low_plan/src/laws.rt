@@ -1,9 +1,0 @@
-// What the translation makes of a program.
-ghost use Rattle.std.specs.Prelude.{◌≡◌};
-ghost use Rattle.low_plan.specs.Example.{example, example_lowered};
-ghost use Rattle.low_plan.specs.Programs.{lowered};
-
-/// A loop over arrays, in a program with a function that nobody calls.
-pub fn example_is_lowered()
-    ensures { lowered example ≡ example_lowered }
-{}

@@ -1,5 +1,0 @@
-use Rattle.low_sound.proofs.Programs.{program_sound}
-use Rattle.low_sound.proofs.laws.items_are_sound.Goals as goal
-
-pub returns : goal.returns
-returns c = program_sound

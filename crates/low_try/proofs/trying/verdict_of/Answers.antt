@@ -1,6 +1,0 @@
-use Rattle.low_try.proofs.EndLemmas.{exits_as}
-use Rattle.low_try.proofs.trying.verdict_of.Goals as goal
-
-pub returns : goal.returns
-returns c = λ e.
-    exits_as c.args.laid.now.image c.args.input.now c.in_ok-run.run' c.args.meant.now c.in_ok-run.ensures (c.compare.ensures e)

@@ -1,0 +1,140 @@
+-- The budgets of programs.
+use Rattle.std.proofs.Common.{◌≡◌, ◌≢◌, ℕ, zero, suc, ◌+◌, ◌*◌, ◌≤◌, Bool, true, false, List, [], ◌∷◌, ◌++◌, length, map, Some, refl, sym, ap, ◌∙◌, subst, arith, get_or-set_other}
+use Rattle.std.specs.Prelude.{◌==◌, if◌then◌else◌, slice_get, slice_index_or, slice_set, sum_by}
+use Rattle.std.proofs.lemmas.List.{get_or-map}
+use Rattle.std.proofs.lemmas.List.Sums.{sum_by-cons}
+use Rattle.std.proofs.lemmas.Option.{slice_get_within, get_or_from_slice_get}
+use Rattle.high_ir.specs.Formed.{IsHigh}
+use Rattle.high_ir.specs.Size.{operations, program_operations}
+use Rattle.high_ir.specs.Tree.{Function, Program}
+use Rattle.high_ir.specs.Tree as high
+use Rattle.low_ir.specs.Effects.{is_member}
+use Rattle.low_ir.specs.Room.{function_room, room}
+use Rattle.lower_definition.specs.Calls.{Passed, all_passed, claims_among, numbered, order}
+use Rattle.lower_definition.specs.Values.{Scope, first_free}
+use Rattle.lower_definition.specs.Statements.{block, pieces}
+use Rattle.lower_definition.specs.Programs.{lowered, lowered_function, lowered_functions, lowered_in, scope_of}
+use Rattle.low_ir.specs.Code.{Constant, Return}
+use Rattle.lower_order.specs.Orders.{IsOrdered}
+use Rattle.lower_order.proofs.Members.{member_first}
+use Rattle.lower_order.proofs.Visits.{ordered}
+use Rattle.lower_claims.specs.Closed.{listed}
+use Rattle.lower_claims.proofs.Numbering.{AllThere, all_there}
+use Rattle.lower_nesting.proofs.Free.{marked_free}
+use Rattle.lower_formed.proofs.Distinct.{Distinct, order_distinct}
+use Rattle.lower_budget.proofs.Narrow.{pieces_narrow}
+use Rattle.lower_budget.proofs.Rooms.{function_few}
+
+-- numbers at some places
+abbrev pub total : List ℕ → ℕ
+total [] = 0
+total (w ∷ ws) = w + total ws
+
+abbrev pub total_at : List ℕ → List ℕ → ℕ
+total_at ws [] = 0
+total_at ws (g ∷ gs) = slice_index_or ws g 0 + total_at ws gs
+
+total-set : (ws : List ℕ) (g : ℕ) → total (slice_set ws g 0) + slice_index_or ws g 0 ≡ total ws
+total-set [] g = refl
+total-set (w ∷ ws) zero = omega arith
+total-set (w ∷ ws) (suc g) = let h = total-set ws g in omega (arith, h)
+
+at_others : (ws : List ℕ) (g : ℕ) (gs : List ℕ) → is_member gs g ≡ false → total_at (slice_set ws g 0) gs ≡ total_at ws gs
+at_others ws g [] e = refl
+at_others ws g (x ∷ gs) e =
+    let other : x ≢ g = λ same. let yes : is_member (x ∷ gs) g ≡ true = subst (λ y. is_member (x ∷ gs) y ≡ true) same (member_first x gs) in let no : false ≡ true = sym e ∙ yes in cc in
+    let a = get_or-set_other ws g x 0 0 other in
+    let h = at_others ws g gs (rest e) in
+    omega (arith, a, h)
+  where
+    rest : is_member (x ∷ gs) g ≡ false → is_member gs g ≡ false
+    rest e = by_test (x == g) e
+      where
+        by_test : (b : Bool) → (if b then true else is_member gs g) ≡ false → is_member gs g ≡ false
+        by_test true k = cc
+        by_test false k = k
+
+-- places that differ have no more than all
+pub distinct_less : (ws gs : List ℕ) → Distinct gs → total_at ws gs ≤ total ws
+distinct_less ws [] h = omega arith
+distinct_less ws (g ∷ gs) h =
+    let ws2 = slice_set ws g 0 in
+    let a = distinct_less ws2 gs h.1 in
+    let b = at_others ws g gs h.0 in
+    let c = total-set ws g in
+    omega (arith, a, b, c)
+
+abbrev measure : Function → ℕ
+measure h = operations h.body + 1
+
+total-sum : (fs : List Function) → total (map measure fs) ≡ sum_by measure fs
+total-sum [] = refl
+total-sum (h ∷ fs) = let a = total-sum fs in let e = sum_by-cons measure h fs in omega (arith, a, e)
+
+abbrev single : Function → ℕ
+single h = 1
+
+total-ones : (fs : List Function) → total (map single fs) ≡ length fs
+total-ones [] = refl
+total-ones (h ∷ fs) = let a = total-ones fs in omega (arith, a)
+
+module _ (p : Program) (is_high : IsHigh p) where
+  abbrev table : Passed
+  table = all_passed p
+
+  order_is : IsOrdered p
+  order_is = ordered p is_high
+
+  there : (f : ℕ) → is_member (order p) f ≡ true → (h : Function) × (slice_get p.functions f ≡ Some h)
+  there f m = let a = order_is.places f m in (a.function, a.there)
+
+  functions_room : (gs : List ℕ) (n : ℕ) → AllThere p table gs → sum_by function_room (lowered_functions p table n gs) ≤ 64 * length (lowered_functions p table n gs) + 16 * total_at (map measure p.functions) gs
+  functions_room [] n all = omega arith
+  functions_room (g ∷ gs) n all =
+      let h = all.0.0 in
+      let e = all.0.1 in
+      let m = n + length (claims_among (listed table g)) in
+      let rest = lowered_functions p table m gs in
+      let scope = scope_of p table h (numbered n (listed table g)) in
+      let fn = lowered_function scope g h in
+      let same : lowered_functions p table n (g ∷ gs) ≡ fn ∷ rest = ap (λ o. lowered_in p table n g o ++ rest) e in
+      let inside = slice_get_within p.functions g h e in
+      let w : slice_index_or (map measure p.functions) g 0 ≡ measure h = get_or-map measure p.functions g h 0 inside ∙ ap measure (get_or_from_slice_get p.functions g h h e) in
+      let a = functions_room gs m all.1 in
+      let b = function_few scope g h in
+      let c = sum_by-cons function_room fn rest in
+      subst (λ fns. sum_by function_room fns ≤ 64 * length fns + 16 * total_at (map measure p.functions) (g ∷ gs)) (sym same) (omega (arith, a, b, c, w))
+
+  functions_there : (gs : List ℕ) (n : ℕ) → AllThere p table gs → length (lowered_functions p table n gs) ≡ total_at (map single p.functions) gs
+  functions_there [] n all = refl
+  functions_there (g ∷ gs) n all =
+      let h = all.0.0 in
+      let e = all.0.1 in
+      let m = n + length (claims_among (listed table g)) in
+      let same = ap (λ o. length (lowered_in p table n g o ++ lowered_functions p table m gs)) e in
+      let inside = slice_get_within p.functions g h e in
+      let one : slice_index_or (map single p.functions) g 0 ≡ 1 = get_or-map single p.functions g h 0 inside in
+      let rest = functions_there gs m all.1 in
+      omega (arith, same, one, rest)
+
+  pub functions_few : length (lowered p).functions ≤ length p.functions
+  functions_few =
+      let a = functions_there (order p) 0 (all_there p table (order p) there) in
+      let b = distinct_less (map single p.functions) (order p) (order_distinct p is_high) in
+      let c = total-ones p.functions in
+      omega (arith, a, b, c)
+
+  pub room_few : room (lowered p) ≤ 16 * program_operations p + 64 * length (lowered p).functions
+  room_few =
+      let a = functions_room (order p) 0 (all_there p table (order p) there) in
+      let b = distinct_less (map measure p.functions) (order p) (order_distinct p is_high) in
+      let c = total-sum p.functions in
+      omega (arith, a, b, c)
+
+pub registers_few : (scope : Scope) (f : ℕ) (h : Function) → (lowered_function scope f h).size ≤ first_free scope + 2 * operations h.body
+registers_few scope f h =
+    let behind = block [] (Return (Constant 0)) in
+    let r = pieces scope (high.Then h.body high.End) [] 0 (first_free scope) behind in
+    let a = pieces_narrow scope (high.Then h.body high.End) [] 0 (first_free scope) behind in
+    let b = marked_free r.first.mark f (0 + length r.new) r.first r.free in
+    omega (arith, a, b)

@@ -1,0 +1,35 @@
+-- The arrays of a low program: how many bytes they take, and which of them an access may touch.
+use Rattle.std.specs.Prelude.{◌≡◌, ℕ, ◌+◌, ◌*◌, ◌/◌, ◌<◌, true, [], length, Some, slice_get, slice_index_or, sum_by}
+use Rattle.high_ir.specs.Tree as high
+use Rattle.low_ir.specs.declared.object.Storage.{Storage}
+use Rattle.low_ir.specs.declared.object.Storage.TheVariants.{Constant, Global, Local}
+use Rattle.low_ir.specs.Code.{Base, Fixed, Through, Function, Low, Note, Object}
+use Rattle.low_ir.specs.Effects.{is_member}
+use Rattle.low_ir.specs.Kinds.{kind_bytes}
+use Rattle.lower_origins.specs.Passing.{IsPassed}
+
+-- the bytes of an array, rounded up to whole words
+abbrev pub array_bytes : Object → ℕ
+array_bytes o = (o.size * kind_bytes o.kind + 3) / 4 * 4
+
+abbrev pub local_array_bytes : Storage → Object → ℕ
+local_array_bytes Constant o = 0
+local_array_bytes Global o = 0
+local_array_bytes Local o = array_bytes o
+
+abbrev pub local_bytes : Low → ℕ
+local_bytes q = sum_by (λ o. local_array_bytes o.storage o) q.objects
+
+-- a register of function f and a claim: the register is that of an array parameter, and the claim lists exactly the arrays that calls
+-- pass for it
+pub record IsArrayParameter (p : high.Program) (q : Low) (f : ℕ) (h : high.Function) (fn : Function ℕ Note) (r claim : ℕ) : Type 0 where
+  pub parameter : ℕ
+  pub there : parameter < h.arrays
+  pub register : slice_get fn.parameters (h.values + parameter) ≡ Some r
+  pub passed : (o : ℕ) → is_member (slice_index_or q.claims claim []) o ≡ true → IsPassed p f parameter o
+  pub listed : (o : ℕ) → IsPassed p f parameter o → is_member (slice_index_or q.claims claim []) o ≡ true
+
+-- where an access begins: at the one object that it touches, or at an array parameter
+abbrev pub IsAccess : high.Program → Low → ℕ → high.Function → Function ℕ Note → Base ℕ → Type 0
+IsAccess p q f h fn (Fixed o) = o < length p.objects
+IsAccess p q f h fn (Through r claim) = IsArrayParameter p q f h fn r claim

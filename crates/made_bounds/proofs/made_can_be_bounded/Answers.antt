@@ -1,5 +1,0 @@
-use Rattle.made_bounds.proofs.Bounds.{made_bounded}
-use Rattle.made_bounds.proofs.made_can_be_bounded.Goals as goal
-
-pub returns : goal.returns
-returns c = λ source names program facts m costs s is made. made_bounded source names program facts m is made costs s

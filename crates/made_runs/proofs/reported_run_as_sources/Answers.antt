@@ -1,5 +1,0 @@
-use Rattle.made_runs.proofs.Runs.{runs_as_source}
-use Rattle.made_runs.proofs.reported_run_as_sources.Goals as goal
-
-pub returns : goal.returns
-returns g = λ source names program facts m t r is made reported. runs_as_source source names program facts m t r is made reported

@@ -1,0 +1,57 @@
+// The test.
+ghost use Rattle.std.specs.Prelude.{◌≡◌, ◌↔◌, ◌<◌, ◌^◌, ◌+ℤ◌, ◌<ℤ◌, pos, true, unsigned_abs, length, IfOk};
+ghost use Rattle.rv_core.specs.Table.{table_of};
+ghost use Rattle.code_flow_system.specs.Certificates.{AddressesAscend};
+ghost use Rattle.path_limits.specs.Limits.{LooseValuesBelow};
+
+use crate::claim::starts;
+use crate::line::walk_all;
+use crate::row::{are_paid, are_worths, worth_of};
+use code_flow_system::{Span, System};
+use loop_prices::loose_flows_are_bounded;
+use path_values::potentials;
+use rv_core::Costs;
+use std::alloc::Global;
+use wcc_base::Memory;
+
+fn is_below(a: i128, b: i128) -> bool
+    requires a { unsigned_abs a < 2 ^ 96 }
+    requires b { unsigned_abs b < 2 ^ 96 }
+    ensures { (result ≡ true) ↔ ((a +ℤ b) <ℤ pos (2 ^ 60)) }
+{
+    a + b < 1 << 60
+}
+
+/// Whether these worths show that each loose flow has a value below 2^60.
+fn bound_values(system: &System, costs: &Costs, places: &[(u32, i128)], turns: &[u64]) -> bool
+    requires ascending { AddressesAscend places.now }
+    requires long { length turns.now ≡ length system.now.claims.loops }
+    ensures { result ≡ true → LooseValuesBelow (table_of costs.now) system.now }
+{
+    system.is_system();
+    loose_flows_are_bounded(system);
+    if !are_worths(places) {
+        return false;
+    }
+    if !are_paid(system, costs, places, turns) {
+        return false;
+    }
+    let entry = system.entry();
+    let loops = system.claims().loops();
+    is_below(worth_of(places, entry), starts(loops, turns, entry))
+}
+
+/// Whether each loose flow has a value below 2^60, by the sum of all code in place of its longest path. A yes is right;
+/// where the loops of a system nest, and its functions call each other one way, a no says that the sum is larger.
+pub fn values_fit(
+    alloc: Global,
+    system: &System,
+    costs: &Costs,
+    spans: &[Span],
+) -> Result<bool, Memory>
+    ensures { IfOk result (λ fits. fits ≡ true → LooseValuesBelow (table_of costs.now) system.now) }
+{
+    let found = walk_all(alloc, system, costs, spans)?;
+    let places = potentials(alloc, system.moves(), found.worths.as_slice())?;
+    Ok(bound_values(system, costs, &places, found.turns.as_slice()))
+}

@@ -1,0 +1,22 @@
+// A compiler, by what it promises.
+ghost use Rattle.std.specs.Prelude.{◌≤◌, ◌^◌, IfErr, IfOk};
+ghost use Rattle.elf_image.specs.Text.{text_of};
+ghost use Rattle.report_text.specs.Lines.{report_text};
+ghost use Rattle.rv_core.specs.Table.{table_of};
+ghost use Rattle.promise_report.specs.Compiled.{IsCompiled};
+ghost use Rattle.promise_compiler.specs.Refusals.{Fails, IsRestricted};
+
+use crate::built::{Built, Options};
+use crate::refusal::Refusal;
+use std::alloc::Global;
+
+/// A compiler of sources.
+pub trait Compiler {
+    /// The image of a source, and the report on it, or why there is none.
+    fn compile(&self, alloc: Global, source: &[u8], options: &Options) -> Result<Built, Refusal>
+        ensures ok { IfOk result (λ b. IsCompiled (table_of options.now.costs) source.now (text_of b.image) (report_text b.report) b.report) }
+        // No run that keeps within the bound ends at a limit of cycles.
+        ensures cycles { IfOk result (λ b. b.report.cert.cycles ≤ 2 ^ 62) }
+        ensures form { IsRestricted source.now → IfOk result (λ b. ⊥) }
+        ensures err { IfErr result (Fails source.now) };
+}

@@ -1,7 +1,0 @@
-use Rattle.std.proofs.Common.{◌≡◌, take}
-use Rattle.std.specs.List.{flat_map}
-use Rattle.report_making.specs.CopyLines.{places_at}
-use Rattle.report_making.proofs.copies.places_of.Given as goal
-
-abbrev pub invariant-loop-mark : goal.invariant-loop-mark
-invariant-loop-mark l = l.all.items ≡ flat_map (places_at l.places) (take l.mark-index l.marks)

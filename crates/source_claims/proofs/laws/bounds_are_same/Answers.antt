@@ -1,5 +1,0 @@
-use Rattle.source_claims.proofs.Bounds.{bound_same}
-use Rattle.source_claims.proofs.laws.bounds_are_same.Goals as goal
-
-pub returns : goal.returns
-returns g = λ es t c s ls ps e h. bound_same es t c s ls ps e h

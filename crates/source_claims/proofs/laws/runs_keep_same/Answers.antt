@@ -1,5 +1,0 @@
-use Rattle.source_claims.proofs.Bounds.{run_keeps}
-use Rattle.source_claims.proofs.laws.runs_keep_same.Goals as goal
-
-pub returns : goal.returns
-returns g = λ es c r h. run_keeps es c r h

@@ -1,5 +1,0 @@
-use Rattle.source_claims.proofs.Systems.{system_same}
-use Rattle.source_claims.proofs.laws.systems_are_same.Goals as goal
-
-pub returns : goal.returns
-returns g = λ es image c s h. system_same es image c s h

@@ -1,5 +1,0 @@
-use Rattle.source_laws.proofs.Sources.{one_refusal}
-use Rattle.source_laws.proofs.one_refusal.Goals as goal
-
-pub returns : goal.returns
-returns c = one_refusal

@@ -1,5 +1,0 @@
-use Rattle.source_laws.proofs.Sources.{one_source}
-use Rattle.source_laws.proofs.one_source.Goals as goal
-
-pub returns : goal.returns
-returns c = one_source

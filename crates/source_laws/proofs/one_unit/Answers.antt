@@ -1,5 +1,0 @@
-use Rattle.source_laws.proofs.Units.{one_unit}
-use Rattle.source_laws.proofs.one_unit.Goals as goal
-
-pub returns : goal.returns
-returns c = one_unit

@@ -1,0 +1,66 @@
+//! Tries the images that programs become: a tool for tests and for measuring, and no part of WCC.
+//!
+//! `try_images run SOURCE INPUT [MEANT]` makes the program of SOURCE in the low form, gives its registers places, lays it out and
+//! runs the image on INPUT: with each register in a slot of its own, and with those that are used most in machine registers,
+//! and with nothing in the scratchpad and with everything that has room there. It prints how each run compares with what the
+//! source MEANT means on INPUT, which is SOURCE where no other is given. `try_images image SOURCE slots|registers
+//! nothing|everything IMAGE` writes one of the images, and `try_images lay SOURCE slots|registers TIMES` lays one so many times.
+//!
+//! Proved: `equal` is answered only where the image exits on the input, with the default costs, with the value and the output
+//! that the source means there (`specs/Verdicts`). The counts of the marks are compared, and that they are right is not proved.
+#![tactic(auto)]
+
+mod comparing;
+mod images;
+mod placing;
+mod runs;
+mod trying;
+
+use std::env;
+use std::process::ExitCode;
+use trying::{Fault, lay_times, try_source, write_image};
+
+fn perform(rt: &HostRuntime, words: &[String]) -> Result<(), Fault> {
+    if words.len() < 3 || words.len() > 5 {
+        return Err(Fault::Usage);
+    }
+    let command = words[0].as_str();
+    if command == "run" && words.len() < 5 {
+        let source = words[1].as_str();
+        let meant = words.get(3).map_or(source, String::as_str);
+        return try_source(rt, source, words[2].as_str(), meant);
+    }
+    if command == "image" && words.len() == 5 {
+        return write_image(
+            rt,
+            words[1].as_str(),
+            words[2].as_str(),
+            words[3].as_str(),
+            words[4].as_str(),
+        );
+    }
+    if command == "lay" && words.len() == 4 {
+        return lay_times(rt, words[1].as_str(), words[2].as_str(), words[3].as_str());
+    }
+    Err(Fault::Usage)
+}
+
+fn run(rt: &HostRuntime) -> Result<(), Fault> {
+    let Ok(given) = env::args(rt) else {
+        return Err(Fault::Memory);
+    };
+    let Ok(words) = given.skip(1).collect::<Vec<String>>(rt.alloc()) else {
+        return Err(Fault::Memory);
+    };
+    perform(rt, &words)
+}
+
+fn main(rt: HostRuntime) -> ExitCode {
+    match run(&rt) {
+        Ok(()) => ExitCode::from(0),
+        Err(fault) => {
+            let _ = println!(rt; "{fault}");
+            ExitCode::from(1)
+        }
+    }
+}

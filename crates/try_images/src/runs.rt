@@ -1,0 +1,37 @@
+// Runs of images, by the marks at the addresses that are listed for them.
+ghost use Rattle.std.specs.Prelude.{◌≡◌, IfOk};
+ghost use Rattle.rv_core.specs.Table.{default_table};
+ghost use Rattle.rv_runs.specs.Ends.{IsRunOf};
+
+use low_layout::Laid;
+use rv_runs::{ImageRun, run};
+use std::alloc::Global;
+use std::collections::BTreeMap;
+use wcc_base::{Items, Memory};
+
+/// With a mark at each of its addresses.
+fn note_mark(marks: &mut BTreeMap<u32, u32>, mark: u32, addresses: &[u32]) -> Result<(), Memory> {
+    for at in addresses {
+        marks.insert(*at, mark)?;
+    }
+    Ok(())
+}
+
+fn marks_of(alloc: Global, places: &[Items<u32>]) -> Result<BTreeMap<u32, u32>, Memory> {
+    let mut marks = BTreeMap::new(alloc);
+    for (number, addresses) in places.iter().enumerate() {
+        let Ok(mark) = u32::try_from(number) else {
+            return Err(Memory);
+        };
+        note_mark(&mut marks, mark, addresses.as_slice())?;
+    }
+    Ok(marks)
+}
+
+/// The run of an image on an input, where it exits.
+pub fn over_image(alloc: Global, laid: &Laid, input: &[u8]) -> Result<Option<ImageRun>, Memory>
+    ensures { IfOk result (λ r. IsRunOf laid.now.image default_table input.now r) }
+{
+    let marks = marks_of(alloc, &laid.lists.places)?;
+    run(alloc, &laid.image, &marks, input)
+}

@@ -1,6 +1,0 @@
-use Rattle.std.proofs.Common.{refl}
-use Rattle.wcc_commands.proofs.CheckRuns.{accept_ends}
-use Rattle.wcc_commands.proofs.laws.accepted_is_done.Goals as goal
-
-pub returns : goal.returns
-returns c = λ asked old p. accept_ends asked old.files old refl p

@@ -1,6 +1,0 @@
-use Rattle.std.proofs.Common.{refl}
-use Rattle.wcc_commands.proofs.CheckRuns.{summary_ends}
-use Rattle.wcc_commands.proofs.laws.summary_is_done.Goals as goal
-
-pub returns : goal.returns
-returns c = λ asked old p. summary_ends asked old.files old refl p
