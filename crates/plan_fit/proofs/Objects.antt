@@ -33,14 +33,14 @@ use Rattle.plan_definition.specs.Operators as plan
 use Rattle.plan_expressions.specs.Fits.{Function, IsArrayHome, IsNamed, IsScalar, Signatures, Suits, range_of}
 use Rattle.plan_expressions.specs.Meets.{Layout, home, kind_at, type_in}
 use Rattle.plan_statements.specs.Fits.{FillingFits, FitInitial, FitObjects, FitValue, FitValues, IsArrayObject, IsDeclared, among}
-use Rattle.plan_seen.specs.Growing.{Grows}
-use Rattle.plan_seen.specs.Seen.{Callable, IsObjectSeen, Knows, LivesAs, Sees}
+use Rattle.plan_fit.specs.Growing.{Grows}
+use Rattle.plan_fit.specs.Seen.{Callable, IsObjectSeen, Knows, LivesAs, Sees}
 use Rattle.plan_fit.specs.Places.{AreBounds, IsHandedOver, IsHome, IsInFrame, IsInMemory, IsLaid, IsObjectBase, IsParameterBase, IsPlan, IsStored}
-use Rattle.plan_seen.proofs.Rules.{NoFault, faultless_first, faultless_second, no_rule, none_first, none_second, not_when, parts_keep}
-use Rattle.plan_seen.proofs.Names.{calls_first, calls_second}
-use Rattle.plan_seen.proofs.Expressions.{calls_converted, fit_converted, fit_expr, range_converted, range_is}
-use Rattle.plan_seen.proofs.Growing.{grows_declared, grows_same, grows_then, in_same, inside_declared, slice_get-last}
-use Rattle.plan_seen.proofs.Seeing.{knows_before, sees_object, sees_same}
+use Rattle.plan_fit.proofs.Rules.{NoFault, faultless_first, faultless_second, no_rule, none_first, none_second, not_when, parts_keep}
+use Rattle.plan_fit.proofs.Names.{calls_first, calls_second}
+use Rattle.plan_fit.proofs.Expressions.{calls_converted, fit_converted, fit_expr, range_converted, range_is}
+use Rattle.plan_fit.proofs.Growing.{grows_declared, grows_same, grows_then, in_same, inside_declared, slice_get-last}
+use Rattle.plan_fit.proofs.Seeing.{knows_before, sees_object, sees_same}
 use Rattle.plan_fit.proofs.Loops.{bounds_first, bounds_row}
 
 abbrev is_passed_extent : Extent → Bool
