@@ -1,9 +1,9 @@
 -- Chains of calls, call ranks, and functions that reach themselves (C11 6.5.2.2).
 use Rattle.std.specs.Prelude.{◌≡◌, ◌⊎◌, ℕ, ◌<◌, ◌≤◌, List, [], ◌∷◌, length}
 use Rattle.std.proofs.Math.ListN.{get_or}
-use Rattle.facts_definitions.specs.Calls.{Graph}
-use Rattle.facts_definitions.specs.declared.ranks.CallFault.{CallFault}
-use Rattle.facts_definitions.specs.declared.ranks.CallFault.TheVariants.{Recursion, Memory}
+use Rattle.types_calls.specs.Calls.{Graph}
+use Rattle.types_calls.specs.declared.ranks.CallFault.{CallFault}
+use Rattle.types_calls.specs.declared.ranks.CallFault.TheVariants.{Recursion, Memory}
 
 abbrev pub Among : ℕ → List ℕ → Type 0
 Among g [] = ⊥
