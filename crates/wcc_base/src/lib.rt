@@ -21,8 +21,6 @@ mod outside;
 mod signs;
 mod status;
 mod system;
-#[cfg(test)]
-mod tests;
 mod text;
 pub mod words;
 
