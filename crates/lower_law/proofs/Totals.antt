@@ -22,10 +22,10 @@ use Rattle.lower_definition.specs.Calls.{Passed, all_passed, claims_among, numbe
 use Rattle.lower_definition.specs.Objects.{kind_of, object_of, storage_of}
 use Rattle.lower_definition.specs.Values.{Scope}
 use Rattle.lower_definition.specs.Programs.{lowered, lowered_function, lowered_functions, lowered_in, scope_of}
-use Rattle.lower_order.specs.Orders.{IsOrdered}
-use Rattle.lower_order.proofs.Visits.{ordered}
-use Rattle.lower_claims.specs.Closed.{listed}
-use Rattle.lower_claims.proofs.Numbering.{AllThere, all_there}
+use Rattle.lower_origins.specs.Orders.{IsOrdered}
+use Rattle.lower_origins.proofs.Visits.{ordered}
+use Rattle.lower_origins.specs.Closed.{listed}
+use Rattle.lower_origins.proofs.Numbering.{AllThere, all_there}
 use Rattle.lower_formed.proofs.Distinct.{order_distinct}
 use Rattle.lower_budget.specs.Costs.{bounded}
 use Rattle.lower_budget.proofs.Loops.{loops_kept}

@@ -2,8 +2,9 @@
 // its places counted by nodes.
 use c_tree::expression::NameId;
 use c_tree::token::{Constant, ConstantType};
-use facts_definitions::{Bounds, Facts, Ranks, Restriction, Term};
+use facts_definitions::{Bounds, Facts, Restriction, Term};
 use std::alloc::Global;
+use types_calls::Ranks;
 use types_tree::expression::{Callee, Expr, FunctionId, ObjectId, Place};
 use types_tree::external::{External, Function};
 use types_tree::program::Program;
