@@ -42,7 +42,7 @@ class Line:
             self.shown = text
         elif not self.is_terminal and time.monotonic() >= self.next:
             say(text)
-            self.next += SECONDS_BETWEEN_LINES
+            self.next = time.monotonic() + SECONDS_BETWEEN_LINES
 
     def clear(self):
         if self.shown:
@@ -117,7 +117,10 @@ def main(words):
     # Where the launcher alone is ended.
     end_with_the_caller(signal.SIGTERM)
     try:
-        return prove() if words == ["prove"] else see_that_it_stands() or 0
+        if words == ["prove"]:
+            return prove()
+        see_that_it_stands()
+        return 0
     except KeyboardInterrupt:
         say("interrupted: a later call goes on from here")
     except (NotBuilt, Damaged, OSError, CalledProcessError) as error:
