@@ -1,7 +1,7 @@
 use Rattle.std.proofs.Common.{Option, IfSome, IsSome, sym, subst, codes}
 use Rattle.wcc_base.specs.Outside.{Files, file_of}
 use Rattle.wcc_base.proofs.FilesLaws.{told_file_is_there}
-use Rattle.wcc_base.proofs.tests.written.Goals as goal
+use Rattle.base_cases.proofs.stores.written.Goals as goal
 
 pub append-requires-clause-there : goal.append-requires-clause-there
 append-requires-clause-there g c =
