@@ -1,7 +1,9 @@
 """The sources of a checkout, the program that stands for them, and the one that is shipped."""
 import hashlib
 import os
+import subprocess
 import time
+from subprocess import PIPE, CalledProcessError
 
 from crates import PROGRAM, ROOT, Crates, stated, text_of
 from toolchain import Toolchain
@@ -12,6 +14,10 @@ LAG = 0.1
 
 class Damaged(Exception):
     """release/wcc.xz cannot be unpacked."""
+
+
+def xz(how, data):
+    return subprocess.run(["xz", how, "--stdout", "--threads=1"], input=data, stdout=PIPE, stderr=PIPE, check=True).stdout
 
 
 def write(path, data, mode=0o644, changed=None):
@@ -64,8 +70,8 @@ class Checkout:
         return "" if self.is_of(text) else "the toolchain is not that of the shipped program"
 
     def shipped(self):
+        """What is packed there, whatever it's of."""
         try:
-            import lzma
-            return lzma.decompress(self.packed.read_bytes())
-        except (ImportError, OSError, EOFError, lzma.LZMAError) as error:
-            raise Damaged(f"release/{self.packed.name} cannot be unpacked: {error}") from error
+            return xz("--decompress", self.packed.read_bytes())
+        except (OSError, CalledProcessError) as error:
+            raise Damaged(f"release/{self.packed.name} cannot be unpacked by xz") from error

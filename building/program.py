@@ -42,7 +42,7 @@ class Line:
             self.shown = text
         elif not self.is_terminal and time.monotonic() >= self.next:
             say(text)
-            self.next += SECONDS_BETWEEN_LINES
+            self.next = time.monotonic() + SECONDS_BETWEEN_LINES
 
     def clear(self):
         if self.shown:
@@ -54,11 +54,11 @@ def alone():
     """Waits until no other call, and no rt, works in the crate's folder, and keeps others out."""
     held = os.open(FOLDER, os.O_RDONLY)
     try:
-        try:
-            fcntl.flock(held, fcntl.LOCK_EX | fcntl.LOCK_NB)
-        except BlockingIOError:
-            say(f"waiting for another call, or for rt, that works in {FOLDER}")
-            fcntl.flock(held, fcntl.LOCK_EX)
+        fcntl.flock(held, fcntl.LOCK_EX | fcntl.LOCK_NB)
+    except BlockingIOError:
+        say(f"waiting for another call, or for rt, that works in {FOLDER}")
+        fcntl.flock(held, fcntl.LOCK_EX)
+    try:
         yield
     finally:
         os.close(held)
@@ -73,7 +73,7 @@ def build(why, anew=False):
         if not here.toolchain:
             raise NotBuilt("cannot build: rt, the command of the Rattle toolchain, is not on PATH")
         proving, line = Proving(here.crates, here.toolchain, PROGRAM, ROOM), Line()
-        say(f"proving and building{why}: about an hour on four processors, with 4 GB of disk. A call after an interrupt goes on")
+        say(f"proving and building{why}: about an hour on four processors, with 6 GB of disk. A call after an interrupt goes on")
         try:
             program = proving.run(line.show)
         finally:
@@ -117,7 +117,10 @@ def main(words):
     # Where the launcher alone is ended.
     end_with_the_caller(signal.SIGTERM)
     try:
-        return prove() if words == ["prove"] else see_that_it_stands() or 0
+        if words == ["prove"]:
+            return prove()
+        see_that_it_stands()
+        return 0
     except KeyboardInterrupt:
         say("interrupted: a later call goes on from here")
     except (NotBuilt, Damaged, OSError, CalledProcessError) as error:
