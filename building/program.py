@@ -94,7 +94,9 @@ def see_that_it_stands():
     here = Checkout()
     found, why = here.standing(), here.why_not_shipped()
     if found:
-        here.place(*found)
+        # Where its time can't be written, the next call asks again.
+        with suppress(OSError):
+            here.place(*found)
         return
     try:
         if not why:
