@@ -10,7 +10,7 @@ import shutil
 import signal
 import sys
 import time
-from contextlib import contextmanager
+from contextlib import contextmanager, suppress
 from pathlib import Path
 from subprocess import CalledProcessError
 
@@ -26,19 +26,25 @@ NO_PROGRAM = 70
 SECONDS_BETWEEN_LINES = 60
 
 
+def write(text):
+    """Writes on standard error, where that can be had: nothing depends on it."""
+    with suppress(OSError):
+        os.write(2, text.encode())
+
+
 def say(text):
-    print(f"wcc: {text}", file=sys.stderr, flush=True)
+    write(f"wcc: {text}\n")
 
 
 class Line:
     """A line on standard error that is kept current: on a terminal it is written over, elsewhere it comes once a minute."""
 
     def __init__(self):
-        self.is_terminal, self.shown, self.next = sys.stderr.isatty(), "", time.monotonic()
+        self.is_terminal, self.shown, self.next = os.isatty(2), "", time.monotonic()
 
     def show(self, text):
         if self.is_terminal and text != self.shown:
-            print(f"\r\x1b[Kwcc: {text}", end="", file=sys.stderr, flush=True)
+            write(f"\r\x1b[Kwcc: {text}")
             self.shown = text
         elif not self.is_terminal and time.monotonic() >= self.next:
             say(text)
@@ -46,7 +52,7 @@ class Line:
 
     def clear(self):
         if self.shown:
-            print("\r\x1b[K", end="", file=sys.stderr, flush=True)
+            write("\r\x1b[K")
 
 
 @contextmanager
@@ -88,7 +94,9 @@ def see_that_it_stands():
     here = Checkout()
     found, why = here.standing(), here.why_not_shipped()
     if found:
-        here.place(*found)
+        # Where its time can't be written, the next call asks again.
+        with suppress(OSError):
+            here.place(*found)
         return
     try:
         if not why:
@@ -111,6 +119,9 @@ def prove():
 
 
 def main(words):
+    if sys.stderr is None:
+        # It is closed, and no other file may take its number.
+        os.dup2(os.open(os.devnull, os.O_WRONLY), 2)
     for it in (signal.SIGTERM, signal.SIGHUP):
         if signal.getsignal(it) != signal.SIG_IGN:
             signal.signal(it, signal.default_int_handler)
