@@ -149,14 +149,19 @@ class Proving:
         """Takes what has been built since the last call."""
         for job in [it for it in self.running.values() if it.run.poll() is not None]:
             del self.running[job.name]
-            if job.run.returncode == -signal.SIGKILL and self.workers > 1:
-                # Most likely for memory.
-                self.workers //= 2
-                self.left.insert(0, job.name)
+            if job.run.returncode == -signal.SIGKILL:
+                self.begin_again(job.name)
             elif job.run.returncode:
                 raise NotBuilt(f"{job.name} is not proved: {self.room}/{job.name}.log says why")
             else:
                 self.keep(job)
+
+    def begin_again(self, name):
+        """Where a proof was killed, most likely for memory, fewer are proved at once."""
+        if self.workers == 1:
+            raise NotBuilt(f"the proof of {name} was killed, most likely for memory")
+        self.workers //= 2
+        self.left.insert(0, name)
 
     def keep(self, job):
         name = job.name
