@@ -20,10 +20,10 @@ use Rattle.plan_runs.specs.Serves.{at_entry}
 use Rattle.plan_statements.specs.Fits.{block_declares, with_live}
 use Rattle.plan_forms.specs.Programs.{body_of}
 use Rattle.high_ir.specs.Tree.{Function}
-use Rattle.plan_layout.specs.Fronts.{begun_by, behind, functions_of}
+use Rattle.types_seen.specs.Fronts.{begun_by, behind, functions_of}
 use Rattle.plan_layout.specs.Layouts.{layout_of, signatures_of}
-use Rattle.plan_layout.specs.Units.{IsUnit}
-use Rattle.plan_layout.proofs.Fronts.{defined}
+use Rattle.types_seen.specs.Units.{IsUnit}
+use Rattle.types_seen.proofs.Fronts.{defined}
 use Rattle.plan_memory.specs.Memory.{AllSolid}
 use Rattle.plan_memory.proofs.Growing.{externals_grow}
 use Rattle.plan_memory.proofs.Memory.{few_globals, few_locals, rules_pass}

@@ -6,7 +6,7 @@ use Rattle.c_types.specs.Typed.{fault_of, typed_of}
 use Rattle.types_rules.specs.Scope.{Outline, started}
 use Rattle.types_rules.specs.Sights.{after_external, definitions, externals_nodes, first_fault}
 use Rattle.types_rules.specs.Typing.{and_external, typed_row}
-use Rattle.plan_layout.specs.Fronts.{behind, functions_of}
+use Rattle.types_seen.specs.Fronts.{behind, functions_of}
 
 -- a program is the typed tree of a unit that fails no rule and is within the limits
 pub record HasTree (names : List (List ℕ)) (program : typed.Program) : Type 0 where

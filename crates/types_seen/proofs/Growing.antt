@@ -14,7 +14,7 @@ use Rattle.types_rules.specs.Sights.{after_external, body_around}
 use Rattle.types_rules.specs.Specifiers.{is_const, kind_spelled}
 use Rattle.types_rules.specs.StatementRules.{after, after_items, after_start, within_for}
 use Rattle.types_rules.specs.declared.scope.Routine.{Routine}
-use Rattle.plan_fit.specs.Growing.{Grows, Inside, Beside, static_count, statics}
+use Rattle.types_seen.specs.Growing.{Beside, Grows, Inside, static_count, statics}
 
 pub slice_get-append : {A : Type 0} (xs ys : List A) (i : ℕ) (x : A) → slice_get xs i ≡ Some x → slice_get (xs ++ ys) i ≡ Some x
 slice_get-append [] ys i x e = absurd (none-some x e)
