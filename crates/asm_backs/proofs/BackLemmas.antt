@@ -13,7 +13,7 @@ use Rattle.asm_items.specs.Items.{total}
 use Rattle.asm_items.specs.Placings.{Placing, start_of}
 use Rattle.asm_graphs.specs.Graphs.{Loop, Graph}
 use Rattle.asm_graphs.specs.Laid.{IsImageOf, last_of}
-use Rattle.asm_latches.proofs.LatchLemmas.{latch_counted}
+use Rattle.asm_backs.proofs.LatchLemmas.{latch_counted}
 use Rattle.asm_backs.specs.Laws.{HasEnded}
 use Rattle.asm_backs.proofs.RatioLemmas.{conserved, visited_alike}
 

@@ -1,2 +1,4 @@
+pub mod PairLemmas
+pub mod LatchLemmas
 pub mod RatioLemmas
 pub mod BackLemmas

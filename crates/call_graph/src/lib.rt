@@ -14,3 +14,4 @@ mod spread;
 mod visit;
 
 pub use ranking::ranks;
+pub use types_calls::CallFault;

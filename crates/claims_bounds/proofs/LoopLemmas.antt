@@ -22,7 +22,7 @@ use Rattle.asm_program.proofs.GraphLemmas.{function_at, with_loops}
 use Rattle.claims_definition.specs.Laws.{IsClaimOf}
 use Rattle.claims_definition.specs.Listed.{Laid, claims_of, loops_of, placing}
 use Rattle.claims_definition.proofs.Claimed.{are_claims}
-use Rattle.claims_flows.specs.Flows.{HasFlows}
+use Rattle.claims_bounds.specs.Flows.{HasFlows}
 use Rattle.claims_shapes.specs.Shapes.{AreShaped}
 use Rattle.path_fit.specs.Loops.{HeadsOwnLoop}
 use Rattle.path_places.proofs.FunctionLemmas.{is_back_at}

@@ -10,7 +10,7 @@ use Rattle.low_ir.specs.Places.{Placed}
 use Rattle.low_ir.specs.Room.{weight}
 use Rattle.asm_program.specs.Functions.{PlacedFunction}
 use Rattle.claims_definition.specs.Listed.{Laid, claims_of, placing}
-use Rattle.claims_flows.specs.Flows.{HasFlows}
+use Rattle.claims_bounds.specs.Flows.{HasFlows}
 use Rattle.claims_shapes.specs.Shapes.{AreShaped}
 use Rattle.path_search.specs.Conditions.{CanBound}
 

@@ -1,17 +1,33 @@
 //! A laid program with its own claims is one whose greatest flow can be searched for.
 //!
-//! `specs/Bounds` says what a program keeps besides its form: no loop has to start more often than it may, and its weight
-//! leaves room for the numbers of a search. Proved: [`laid_can_bound`], the contract of a function with an empty body. That
-//! no loop's jump back is the header of another one comes from how loops nest, and that no function is empty from how
-//! code is laid.
+//! A program over places in its chosen forms, with the claims that are made of it (`claims_definition`), has a flow
+//! system. Proved, each by a call with an empty body: [`loops_are_bounded`], that its loop claims bound the loops of
+//! its graph; [`flows_keep_bounds`], that per unit the counts of a loose flow add up to at most the program's
+//! weight, those at the addresses of a mark to at most the mark's reach, and its value is at most 4000 times the
+//! weight; and [`laid_can_bound`], that the system is one that a search takes.
 //!
-//! The crate joins `claims_shapes` and `claims_flows` with what `path_search` asks for, and knows no runs.
+//! `specs/Bounds` says what a program keeps for that besides its form: no loop has to start more often than it may, and its
+//! weight leaves room for the numbers of a search. That no loop's jump back is the header of another one comes from how
+//! loops nest, and that no function is empty from how code is laid.
+//!
+//! The crate joins `claims_shapes` and `asm_program_prices` with what `path_search` asks for, and knows no runs.
 #![tactic(auto)]
 
 ghost use Rattle.rv_core.specs.Table.{table_of};
+ghost use Rattle.claims_bounds.specs.Flows.{LoopsAreBounded, FlowsKeepBounds};
 ghost use Rattle.claims_bounds.specs.Bounds.{LaidCanBound};
 
 use rv_core::Costs;
+
+/// The loop claims of a settled program bound the loops of its graph.
+pub fn loops_are_bounded()
+    ensures { LoopsAreBounded }
+{}
+
+/// The counts of a loose flow, those at the addresses of each mark, and its value have their bounds.
+pub fn flows_keep_bounds(costs: &Costs)
+    ensures { FlowsKeepBounds (table_of costs.now) }
+{}
 
 /// The flow system of an image that holds a program, under the claims on it, is one of those that `path_search::bound`
 /// takes: with the shapes of its loop claims, and the spans of its functions and of the start code.

@@ -11,8 +11,8 @@ use Rattle.asm_placed.specs.Written.{in_scratchpad}
 use Rattle.low_ir.specs.declared.object.Storage.{Storage}
 use Rattle.low_ir.specs.declared.object.Storage.TheVariants.{Constant, Global, Local}
 use Rattle.low_ir.specs.declared.places.Place.{Place}
+use Rattle.low_ir.specs.Arrays.{array_size}
 use Rattle.low_ir.specs.Code.{Base, Fixed, Through, Point, Load, Store, Instr, Do, Object}
-use Rattle.low_ir.specs.Kinds.{kind_bytes}
 use Rattle.low_ir.specs.Places.{Placed}
 use Rattle.asm_program.specs.Frames.{Memory, object_at}
 use Rattle.asm_program.specs.Functions.{PlacedBlock, function_in, function_items}
@@ -91,10 +91,6 @@ blocks_only o a (ts ∷ tss) (xs ∷ bs) = items_only o a ts xs ++ blocks_only o
 
 abbrev pub only_in : Laid → ℕ → ℕ → List ℕ
 only_in l o f = blocks_only o (base_of (placing l) f) (slice_index_or (program_touches l.memory l.program) f []) (blocks_of (placing l) f)
-
--- the bytes of an array, rounded up to whole words
-abbrev pub array_size : Object → ℕ
-array_size x = (x.size * kind_bytes x.kind + 3) / 4 * 4
 
 -- arrays have the numbers behind those of functions
 abbrev pub array_item : Laid → ℕ → Object → Movable

@@ -12,7 +12,7 @@ use Rattle.low_ir.specs.Formed.{mark_of, opening}
 use Rattle.low_ir.specs.Places.{Assignment, place_functions}
 use Rattle.low_ir.specs.Runs.{block_in}
 use Rattle.low_ir.specs.Turns.{mark_in}
-use Rattle.lower_order.proofs.Members.{same_test}
+use Rattle.lower_origins.proofs.Members.{same_test}
 use Rattle.lower_formed.proofs.Distinct.{Distinct}
 use Rattle.lower_budget.proofs.Programs.{distinct_less, total, total_at}
 use Rattle.lower_law.specs.Functions.{ComesFrom}

@@ -33,8 +33,8 @@ use Rattle.claims_definition.proofs.Marks.{places_apart, places_hold}
 use Rattle.claims_definition.proofs.Ranges.{ranges_hold}
 use Rattle.claims_definition.proofs.Regions.{regions_hold}
 use Rattle.claims_items.proofs.Movables.{array_movable, function_movable}
-use Rattle.claims_flows.specs.Flows.{HasFlows}
-use Rattle.claims_flows.proofs.FlowLemmas.{flows_keep_bounds}
+use Rattle.claims_bounds.specs.Flows.{HasFlows}
+use Rattle.claims_bounds.proofs.FlowLemmas.{flows_keep_bounds}
 use Rattle.claims_bounds.specs.Bounds.{IsBounded}
 use Rattle.claims_bounds.proofs.BoundLemmas.{laid_can_bound}
 use Rattle.simulation_marks.proofs.Marks.{marks_counted}

@@ -34,7 +34,7 @@ use Rattle.claims_definition.specs.Laws.{AreLoopClaims, AreRanges, HasPlaces, Is
 use Rattle.claims_definition.specs.Listed.{Laid, accesses_of, claims_of, functions_of, places_of, placing, regions_of, touches_at}
 use Rattle.claims_items.specs.Laws.{IsMovable}
 use Rattle.claims_items.specs.Movables.{array_item}
-use Rattle.claims_flows.specs.Flows.{KeepsBounds}
+use Rattle.claims_bounds.specs.Flows.{KeepsBounds}
 use Rattle.claims_shapes.specs.Shapes.{AreShaped}
 use Rattle.claims_bounds.specs.Bounds.{CanTurn}
 use Rattle.simulation_marks.specs.Laws.{functions_marked}

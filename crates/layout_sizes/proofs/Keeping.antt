@@ -2,6 +2,7 @@
 use Rattle.std.proofs.Common.{◌≡◌, ℕ, zero, suc, ◌+◌, List, [], ◌∷◌, ◌++◌, length, map, refl, sym, ap, ◌∙◌}
 use Rattle.std.specs.List.{range_with_len}
 use Rattle.std.proofs.lemmas.List.{map-append}
+use Rattle.low_ir.specs.Arrays.{array_size}
 use Rattle.low_ir.specs.declared.object.Storage.{Storage}
 use Rattle.low_ir.specs.declared.object.Storage.TheVariants.{Constant as Fixed', Global, Local}
 use Rattle.low_ir.specs.Code.{Object}
@@ -10,7 +11,7 @@ use Rattle.image_frames.specs.Frames.{frames_of}
 use Rattle.image_frames.specs.Memories.{Placement, memory_of}
 use Rattle.claims_definition.specs.Listed.{Laid}
 use Rattle.claims_image.specs.Images.{laid_of}
-use Rattle.claims_items.specs.Movables.{Movable, array_item, array_size, arrays_from, function_item, function_size, is_local, movables_of, unless}
+use Rattle.claims_items.specs.Movables.{Movable, array_item, arrays_from, function_item, function_size, is_local, movables_of, unless}
 use Rattle.claims_items.proofs.Sizes.{sizes_kept}
 use Rattle.layout_sizes.specs.Laws.{sized}
 

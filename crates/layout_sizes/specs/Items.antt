@@ -3,6 +3,7 @@ use Rattle.std.specs.Prelude.{◌≡◌, ◌≢◌, ℕ, ◌+◌, ◌<◌, Bool,
 use Rattle.rv_core.specs.declared.regions.Region.{Region}
 use Rattle.rv_core.specs.declared.regions.Region.TheVariants.{Flash, Spm, Ram}
 use Rattle.asm_placed.specs.Written.{flash_words, scratchpad_words}
+use Rattle.low_ir.specs.Arrays.{array_size}
 use Rattle.low_ir.specs.declared.object.Storage.{Storage}
 use Rattle.low_ir.specs.declared.object.Storage.TheVariants.{Constant as Fixed', Global, Local}
 use Rattle.low_ir.specs.Code.{Object}
@@ -10,7 +11,7 @@ use Rattle.low_ir.specs.Places.{Placed}
 use Rattle.image_frames.specs.Memories.{Placement}
 use Rattle.image_definition.specs.Images.{formed_in, rows_in}
 use Rattle.claims_accesses.specs.Lines.{same_region}
-use Rattle.claims_items.specs.Movables.{Movable, array_size}
+use Rattle.claims_items.specs.Movables.{Movable}
 
 -- the start code is no item, and a local array is none
 pub record MovesItems (pl : Placement) (p : Placed) : Type 0 where

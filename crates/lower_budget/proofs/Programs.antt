@@ -15,11 +15,11 @@ use Rattle.lower_definition.specs.Values.{Scope, first_free}
 use Rattle.lower_definition.specs.Statements.{block, pieces}
 use Rattle.lower_definition.specs.Programs.{lowered, lowered_function, lowered_functions, lowered_in, scope_of}
 use Rattle.low_ir.specs.Code.{Constant, Return}
-use Rattle.lower_order.specs.Orders.{IsOrdered}
-use Rattle.lower_order.proofs.Members.{member_first}
-use Rattle.lower_order.proofs.Visits.{ordered}
-use Rattle.lower_claims.specs.Closed.{listed}
-use Rattle.lower_claims.proofs.Numbering.{AllThere, all_there}
+use Rattle.lower_origins.specs.Orders.{IsOrdered}
+use Rattle.lower_origins.proofs.Members.{member_first}
+use Rattle.lower_origins.proofs.Visits.{ordered}
+use Rattle.lower_origins.specs.Closed.{listed}
+use Rattle.lower_origins.proofs.Numbering.{AllThere, all_there}
 use Rattle.lower_nesting.proofs.Free.{marked_free}
 use Rattle.lower_formed.proofs.Distinct.{Distinct, order_distinct}
 use Rattle.lower_budget.proofs.Narrow.{pieces_narrow}

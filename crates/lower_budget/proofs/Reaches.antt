@@ -18,8 +18,8 @@ use Rattle.lower_definition.specs.Operators.{Code}
 use Rattle.lower_definition.specs.Values.{Scope, first_free}
 use Rattle.lower_definition.specs.Statements.{block, call_code}
 use Rattle.lower_definition.specs.Programs.{body_piece, lowered, lowered_function, scope_of}
-use Rattle.lower_order.proofs.Visits.{rank_is}
-use Rattle.lower_claims.specs.Closed.{listed}
+use Rattle.lower_origins.proofs.Visits.{rank_is}
+use Rattle.lower_origins.specs.Closed.{listed}
 use Rattle.lower_nesting.specs.Blocks.{AllOf}
 use Rattle.lower_nesting.proofs.Marks.{of_back, of_front}
 use Rattle.lower_budget.specs.Costs.{code_worth}

@@ -21,11 +21,11 @@ use Rattle.lower_definition.specs.Calls.{Passed, all_passed, numbered, order, pl
 use Rattle.lower_definition.specs.Values.{Scope, first_free}
 use Rattle.lower_definition.specs.Statements.{block}
 use Rattle.lower_definition.specs.Programs.{body_piece, lowered, lowered_function, scope_of, turned}
-use Rattle.lower_order.specs.Orders.{IsOrdered}
-use Rattle.lower_order.proofs.Members.{member_first, member_more}
-use Rattle.lower_order.proofs.Visits.{callee_there, falls, ordered, rank_is}
-use Rattle.lower_claims.specs.Closed.{listed}
-use Rattle.lower_claims.proofs.Numbering.{all_there, stood}
+use Rattle.lower_origins.specs.Orders.{IsOrdered}
+use Rattle.lower_origins.proofs.Members.{member_first, member_more}
+use Rattle.lower_origins.proofs.Visits.{callee_there, falls, ordered, rank_is}
+use Rattle.lower_origins.specs.Closed.{listed}
+use Rattle.lower_origins.proofs.Numbering.{all_there, stood}
 use Rattle.lower_events.specs.Segments.{AllInside}
 use Rattle.lower_nesting.specs.Blocks.{AllOf}
 use Rattle.lower_nesting.proofs.Loops.{all_loops_inside}

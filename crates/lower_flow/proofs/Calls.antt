@@ -19,7 +19,7 @@ use Rattle.lower_definition.specs.Operators.{Code, only}
 use Rattle.lower_definition.specs.Values.{Scope, first_free, scaled_in_all, share_code, values_passed}
 use Rattle.lower_definition.specs.Calls.{place_in}
 use Rattle.lower_definition.specs.Statements.{call_code, into_there, shares_of}
-use Rattle.lower_words.proofs.Writing.{write_inside}
+use Rattle.lower_values.proofs.Writing.{write_inside}
 use Rattle.lower_events.specs.Segments.{Quiet}
 use Rattle.lower_events.proofs.Quiets.{quiet_wider}
 use Rattle.lower_values.specs.Meeting.{MeetsFrame, MeetsWorld, passed_values}

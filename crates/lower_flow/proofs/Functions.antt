@@ -20,7 +20,7 @@ use Rattle.low_ir.specs.Turns.{marks_passed}
 use Rattle.lower_definition.specs.Values.{Scope, first_free}
 use Rattle.lower_definition.specs.Statements.{block}
 use Rattle.lower_definition.specs.Programs.{body_piece, lowered_function, turned}
-use Rattle.lower_words.proofs.Writing.{write_inside}
+use Rattle.lower_values.proofs.Writing.{write_inside}
 use Rattle.lower_events.specs.Segments.{AllInside, Quiet}
 use Rattle.lower_events.proofs.Pieces.{all_behind, part_above}
 use Rattle.lower_nesting.proofs.Free.{pieces_free}

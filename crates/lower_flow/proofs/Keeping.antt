@@ -17,7 +17,7 @@ use Rattle.lower_definition.specs.Objects.{kind_of, scale_of}
 use Rattle.lower_definition.specs.Operators.{Code, only}
 use Rattle.lower_definition.specs.Values.{Coded, Offset, first_free, operand, index_of, offset_of, base_of, address, bytes, scaled_in, share_code}
 use Rattle.lower_definition.specs.Statements.{sharing, shares_of, kept_value, unconverted, store_at, keep_code}
-use Rattle.lower_words.proofs.Writing.{has_word}
+use Rattle.lower_values.proofs.Writing.{has_word}
 use Rattle.lower_events.proofs.Quiets.{quiet_nothing}
 use Rattle.lower_values.specs.Meeting.{contents_of, IsWordy}
 use Rattle.lower_values.proofs.Elements.{from_value}

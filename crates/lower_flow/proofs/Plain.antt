@@ -16,8 +16,8 @@ use Rattle.low_ir.specs.Runs.{Going, Bank, virtual, operand_value, values_cons, 
 use Rattle.lower_definition.specs.Operators.{Code, only}
 use Rattle.lower_definition.specs.Values.{Scope, Coded, first_free, pointer, operand, value_into, scaled_in, share_code}
 use Rattle.lower_definition.specs.Statements.{before, before_by, block, sharing, shares_of, put_code}
-use Rattle.lower_words.specs.Computing.{computed}
-use Rattle.lower_words.proofs.Writing.{has_word, write_inside}
+use Rattle.lower_values.specs.Computing.{computed}
+use Rattle.lower_values.proofs.Writing.{has_word, write_inside}
 use Rattle.lower_events.specs.Segments.{Quiet}
 use Rattle.lower_events.proofs.Pieces.{part_quiet}
 use Rattle.lower_events.proofs.Quiets.{quiet_nothing}

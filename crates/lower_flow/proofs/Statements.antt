@@ -17,7 +17,7 @@ use Rattle.lower_definition.specs.Objects.{kind_of, scale_of}
 use Rattle.lower_definition.specs.Operators.{only}
 use Rattle.lower_definition.specs.Values.{Share, Coded, Valued, Tested, address, coded, index_of, offset_of, operand, scaled_in, share_code, tested, value_into}
 use Rattle.lower_definition.specs.Statements.{Piece, Landed, landed, before, marked_by, one_block, parted, set_code, put_code, get_code, keep_code, test_code, return_block, kept_value, shares_of, only_if, piece, pieces}
-use Rattle.lower_words.proofs.Writing.{has_word}
+use Rattle.lower_values.proofs.Writing.{has_word}
 use Rattle.lower_values.specs.Meeting.{IsWordy, MeetsFrame, MeetsWorld, is_true}
 use Rattle.lower_values.proofs.Standing.{based, computed_then, stands_after}
 use Rattle.lower_values.proofs.Values.{works, operand_found, operand_free}

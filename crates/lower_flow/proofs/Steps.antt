@@ -9,7 +9,7 @@ use Rattle.low_ir.specs.declared.run.Value.TheVariants.{Word, Pointer}
 use Rattle.low_ir.specs.Effects.{World, Did, there, only_if, with_next, with_one, nothing_more, word, pointer, from_base, by_offset, resolved, effect, effect_of, reads, dest, gives, loaded, is_member}
 use Rattle.low_ir.specs.Runs.{Run, Going, Bank, virtual, values, write_to, goes_on, finish, at_code, step, run}
 use Rattle.lower_definition.specs.Operators.{Code}
-use Rattle.lower_words.specs.Computing.{after_instr, computed}
+use Rattle.lower_values.specs.Computing.{after_instr, computed}
 use Rattle.lower_flow.specs.Following.{Goer, After}
 
 module _ (q : Low) where

@@ -9,8 +9,8 @@ use Rattle.high_ir.specs.Standing.{callees_of}
 use Rattle.high_ir.specs.Tree.{Function, Program, Seq, End}
 use Rattle.low_ir.specs.Effects.{is_member}
 use Rattle.lower_definition.specs.Calls.{behind_callees, order, place_in, visited, visited_all}
-use Rattle.lower_order.proofs.Members.{member_first, member_more, same_test}
-use Rattle.lower_order.proofs.Visits.{callee_there, falls, rank_is}
+use Rattle.lower_origins.proofs.Members.{member_first, member_more, same_test}
+use Rattle.lower_origins.proofs.Visits.{callee_there, falls, rank_is}
 
 abbrev pub Distinct : List ℕ → Type 0
 Distinct [] = Unit {0}

@@ -19,11 +19,11 @@ use Rattle.low_ir.specs.Turns.{mark_in}
 use Rattle.lower_definition.specs.Calls.{Passed, all_passed, claims_among, numbered, order, place_in}
 use Rattle.lower_definition.specs.Objects.{object_of}
 use Rattle.lower_definition.specs.Programs.{lowered, lowered_function, lowered_functions, lowered_in, scope_of}
-use Rattle.lower_order.specs.Orders.{IsOrdered}
-use Rattle.lower_order.proofs.Members.{member_first, member_more, splits}
-use Rattle.lower_order.proofs.Visits.{ordered}
-use Rattle.lower_claims.specs.Closed.{listed}
-use Rattle.lower_claims.proofs.Numbering.{AllThere, Stood, all_there, length-numbered, listed_count, number_of, stood}
+use Rattle.lower_origins.specs.Orders.{IsOrdered}
+use Rattle.lower_origins.proofs.Members.{member_first, member_more, splits}
+use Rattle.lower_origins.proofs.Visits.{ordered}
+use Rattle.lower_origins.specs.Closed.{listed}
+use Rattle.lower_origins.proofs.Numbering.{AllThere, Stood, all_there, length-numbered, listed_count, number_of, stood}
 use Rattle.lower_nesting.specs.Blocks.{AllOf}
 use Rattle.lower_formed.proofs.Distinct.{distinct_place, member_at, order_distinct}
 use Rattle.lower_formed.proofs.Functions.{free_enough, function_is, opening_at}

@@ -20,10 +20,10 @@ use Rattle.low_ir.specs.Turns.{mark_in}
 use Rattle.lower_definition.specs.Calls.{Passed, all_passed, numbered, order, place_in}
 use Rattle.lower_definition.specs.Values.{Scope, base_of, first_free, pointer, through}
 use Rattle.lower_definition.specs.Programs.{lowered, lowered_function, scope_of}
-use Rattle.lower_order.specs.Orders.{IsOrdered}
-use Rattle.lower_order.proofs.Visits.{ordered}
-use Rattle.lower_claims.specs.Closed.{listed, listed_at}
-use Rattle.lower_claims.proofs.Numbering.{Stood, all_there, length-numbered, listed_count, number_of, stood}
+use Rattle.lower_origins.specs.Orders.{IsOrdered}
+use Rattle.lower_origins.proofs.Visits.{ordered}
+use Rattle.lower_origins.specs.Closed.{listed, listed_at}
+use Rattle.lower_origins.proofs.Numbering.{Stood, all_there, length-numbered, listed_count, number_of, stood}
 use Rattle.lower_formed.proofs.Distinct.{member_at}
 use Rattle.lower_formed.proofs.Functions.{first_mark}
 use Rattle.lower_formed.proofs.Programs.{function_at}

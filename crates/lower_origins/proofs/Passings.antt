@@ -11,12 +11,12 @@ use Rattle.high_ir.specs.Formed.{IsHigh}
 use Rattle.high_ir.specs.Tree.{Function, Program}
 use Rattle.low_ir.specs.Effects.{is_member}
 use Rattle.lower_definition.specs.Calls.{Passed, Site, all_passed, at_site, at_sites, by_function, by_functions, meant, none_passed, noted, order, passed_to, sites_of}
-use Rattle.lower_order.specs.Orders.{IsOrdered}
-use Rattle.lower_order.proofs.Members.{member_first, same_test}
-use Rattle.lower_order.proofs.Visits.{ordered}
-use Rattle.lower_claims.specs.Closed.{AreCovered, IsCovered, listed, listed_at}
-use Rattle.lower_claims.proofs.Growing.{Grows, through}
-use Rattle.lower_claims.proofs.Closing.{closed}
+use Rattle.lower_origins.specs.Orders.{IsOrdered}
+use Rattle.lower_origins.proofs.Members.{member_first, same_test}
+use Rattle.lower_origins.proofs.Visits.{ordered}
+use Rattle.lower_origins.specs.Closed.{AreCovered, IsCovered, listed, listed_at}
+use Rattle.lower_origins.proofs.Growing.{Grows, through}
+use Rattle.lower_origins.proofs.Closing.{closed}
 use Rattle.lower_origins.specs.Reached.{IsReached}
 use Rattle.lower_origins.specs.Passing.{Handed, IsPassed, Itself, ListsPassed, Passes, arrays_taken}
 use Rattle.lower_origins.proofs.Reaching.{AllReached, all_reverse, order_reached, reached_listed}

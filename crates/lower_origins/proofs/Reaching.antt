@@ -9,9 +9,9 @@ use Rattle.high_ir.specs.Standing.{callees_of}
 use Rattle.high_ir.specs.Tree.{Function, Program}
 use Rattle.low_ir.specs.Effects.{is_member}
 use Rattle.lower_definition.specs.Calls.{behind_callees, order, visited, visited_all}
-use Rattle.lower_order.proofs.Members.{member_first, member_more, same_test}
-use Rattle.lower_order.proofs.Visits.{ordered}
-use Rattle.lower_order.specs.Orders.{IsOrdered}
+use Rattle.lower_origins.proofs.Members.{member_first, member_more, same_test}
+use Rattle.lower_origins.proofs.Visits.{ordered}
+use Rattle.lower_origins.specs.Orders.{IsOrdered}
 use Rattle.lower_origins.specs.Reached.{Called, IsReached, ListsReached, Main}
 
 module _ (p : Program) where

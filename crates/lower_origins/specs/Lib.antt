@@ -1,2 +1,4 @@
+pub mod Orders
+pub mod Closed
 pub mod Reached
 pub mod Passing

@@ -6,7 +6,7 @@ use Rattle.high_ir.specs.Formed.{IsHigh}
 use Rattle.high_ir.specs.Tree.{Function, Program}
 use Rattle.low_ir.specs.Effects.{is_member}
 use Rattle.lower_definition.specs.Calls.{Site, all_passed, sites_of}
-use Rattle.lower_claims.specs.Closed.{listed_at}
+use Rattle.lower_origins.specs.Closed.{listed_at}
 use Rattle.lower_origins.specs.Reached.{IsReached}
 
 -- how many arrays a function takes

@@ -12,8 +12,8 @@ use Rattle.low_ir.specs.Runs.{Bank, Done, Going, Run, at_code, at_end, begin, co
 use Rattle.lower_definition.specs.Programs.{lowered}
 use Rattle.lower_events.proofs.Whole.{quiet_keeps}
 use Rattle.lower_flow.specs.Following.{After, Answers, Goer}
-use Rattle.lower_order.specs.Orders.{IsOrdered}
-use Rattle.lower_order.proofs.Visits.{ordered}
+use Rattle.lower_origins.specs.Orders.{IsOrdered}
+use Rattle.lower_origins.proofs.Visits.{ordered}
 use Rattle.lower_program.specs.Kept.{IsKept, IsWhole, Keeps}
 use Rattle.lower_program.proofs.Serving.{all_do, place_of, stands_at}
 use Rattle.lower_program.proofs.Start.{start_meets}

@@ -20,12 +20,12 @@ use Rattle.lower_values.proofs.Elements.{from_value}
 use Rattle.lower_flow.specs.Claims.{AreSound, IsSound, built}
 use Rattle.lower_flow.specs.Following.{CallDoes, Place, Serves}
 use Rattle.lower_flow.proofs.Functions.{function_does, is_here}
-use Rattle.lower_order.proofs.Members.{member_first, member_more}
-use Rattle.lower_order.specs.Orders.{IsOrdered}
-use Rattle.lower_claims.specs.Closed.{AreCovered, IsCovered, listed, listed_at}
-use Rattle.lower_claims.proofs.Numbering.{Stood, all_there, has_number, length-numbered, listed_count, number_of, stood}
-use Rattle.lower_claims.proofs.Closing.{closed}
-use Rattle.lower_claims.proofs.Sites.{sites-callees}
+use Rattle.lower_origins.proofs.Members.{member_first, member_more}
+use Rattle.lower_origins.specs.Orders.{IsOrdered}
+use Rattle.lower_origins.specs.Closed.{AreCovered, IsCovered, listed, listed_at}
+use Rattle.lower_origins.proofs.Numbering.{Stood, all_there, has_number, length-numbered, listed_count, number_of, stood}
+use Rattle.lower_origins.proofs.Closing.{closed}
+use Rattle.lower_origins.proofs.Sites.{sites-callees}
 use Rattle.lower_program.specs.Kept.{AllHaveWords, HasWords}
 
 -- a list of one array has it

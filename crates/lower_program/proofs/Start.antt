@@ -16,7 +16,7 @@ use Rattle.low_ir.specs.Effects.{contents, first_elements, start}
 use Rattle.low_ir.specs.Kinds.{converted}
 use Rattle.lower_definition.specs.Objects.{kind_of, object_of, scale_of, storage_of}
 use Rattle.lower_definition.specs.Values.{Scope}
-use Rattle.lower_words.proofs.Words.{converted_below}
+use Rattle.lower_values.proofs.Words.{converted_below}
 use Rattle.lower_values.specs.Meeting.{AreWords, IsSound, MeetsWorld, contents_of}
 use Rattle.lower_values.proofs.Widths.{converted-kind_of}
 use Rattle.lower_program.specs.Kept.{IsSmall}

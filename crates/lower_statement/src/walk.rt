@@ -41,36 +41,19 @@ fn piece(
     let free = emitter.free;
     match statement {
         Statement::Set { variable, value } => {
-            emitter.precede(set_code(scope, *variable, value, free)?)?;
-            Ok(())
+            emitter.precede(set_code(scope, *variable, value, free)?)
         }
-        Statement::Put { value } => {
-            emitter.precede(put_code(scope, value, free)?)?;
-            Ok(())
-        }
-        Statement::Get { into } => {
-            emitter.precede(get_code(scope, *into, free)?)?;
-            Ok(())
-        }
+        Statement::Put { value } => emitter.precede(put_code(scope, value, free)?),
+        Statement::Get { into } => emitter.precede(get_code(scope, *into, free)?),
         Statement::Keep {
             array,
             index,
             value,
-        } => {
-            emitter.precede(keep_code(scope, *array, index, value, free)?)?;
-            Ok(())
-        }
-        Statement::Mark { id } => {
-            emitter.mark(*id)?;
-            Ok(())
-        }
-        Statement::Seq(parts) => {
-            pieces(scope, parts, exits, emitter)?;
-            Ok(())
-        }
+        } => emitter.precede(keep_code(scope, *array, index, value, free)?),
+        Statement::Mark { id } => emitter.mark(*id),
+        Statement::Seq(parts) => pieces(scope, parts, exits, emitter),
         Statement::If { test, first, other } => {
-            choice(scope, test, first, other, exits, emitter)?;
-            Ok(())
+            choice(scope, test, first, other, exits, emitter)
         }
         Statement::Loop { id, min, max, body } => {
             let turns = Turns {
@@ -78,13 +61,9 @@ fn piece(
                 min: *min,
                 max: *max,
             };
-            looped(scope, turns, body, exits, emitter)?;
-            Ok(())
+            looped(scope, turns, body, exits, emitter)
         }
-        Statement::Block(body) => {
-            in_block(scope, body, exits, emitter)?;
-            Ok(())
-        }
+        Statement::Block(body) => in_block(scope, body, exits, emitter),
         Statement::Leave { depth } => {
             emitter.jump(exit(exits, *depth));
             Ok(())
@@ -94,14 +73,10 @@ fn piece(
             values,
             arrays,
             into,
-        } => {
-            emitter.precede(call_code(scope, *function, values, arrays, *into, free)?)?;
-            Ok(())
-        }
+        } => emitter.precede(call_code(scope, *function, values, arrays, *into, free)?),
         Statement::Return { value } => {
             let (coder, value) = value_code(scope, value, free)?;
-            emitter.set_apart(coder, End::Return { value })?;
-            Ok(())
+            emitter.set_apart(coder, End::Return { value })
         }
     }
 }

@@ -1,3 +1,6 @@
+pub mod Words
+pub mod Writing
+pub mod Operators
 pub mod Kept
 pub mod Widths
 pub mod Reading

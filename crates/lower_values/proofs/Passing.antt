@@ -14,8 +14,8 @@ use Rattle.low_ir.specs.Effects.{World, Did, there, resolved, gives}
 use Rattle.low_ir.specs.Runs.{Bank, virtual, values, values_cons, operand_value, write_to}
 use Rattle.lower_definition.specs.Operators.{only}
 use Rattle.lower_definition.specs.Values.{Scope, Share, Valued, Passing, pointer, operand, then_passed, passed_array, arrays_passed, values_passed}
-use Rattle.lower_words.specs.Computing.{after_instr, computed}
-use Rattle.lower_words.proofs.Writing.{has_word, write_inside}
+use Rattle.lower_values.specs.Computing.{after_instr, computed}
+use Rattle.lower_values.proofs.Writing.{has_word, write_inside}
 use Rattle.lower_values.specs.Meeting.{AreWords, IsWordy, IsBelow, MeetsWorld, Stands, array_value, array_values, passed_values}
 use Rattle.lower_values.proofs.Elements.{from_value}
 use Rattle.lower_values.proofs.Reading.{leads}

@@ -21,7 +21,7 @@ use Rattle.low_ir.specs.Runs.{Bank}
 use Rattle.lower_definition.specs.Objects.{scale_of}
 use Rattle.lower_definition.specs.Operators.{only, operate}
 use Rattle.lower_definition.specs.Values.{Scope, Share, Scaled, bytes, first_free, shared, leaf, is_constant, register_of, split_register, index_register, scaled_as, scaled_in, scaled_in_all, with_share, shares_from, share_code}
-use Rattle.lower_words.specs.Computing.{computed}
+use Rattle.lower_values.specs.Computing.{computed}
 use Rattle.lower_values.specs.Meeting.{MeetsFrame, HasShares, Stands}
 use Rattle.lower_values.proofs.Elements.{from_value, index_within}
 use Rattle.lower_values.proofs.Standing.{stands_after, computed_then, shift_after}

@@ -14,9 +14,9 @@ use Rattle.low_ir.specs.Effects.{World, there}
 use Rattle.low_ir.specs.Runs.{Bank}
 use Rattle.lower_definition.specs.Operators.{Code}
 use Rattle.lower_definition.specs.Values.{Scope, Share, bytes, pointer, base_of, through}
-use Rattle.lower_words.specs.Computing.{after_instr, computed}
+use Rattle.lower_values.specs.Computing.{after_instr, computed}
 use Rattle.lower_values.specs.Meeting.{Stands, MeetsFrame, MeetsWorld, array_value}
-use Rattle.lower_words.proofs.Writing.{has_constant, operate_after}
+use Rattle.lower_values.proofs.Writing.{has_constant, operate_after}
 use Rattle.lower_values.proofs.Elements.{index_within}
 use Rattle.lower_values.proofs.Widths.{shift_bytes}
 use Rattle.lower_values.proofs.Reading.{Means}

@@ -1,2 +1,3 @@
-pub mod Meeting
+pub mod Computing
 pub mod Laws
+pub mod Meeting

@@ -11,7 +11,7 @@ use Rattle.low_ir.specs.Runs.{Bank}
 use Rattle.lower_definition.specs.Objects.{kind_of, scale_of, storage_of}
 use Rattle.lower_definition.specs.Operators.{Code}
 use Rattle.lower_definition.specs.Values.{Scope, Share, Tested, first_free, pointer, shared, bytes}
-use Rattle.lower_words.specs.Computing.{computed, Has}
+use Rattle.lower_values.specs.Computing.{computed, Has}
 
 abbrev pub contents_of : high.Contents → Contents
 contents_of c = record { kind = kind_of c.kind; storage = storage_of c.storage; elements = c.elements }

@@ -94,7 +94,7 @@ fn initialised(
 {
     match initial {
         Initial::Absent => Ok(Code::new(plan.scope.alloc)),
-        Initial::Value(value) => Ok(element(plan, Slot { home, index: 0 }, value, k)?),
+        Initial::Value(value) => element(plan, Slot { home, index: 0 }, value, k),
         Initial::List {
             values,
             filling,
@@ -154,7 +154,7 @@ pub fn started(plan: &Plan, start: &ForStart, k: u32) -> Result<Code, Memory>
 {
     match start {
         ForStart::Absent => Ok(Code::new(plan.scope.alloc)),
-        ForStart::Expression(expr) => Ok(code(&plan.scope, Purpose::Effect, expr, k)?),
-        ForStart::Declaration(declaration) => Ok(declared(plan, declaration, 1, k)?),
+        ForStart::Expression(expr) => code(&plan.scope, Purpose::Effect, expr, k),
+        ForStart::Declaration(declaration) => declared(plan, declaration, 1, k),
     }
 }

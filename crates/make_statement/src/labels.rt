@@ -77,7 +77,7 @@ fn with_test(
         Item::Label(label) => match label {
             Label::Default { .. } => Ok(later),
             Label::Case { word, .. } => match label_test(alloc, choice_by, *word, number) {
-                Ok(test) => Ok(later.then(test)?),
+                Ok(test) => later.then(test),
                 Err(memory) => {
                     later.let_go();
                     Err(memory)

@@ -19,15 +19,15 @@ pub fn returned(plan: &Plan, expr: &Option<Source>, k: u32) -> Result<Code, Memo
     ensures { IfOk result (λ c. code_of c ≡ returned (plan_said plan.now) (map_option source_of expr.now) k) }
 {
     match expr {
-        None => Ok(Code::alone(
+        None => Code::alone(
             plan.scope.alloc,
             Statement::Return {
                 value: Expr::Constant(0),
             },
-        )?),
+        ),
         Some(expr) => {
             let Valued { code, value } = value(&plan.scope, expr, k)?;
-            Ok(code.then(Statement::Return { value })?)
+            code.then(Statement::Return { value })
         }
     }
 }

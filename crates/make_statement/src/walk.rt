@@ -47,7 +47,7 @@ fn tested(plan: &Plan, test: &Source, k: u32) -> Result<Code, Memory>
     if is_always(test) {
         return Ok(Code::new(plan.scope.alloc));
     }
-    Ok(code(&plan.scope, Purpose::Unless { depth: 0 }, test, k)?)
+    code(&plan.scope, Purpose::Unless { depth: 0 }, test, k)
 }
 
 /// The test of a `for`, where it has one.
@@ -56,7 +56,7 @@ fn tested_if(plan: &Plan, test: &Option<Source>, k: u32) -> Result<Code, Memory>
 {
     match test {
         None => Ok(Code::new(plan.scope.alloc)),
-        Some(test) => Ok(tested(plan, test, k)?),
+        Some(test) => tested(plan, test, k),
     }
 }
 
@@ -66,7 +66,7 @@ fn stepped(plan: &Plan, step: &Option<Source>, k: u32) -> Result<Code, Memory>
 {
     match step {
         None => Ok(Code::new(plan.scope.alloc)),
-        Some(step) => Ok(code(&plan.scope, Purpose::Effect, step, k)?),
+        Some(step) => code(&plan.scope, Purpose::Effect, step, k),
     }
 }
 
@@ -121,7 +121,7 @@ fn and_step(plan: &Plan, before: Code, step: &Option<Source>, k: u32) -> Result<
 {
     match step {
         None => Ok(before),
-        Some(step) => Ok(and_code(plan, before, Purpose::Effect, step, k)?),
+        Some(step) => and_code(plan, before, Purpose::Effect, step, k),
     }
 }
 
@@ -167,7 +167,7 @@ fn within_ways(joint: bool, exits: Exits) -> Result<(Exits, Exits), Memory>
 fn number_behind(number: LoopId, start: &ForStart) -> Result<u32, Memory>
     ensures { IfOk result (λ n. n ≡ number.0 - 1 + loops_before (start_of start.now)) }
 {
-    Ok(sum(number.0.saturating_sub(1), loops_before(start)?)?)
+    sum(number.0.saturating_sub(1), loops_before(start)?)
 }
 
 /// The word of a switch, the number of its default, and the tests of its labels.
@@ -260,33 +260,20 @@ fn planned(plan: &Plan, statement: &Typed, k: u32, exits: Exits) -> Result<Code,
 {
     let alloc = plan.scope.alloc;
     match statement {
-        Typed::Block { items, .. } => {
-            let code = all_planned(plan, items, k, exits)?;
-            Ok(code)
-        }
+        Typed::Block { items, .. } => { all_planned(plan, items, k, exits) }
         Typed::Empty { .. } => Ok(Code::new(alloc)),
-        Typed::Evaluate { value, .. } => {
-            let code = code(&plan.scope, Purpose::Effect, value, k)?;
-            Ok(code)
-        }
+        Typed::Evaluate { value, .. } => { code(&plan.scope, Purpose::Effect, value, k) }
         Typed::Marker { number, .. } => {
             let id = sum(plan.functions, number.0)?;
-            let code = Code::alone(alloc, Statement::Mark { id })?;
-            Ok(code)
+            Code::alone(alloc, Statement::Mark { id })
         }
-        Typed::If { test, then, .. } => {
-            let code = chosen_if(plan, test, then, k, exits)?;
-            Ok(code)
-        }
+        Typed::If { test, then, .. } => { chosen_if(plan, test, then, k, exits) }
         Typed::IfElse {
             test,
             then,
             otherwise,
             ..
-        } => {
-            let code = chosen_else(plan, test, then, otherwise, k, exits)?;
-            Ok(code)
-        }
+        } => { chosen_else(plan, test, then, otherwise, k, exits) }
         Typed::While {
             number,
             test,
@@ -295,8 +282,7 @@ fn planned(plan: &Plan, statement: &Typed, k: u32, exits: Exits) -> Result<Code,
         } => {
             let turn = and_round(plan, tested(plan, test, k)?, body, k)?;
             let starts = starts_of(plan, statement, number.0);
-            let code = looped(alloc, number.0.saturating_sub(1), starts, turn)?;
-            Ok(code)
+            looped(alloc, number.0.saturating_sub(1), starts, turn)
         }
         Typed::Do {
             number,
@@ -307,8 +293,7 @@ fn planned(plan: &Plan, statement: &Typed, k: u32, exits: Exits) -> Result<Code,
             let body = round(plan, body, k)?;
             let turn = and_code(plan, body, Purpose::Unless { depth: 0 }, test, k)?;
             let starts = starts_of(plan, statement, number.0);
-            let code = looped(alloc, number.0.saturating_sub(1), starts, turn)?;
-            Ok(code)
+            looped(alloc, number.0.saturating_sub(1), starts, turn)
         }
         Typed::For {
             number,
@@ -323,25 +308,12 @@ fn planned(plan: &Plan, statement: &Typed, k: u32, exits: Exits) -> Result<Code,
             let turn = behind_test(plan, test, k, turn)?;
             let starts = starts_of(plan, statement, number.0);
             let looped = looped(alloc, id, starts, turn)?;
-            let code = and_started(plan, start, k, looped)?;
-            Ok(code)
+            and_started(plan, start, k, looped)
         }
-        Typed::Switch { test, items, .. } => {
-            let code = chosen_part(plan, test, items, k, exits)?;
-            Ok(code)
-        }
-        Typed::Break { .. } => {
-            let code = Code::alone(alloc, Statement::Leave { depth: exits.out })?;
-            Ok(code)
-        }
-        Typed::Continue { .. } => {
-            let code = Code::alone(alloc, Statement::Leave { depth: exits.next })?;
-            Ok(code)
-        }
-        Typed::Return { value, .. } => {
-            let code = returned(plan, value, k)?;
-            Ok(code)
-        }
+        Typed::Switch { test, items, .. } => { chosen_part(plan, test, items, k, exits) }
+        Typed::Break { .. } => { Code::alone(alloc, Statement::Leave { depth: exits.out }) }
+        Typed::Continue { .. } => { Code::alone(alloc, Statement::Leave { depth: exits.next }) }
+        Typed::Return { value, .. } => { returned(plan, value, k) }
     }
 }
 
@@ -356,11 +328,11 @@ fn chosen_if(plan: &Plan, test: &Source, then: &Typed, k: u32, exits: Exits) -> 
         let deeper = exits.deeper()?;
         let jumps = code(&plan.scope, Purpose::Unless { depth: 0 }, test, k)?;
         let code = and_planned(plan, jumps, then, k, deeper)?;
-        return Ok(code.in_block(alloc)?);
+        return code.in_block(alloc);
     }
     let first = planned(plan, then, k, exits)?;
     match value(&plan.scope, test, k) {
-        Ok(test) => Ok(chosen(alloc, test, first, Code::new(alloc))?),
+        Ok(test) => chosen(alloc, test, first, Code::new(alloc)),
         Err(memory) => {
             first.let_go();
             Err(memory)
@@ -384,7 +356,7 @@ fn chosen_else(
     let (first, other) = within_ways(is_joint(test), exits)?;
     let first = planned(plan, then, k, first)?;
     match planned(plan, otherwise, k, other) {
-        Ok(other) => Ok(choose(&plan.scope, test, k, first, other)?),
+        Ok(other) => choose(&plan.scope, test, k, first, other),
         Err(memory) => {
             first.let_go();
             Err(memory)
@@ -408,7 +380,7 @@ fn chosen_part(
     let noted = sum(k, 1)?;
     let parts = parts(plan, noted, items, sum(k, 2)?, exits.in_switch()?)?;
     match tested_word(plan, test, k, items, noted) {
-        Ok(selector) => Ok(switched(alloc, selector, noted, parts)?),
+        Ok(selector) => switched(alloc, selector, noted, parts),
         Err(memory) => {
             parts.let_go();
             Err(memory)
@@ -429,7 +401,7 @@ fn and_planned(
     ensures { IfOk result (λ c. code_of c ≡ joined (code_of before) (planned (plan_said plan.now) (statement_of statement.now) k (exits_of exits))) }
 {
     match planned(plan, statement, k, exits) {
-        Ok(code) => Ok(before.joined(code)?),
+        Ok(code) => before.joined(code),
         Err(memory) => {
             before.let_go();
             Err(memory)
@@ -445,7 +417,7 @@ fn round(plan: &Plan, body: &Typed, k: u32) -> Result<Code, Memory>
 {
     let continues = continues(body);
     let code = planned(plan, body, k, Exits::in_loop(continues))?;
-    Ok(rounded(plan.scope.alloc, continues, ends_in_block(body), code)?)
+    rounded(plan.scope.alloc, continues, ends_in_block(body), code)
 }
 
 /// Code, and then the body of a loop.
@@ -455,7 +427,7 @@ fn and_round(plan: &Plan, before: Code, body: &Typed, k: u32) -> Result<Code, Me
     ensures { IfOk result (λ c. code_of c ≡ joined (code_of before) (round_of (statement_of body.now) (planned (plan_said plan.now) (statement_of body.now) k))) }
 {
     match round(plan, body, k) {
-        Ok(code) => Ok(before.joined(code)?),
+        Ok(code) => before.joined(code),
         Err(memory) => {
             before.let_go();
             Err(memory)
@@ -470,8 +442,8 @@ fn and_item(plan: &Plan, before: Code, item: &Item, k: u32, exits: Exits) -> Res
     ensures { IfOk result (λ c. code_of c ≡ joined (code_of before) (item_planned (plan_said plan.now) item.now k (exits_of exits))) }
 {
     match item {
-        Item::Declaration(declaration) => Ok(and_declared(plan, before, declaration, k)?),
-        Item::Statement(statement) => Ok(and_planned(plan, before, statement, k, exits)?),
+        Item::Declaration(declaration) => and_declared(plan, before, declaration, k),
+        Item::Statement(statement) => and_planned(plan, before, statement, k, exits),
         Item::Restriction(_) => Ok(before),
         Item::Label(_) => Ok(before),
     }
@@ -504,7 +476,7 @@ fn parts_behind(
     ensures number { IfOk result (λ p. p.number ≡ parts.number + labels_in item.now) }
 {
     if is_label(item) {
-        return Ok(parts.at_label(plan.scope.alloc, noted)?);
+        return parts.at_label(plan.scope.alloc, noted);
     }
     let Parts { done, part, number } = parts;
     match and_item(plan, part, item, k, exits) {
@@ -526,7 +498,7 @@ fn parts(plan: &Plan, noted: u32, items: &[Item], k: u32, exits: Exits) -> Resul
     for item in items {
         parts = parts_behind(plan, noted, item, k, exits, parts)?;
     }
-    Ok(parts.ended(plan.scope.alloc, noted)?)
+    parts.ended(plan.scope.alloc, noted)
 }
 
 /// The body of a function, with so many variables before its temporaries; its end gives 0.

@@ -20,6 +20,27 @@ fn boxed(alloc: Global, tree: Expr) -> Result<Box<Expr>, Refusal>
     Ok(Box::new(alloc, tree)?)
 }
 
+/// Two trees in boxes, or neither.
+fn boxed_pair(alloc: Global, left: Expr, right: Expr) -> Result<(Box<Expr>, Box<Expr>), Refusal>
+    ensures left { IfOk result (λ p. p.0.value ≡ left) }
+    ensures right { IfOk result (λ p. p.1.value ≡ right) }
+    ensures err { IfErr result (λ e. e ≡ Memory) }
+{
+    match boxed(alloc, left) {
+        Ok(left) => match boxed(alloc, right) {
+            Ok(right) => Ok((left, right)),
+            Err(refusal) => {
+                drop(left);
+                Err(refusal)
+            }
+        },
+        Err(refusal) => {
+            drop(right);
+            Err(refusal)
+        }
+    }
+}
+
 pub fn name(name: NameAt) -> Part
     ensures { expr_of result.tree ≡ Name name.name.0 name.at }
 {
@@ -75,8 +96,7 @@ pub fn binary(
 {
     let depth = left.depth.max(right.depth) + 1;
     let at = left.tree.place();
-    let left = boxed(alloc, left.tree)?;
-    let right = boxed(alloc, right.tree)?;
+    let (left, right) = boxed_pair(alloc, left.tree, right.tree)?;
     Ok(Part {
         tree: Expr::Binary {
             operator,
@@ -174,18 +194,28 @@ pub fn conditional(alloc: Global, test: Part, first: Part, second: Part) -> Resu
 {
     let depth = test.depth.max(first.depth).max(second.depth) + 1;
     let at = test.tree.place();
-    let test = boxed(alloc, test.tree)?;
-    let then = boxed(alloc, first.tree)?;
-    let otherwise = boxed(alloc, second.tree)?;
-    Ok(Part {
-        tree: Expr::Conditional {
-            test,
-            then,
-            otherwise,
-            at,
+    match boxed_pair(alloc, first.tree, second.tree) {
+        Ok((then, otherwise)) => match boxed(alloc, test.tree) {
+            Ok(test) => Ok(Part {
+                tree: Expr::Conditional {
+                    test,
+                    then,
+                    otherwise,
+                    at,
+                },
+                depth,
+            }),
+            Err(refusal) => {
+                drop(then);
+                drop(otherwise);
+                Err(refusal)
+            }
         },
-        depth,
-    })
+        Err(refusal) => {
+            drop(test);
+            Err(refusal)
+        }
+    }
 }
 
 pub fn assign(
@@ -200,8 +230,7 @@ pub fn assign(
 {
     let depth = target.depth.max(value.depth) + 1;
     let at = target.tree.place();
-    let target = boxed(alloc, target.tree)?;
-    let value = boxed(alloc, value.tree)?;
+    let (target, value) = boxed_pair(alloc, target.tree, value.tree)?;
     Ok(Part {
         tree: Expr::Assign {
             operator,

@@ -26,10 +26,10 @@ use Rattle.types_rules.specs.Typing.{and_external, and_object, filling_of, typed
 use Rattle.plan_definition.specs.Layouts.{Given, givens, givens_of, initial_words}
 use Rattle.plan_definition.specs.Layouts as plans
 use Rattle.plan_definition.specs.Operators.{kind_of}
-use Rattle.plan_seen.specs.Growing.{Grows, statics}
-use Rattle.plan_seen.proofs.Growing.{external_grows, grows_declared, grows_same, grows_then, slice_get-last}
+use Rattle.plan_fit.specs.Growing.{Grows, statics}
+use Rattle.plan_fit.proofs.Growing.{external_grows, grows_declared, grows_same, grows_then, slice_get-last}
 use Rattle.plan_fit.proofs.Objects.{keeps_at}
-use Rattle.plan_seen.proofs.Rules.{NoFault, faultless_first, faultless_second, parts_keep}
+use Rattle.plan_fit.proofs.Rules.{NoFault, faultless_first, faultless_second, parts_keep}
 use Rattle.plan_layout.specs.Fronts.{Definition, behind, ended_by, external_by}
 use Rattle.plan_layout.specs.Layouts.{layout_of, signatures_of}
 use Rattle.plan_layout.specs.Units.{IsUnit}

@@ -18,10 +18,10 @@ use Rattle.types_value.specs.declared.kind.Kind.TheVariants.{Int}
 use Rattle.high_ir.specs.declared.object.Kind.{Kind}
 use Rattle.plan_definition.specs.declared.home.Home.{Home}
 use Rattle.plan_definition.specs.Programs.{end_of, function_planned, functions_planned, plan_of, program_planned}
-use Rattle.plan_calls.specs.Serves.{source_with}
+use Rattle.plan_runs.specs.Serves.{source_with}
 use Rattle.plan_runs.specs.Kept.{Begins, BeginsAlike}
 use Rattle.plan_fit.specs.Places.{IsHandedOver, IsHome, IsParameterBase}
-use Rattle.plan_seen.proofs.Rules.{no_rule, none_first, none_second}
+use Rattle.plan_fit.proofs.Rules.{no_rule, none_first, none_second}
 use Rattle.plan_layout.specs.Fronts.{Definition, IsFront, behind, external_by, function_by, functions_of}
 use Rattle.plan_layout.specs.Layouts.{constant_by, constant_in, first_in, owner_of, parameters_in, rest_of, signatures_of}
 use Rattle.plan_layout.specs.Units.{HasTree, IsUnit}
@@ -60,7 +60,7 @@ use Rattle.plan_definition.specs.Layouts as plans
 use Rattle.plan_definition.specs.Operators.{kind_of}
 use Rattle.plan_expressions.specs.Cells.{cell, size}
 use Rattle.plan_expressions.specs.Meets.{Holds, Layout, MeetsWorld, home, kind_at, type_in}
-use Rattle.plan_seen.specs.Growing.{statics}
+use Rattle.plan_fit.specs.Growing.{statics}
 use Rattle.plan_layout.specs.Layouts.{is_constant_given, layout_of}
 use Rattle.plan_begin.specs.Rows.{row_of}
 use Rattle.plan_begin.proofs.Arrays.{array_at, array_of}

@@ -28,8 +28,8 @@ use Rattle.plan_definition.specs.Operators as plan
 use Rattle.plan_expressions.specs.Fits.{Function, Signatures, Suits, range_of}
 use Rattle.plan_expressions.specs.Meets.{Layout}
 use Rattle.plan_expressions.proofs.Operators.{converted-Word}
-use Rattle.plan_seen.proofs.Expressions.{range_converted}
-use Rattle.plan_seen.proofs.Widths.{conditional-Word, constant-Word, sign-Word, value-Word}
+use Rattle.plan_fit.proofs.Expressions.{range_converted}
+use Rattle.plan_fit.proofs.Widths.{conditional-Word, constant-Word, sign-Word, value-Word}
 use Rattle.plan_begin.specs.Rows.{AreRanged, row_of}
 use Rattle.plan_begin.proofs.Constants.{constant_range}
 use Rattle.plan_begin.proofs.Forms.{one_part, value_form}

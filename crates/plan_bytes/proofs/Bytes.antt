@@ -29,7 +29,7 @@ use Rattle.plan_layout.proofs.Fronts.{among, defined}
 use Rattle.plan_served.proofs.Served.{serves_own}
 use Rattle.plan_memory.specs.Memory.{FunctionsFramed}
 use Rattle.plan_memory.proofs.Memory.{local_most}
-use Rattle.plan_own.proofs.Entry.{serves_framed}
+use Rattle.plan_bytes.proofs.Entry.{serves_framed}
 use Rattle.plan_formed.specs.Checked.{IsChecked}
 use Rattle.plan_source.proofs.Faults.{no_first, no_second, rest_of as nodes_behind}
 

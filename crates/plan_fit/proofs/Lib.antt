@@ -1,3 +1,9 @@
+pub mod Rules
+pub mod Widths
+pub mod Names
+pub mod Expressions
+pub mod Growing
+pub mod Seeing
 pub mod Loops
 pub mod Objects
 pub mod Statements

@@ -4,7 +4,7 @@ use Rattle.std.specs.Prelude.{◌&&◌, ◌||◌, ◌-◌, ◌==◌, not, nat_lt
 use Rattle.std.proofs.lemmas.Bool.{and_parts, eq-eqb, false≢true, not-false, or_left, or_parts, or_right, true≢false}
 use Rattle.std.proofs.lemmas.Option.{get_or_from_slice_get}
 use Rattle.c_tree.specs.Tree.{Row, Nothing, Then, Expr, Exprs, NoExpr, AndExpr, Shape, Scalar, Unsized, Sized, Initial, Absent, Value, Listed, Object, Declared}
-use Rattle.facts_definitions.specs.Calls.{expr_calls, exprs_calls, initial_calls, object_calls, objects_calls, shape_calls}
+use Rattle.types_calls.specs.Calls.{expr_calls, exprs_calls, initial_calls, object_calls, objects_calls, shape_calls}
 use Rattle.facts_definitions.specs.Most.{bounds_at, no_bounds}
 use Rattle.facts_definitions.specs.Sites.{count_exprs, elements, elements_of, filling_sites, object_sites, objects_sites}
 use Rattle.facts_definitions.specs.declared.facts.Bounds.{Bounds}
@@ -33,14 +33,14 @@ use Rattle.plan_definition.specs.Operators as plan
 use Rattle.plan_expressions.specs.Fits.{Function, IsArrayHome, IsNamed, IsScalar, Signatures, Suits, range_of}
 use Rattle.plan_expressions.specs.Meets.{Layout, home, kind_at, type_in}
 use Rattle.plan_statements.specs.Fits.{FillingFits, FitInitial, FitObjects, FitValue, FitValues, IsArrayObject, IsDeclared, among}
-use Rattle.plan_seen.specs.Growing.{Grows}
-use Rattle.plan_seen.specs.Seen.{Callable, IsObjectSeen, Knows, LivesAs, Sees}
+use Rattle.plan_fit.specs.Growing.{Grows}
+use Rattle.plan_fit.specs.Seen.{Callable, IsObjectSeen, Knows, LivesAs, Sees}
 use Rattle.plan_fit.specs.Places.{AreBounds, IsHandedOver, IsHome, IsInFrame, IsInMemory, IsLaid, IsObjectBase, IsParameterBase, IsPlan, IsStored}
-use Rattle.plan_seen.proofs.Rules.{NoFault, faultless_first, faultless_second, no_rule, none_first, none_second, not_when, parts_keep}
-use Rattle.plan_seen.proofs.Names.{calls_first, calls_second}
-use Rattle.plan_seen.proofs.Expressions.{calls_converted, fit_converted, fit_expr, range_converted, range_is}
-use Rattle.plan_seen.proofs.Growing.{grows_declared, grows_same, grows_then, in_same, inside_declared, slice_get-last}
-use Rattle.plan_seen.proofs.Seeing.{knows_before, sees_object, sees_same}
+use Rattle.plan_fit.proofs.Rules.{NoFault, faultless_first, faultless_second, no_rule, none_first, none_second, not_when, parts_keep}
+use Rattle.plan_fit.proofs.Names.{calls_first, calls_second}
+use Rattle.plan_fit.proofs.Expressions.{calls_converted, fit_converted, fit_expr, range_converted, range_is}
+use Rattle.plan_fit.proofs.Growing.{grows_declared, grows_same, grows_then, in_same, inside_declared, slice_get-last}
+use Rattle.plan_fit.proofs.Seeing.{knows_before, sees_object, sees_same}
 use Rattle.plan_fit.proofs.Loops.{bounds_first, bounds_row}
 
 abbrev is_passed_extent : Extent → Bool

@@ -17,7 +17,7 @@ use Rattle.plan_definition.specs.declared.home.Home.{Home}
 use Rattle.plan_definition.specs.declared.home.Home.TheVariants.{Frame, Memory}
 use Rattle.plan_expressions.specs.Fits.{Signatures}
 use Rattle.plan_expressions.specs.Meets.{Layout, home}
-use Rattle.plan_seen.specs.Seen.{Knows}
+use Rattle.plan_fit.specs.Seen.{Knows}
 
 abbrev pub IsObjectBase : Base → Type 0
 IsObjectBase (Object n) = Unit {0}

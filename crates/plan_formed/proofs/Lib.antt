@@ -1,3 +1,6 @@
+pub mod ReachedExpressions
+pub mod ReachedStatements
+pub mod ReachedPrograms
 pub mod Facts
 pub mod Main
 pub mod Operations

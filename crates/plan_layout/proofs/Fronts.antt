@@ -13,9 +13,9 @@ use Rattle.types_rules.specs.Scope.{Around, Outline, after_row, has_scope, in_bl
 use Rattle.types_rules.specs.Sights.{after_external, external_nodes, externals_nodes}
 use Rattle.types_rules.specs.Typing.{and_external, typed_external, typed_function, typed_row}
 use Rattle.plan_definition.specs.Layouts.{first_of, firsts_of}
-use Rattle.plan_seen.specs.Growing.{Grows, Inside}
-use Rattle.plan_seen.proofs.Rules.{NoFault, faultless_first, faultless_second}
-use Rattle.plan_seen.proofs.Growing.{external_grows, grows_same, grows_then, in_entered, in_same, inside_items, inside_list, inside_then, without_innermost-push}
+use Rattle.plan_fit.specs.Growing.{Grows, Inside}
+use Rattle.plan_fit.proofs.Rules.{NoFault, faultless_first, faultless_second}
+use Rattle.plan_fit.proofs.Growing.{external_grows, grows_same, grows_then, in_entered, in_same, inside_items, inside_list, inside_then, without_innermost-push}
 use Rattle.plan_layout.specs.Fronts.{Definition, IsDefined, IsFront, begun_by, behind, ended_by, external_by, function_by, functions_of}
 use Rattle.plan_layout.proofs.Homes.{AtLeast, AtMost}
 use Rattle.plan_layout.proofs.Lists.{extended, slice_get-cases, slice_get-one}

@@ -26,9 +26,9 @@ use Rattle.plan_definition.specs.declared.home.Home.TheVariants.{Frame, Memory}
 use Rattle.plan_definition.specs.Layouts.{Next, ahead, begun, firsts_of, home_by, homes_from, homes_of, next_by}
 use Rattle.plan_definition.specs.Operators.{kind_of}
 use Rattle.plan_expressions.specs.Meets.{IsLayout, Layout, home, type_in}
-use Rattle.plan_seen.specs.Growing.{statics, static_count}
+use Rattle.plan_fit.specs.Growing.{statics, static_count}
 use Rattle.plan_fit.specs.Places.{IsHome}
-use Rattle.plan_seen.proofs.Growing.{external_grows, statics-append}
+use Rattle.plan_fit.proofs.Growing.{external_grows, statics-append}
 use Rattle.plan_layout.specs.Fronts.{Definition, IsFront, behind, ended_by, external_by, function_by, functions_of}
 use Rattle.plan_layout.specs.Layouts.{layout_of, owner_of}
 use Rattle.plan_layout.specs.Units.{IsUnit}

@@ -27,12 +27,12 @@ use Rattle.plan_definition.specs.declared.home.Home.{Home}
 use Rattle.plan_definition.specs.declared.home.Home.TheVariants.{Frame}
 use Rattle.plan_expressions.specs.Fits.{Formal, Function as Place}
 use Rattle.plan_expressions.specs.Meets.{Layout, home}
-use Rattle.plan_seen.specs.Growing.{Grows, statics, static_count}
-use Rattle.plan_seen.specs.Seen.{IsObjectSeen, LivesAs, Sees}
+use Rattle.plan_fit.specs.Growing.{Grows, statics, static_count}
+use Rattle.plan_fit.specs.Seen.{IsObjectSeen, LivesAs, Sees}
 use Rattle.plan_fit.specs.Places.{IsHome, IsInMemory, IsLaid, IsStored}
-use Rattle.plan_seen.proofs.Growing.{external_grows, grows_declared, grows_same, grows_then, innermost-push, slice_get-last, statics-append}
+use Rattle.plan_fit.proofs.Growing.{external_grows, grows_declared, grows_same, grows_then, innermost-push, slice_get-last, statics-append}
 use Rattle.plan_fit.proofs.Objects.{laid_kind, static_array, static_scalar}
-use Rattle.plan_seen.proofs.Seeing.{sees_object, sees_routine, sees_same}
+use Rattle.plan_fit.proofs.Seeing.{sees_object, sees_routine, sees_same}
 use Rattle.plan_layout.specs.Fronts.{Definition, IsFront, behind, ended_by, external_by}
 use Rattle.plan_layout.specs.Layouts.{constant_by, constant_in, constant_of, first_in, layout_of, owner_of, parameters_in}
 use Rattle.plan_layout.proofs.Fronts.{defined_outer, file_level, inside_ended, object_outer, row_outer}

@@ -12,7 +12,7 @@ use Rattle.c_tree.specs.Tree.{Row, External, TranslationUnit, Whole}
 use Rattle.c_types.specs.Typed.{fault_behind, fault_of, typed_of}
 use Rattle.types_tree.specs.Tree as typed
 use Rattle.plan_expressions.specs.Meets.{IsLayout}
-use Rattle.plan_seen.proofs.Rules.{none_first, none_second, parts_keep}
+use Rattle.plan_fit.proofs.Rules.{none_first, none_second, parts_keep}
 use Rattle.plan_layout.specs.Layouts.{layout_of}
 use Rattle.plan_layout.specs.Units.{HasTree, IsUnit}
 use Rattle.plan_layout.proofs.Placed.{placed}

@@ -1,4 +1,3 @@
 pub mod Parts
 pub mod Expressions
 pub mod Statements
-pub mod Trees

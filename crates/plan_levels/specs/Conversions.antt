@@ -1,9 +1,6 @@
 -- Typed trees in which no conversion that C implies stands right over another or right under `&&` or `||`, and in which arrays that are
 -- filled have written sizes.
-use Rattle.std.specs.Prelude.{◌≡◌, ◌≤◌, List, [], ◌∷◌, Option, Some, None}
-use Rattle.c_tree.specs.Size.{size_items}
-use Rattle.c_tree.specs.Tree as source
-use Rattle.types_tree.specs.Erased.{Names, erased_items}
+use Rattle.std.specs.Prelude.{◌≡◌, List, [], ◌∷◌, Option, Some, None}
 use Rattle.types_tree.specs.Tree as c
 use Rattle.plan_levels.specs.Levels.{slack}
 
@@ -91,7 +88,3 @@ abbrev mutual
   ItemsSingle (c.WithStatement statement rest) = StatementSingle statement × ItemsSingle rest
   ItemsSingle (c.WithRestriction pragma rest) = ItemsSingle rest
   ItemsSingle (c.WithLabel label rest) = ItemsSingle rest
-
--- a function of a source that is at most 256 deep, whose body stands three levels within it
-abbrev pub IsShallow : Names → c.Function → Type 0
-IsShallow names (c.Defined specifiers name name_at params first body body_at at) = ItemsSingle body × ((size_items (erased_items names source.NoItem body)).depth ≤ 253)

@@ -1,1 +1,4 @@
+pub mod Parameters
+pub mod Binding
+pub mod Calls
 pub mod Main

@@ -18,8 +18,8 @@ use Rattle.plan_expressions.specs.Claims.{Answers, GivesBack, Handed}
 use Rattle.plan_expressions.specs.Fits.{Signatures}
 use Rattle.plan_expressions.specs.Meets.{Layout, IsLayout, MeetsWorld}
 use Rattle.plan_statements.specs.Flows.{Rest}
-use Rattle.plan_calls.specs.Serves.{AllServe, source_with}
-use Rattle.plan_calls.proofs.Calls.{calls_meet}
+use Rattle.plan_runs.specs.Serves.{AllServe, source_with}
+use Rattle.plan_runs.proofs.Calls.{calls_meet}
 use Rattle.high_pass.specs.Carries.{RunsAlike}
 use Rattle.high_pass.specs.Listing.{Listing}
 use Rattle.plan_runs.specs.Kept.{Begins, BeginsAlike, begun_from, kept_run, same_mark, same_marks, shown_unless, source_ran}

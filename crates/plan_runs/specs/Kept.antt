@@ -11,7 +11,7 @@ use Rattle.high_ir.specs.Tree as high
 use Rattle.plan_expressions.specs.Fits.{Signatures}
 use Rattle.plan_expressions.specs.Meets.{Layout, MeetsWorld}
 use Rattle.plan_statements.specs.Flows.{Rest}
-use Rattle.plan_calls.specs.Serves.{source_with}
+use Rattle.plan_runs.specs.Serves.{source_with}
 use Rattle.high_pass.specs.Carries.{Shown}
 use Rattle.high_pass.specs.Listing.{MarkEntry}
 

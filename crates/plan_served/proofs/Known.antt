@@ -26,12 +26,12 @@ use Rattle.types_rules.specs.declared.scope.Routine.{Routine}
 use Rattle.high_ir.specs.declared.object.Kind.TheVariants.{Word}
 use Rattle.plan_definition.specs.Operators.{kind_of}
 use Rattle.plan_expressions.specs.Fits.{OfWord, OfArray, Signatures, Suits, call_kind, parameters_of}
-use Rattle.plan_seen.specs.Growing.{Grows}
-use Rattle.plan_seen.specs.Seen.{IsKnown, Knows, formal, formals}
-use Rattle.plan_seen.proofs.Growing.{grows_routine, grows_same, grows_then}
-use Rattle.plan_seen.proofs.Rules.{NoFault, faultless_first, faultless_second, no_rule, none_first, none_second, not_when, parts_keep}
-use Rattle.plan_seen.proofs.Seeing.{lookup-new}
-use Rattle.plan_seen.proofs.Widths.{or_int-kind, same_types}
+use Rattle.plan_fit.specs.Growing.{Grows}
+use Rattle.plan_fit.specs.Seen.{IsKnown, Knows, formal, formals}
+use Rattle.plan_fit.proofs.Growing.{grows_routine, grows_same, grows_then}
+use Rattle.plan_fit.proofs.Rules.{NoFault, faultless_first, faultless_second, no_rule, none_first, none_second, not_when, parts_keep}
+use Rattle.plan_fit.proofs.Seeing.{lookup-new}
+use Rattle.plan_fit.proofs.Widths.{or_int-kind, same_types}
 use Rattle.plan_layout.specs.Fronts.{Definition, IsFront, begun_by, behind, ended_by, external_by, function_by, functions_of}
 use Rattle.plan_layout.specs.Layouts.{formal_of, formals_of, parameters_in, result_in, signatures_of}
 use Rattle.plan_layout.proofs.Fronts.{among, defined, front_grows, functions_then, inside_ended, part_faultless}

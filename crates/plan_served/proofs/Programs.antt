@@ -7,7 +7,7 @@ use Rattle.c_tree.specs.Tree.{Whole}
 use Rattle.c_types.specs.Typed.{CallsDefined}
 use Rattle.types_tree.specs.Tree as typed
 use Rattle.plan_definition.specs.Programs.{program_planned}
-use Rattle.plan_calls.specs.Serves.{AllServe}
+use Rattle.plan_runs.specs.Serves.{AllServe}
 use Rattle.plan_layout.specs.Layouts.{layout_of, rest_of, signatures_of}
 use Rattle.plan_layout.specs.Units.{HasTree}
 use Rattle.plan_layout.proofs.Trees.{of_tree}

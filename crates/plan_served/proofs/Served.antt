@@ -10,8 +10,8 @@ use Rattle.std.proofs.lemmas.List.Sums.{sum_by-append}
 use Rattle.std.proofs.lemmas.Option.{none-some, same_Some, slice_get_within}
 use Rattle.c_tree.specs.declared.expression.Specifier.{Specifier}
 use Rattle.c_tree.specs.Tree.{Row, Nothing, Then, Param, Parameter, Shape, Scalar as Single, Unsized, Sized, External}
-use Rattle.facts_definitions.specs.Calls.{calls_below, function_calls, graph_of, items_calls, params_calls}
-use Rattle.facts_definitions.specs.Chains.{Among, callees}
+use Rattle.types_calls.specs.Calls.{calls_below, function_calls, graph_of, items_calls, params_calls}
+use Rattle.types_calls.specs.Chains.{Among, callees}
 use Rattle.facts_definitions.specs.FlowFacts.{AreFacts}
 use Rattle.facts_definitions.specs.declared.facts.Facts.{Facts}
 use Rattle.c_types.specs.Typed.{CallsDefined}
@@ -37,14 +37,14 @@ use Rattle.plan_definition.specs.Statements.{Plan, all_planned, body_planned}
 use Rattle.plan_expressions.specs.Fits.{Formal, OfWord, OfArray, Function, Signatures}
 use Rattle.plan_expressions.specs.Meets.{Layout, home, type_in}
 use Rattle.plan_statements.specs.Fits.{FitItems, block_declares, with_live}
-use Rattle.plan_calls.specs.Serves.{AllServe, AreParameters, FunctionServed, IsServed, Serves, are_from, arrays_in, at_entry, out_of_body, words_in}
-use Rattle.plan_seen.specs.Growing.{Grows, statics}
+use Rattle.plan_runs.specs.Serves.{AllServe, AreParameters, FunctionServed, IsServed, Serves, are_from, arrays_in, at_entry, out_of_body, words_in}
+use Rattle.plan_fit.specs.Growing.{Grows, statics}
 use Rattle.plan_fit.specs.Places.{IsHome, IsPlan, IsStored}
-use Rattle.plan_seen.specs.Seen.{IsObjectSeen, Sees}
-use Rattle.plan_seen.proofs.Growing.{grows_object, grows_same, grows_then, in_entered, in_same, inside_param, row_inside, slice_get-last}
-use Rattle.plan_seen.proofs.Names.{among-second}
+use Rattle.plan_fit.specs.Seen.{IsObjectSeen, Sees}
+use Rattle.plan_fit.proofs.Growing.{grows_object, grows_same, grows_then, in_entered, in_same, inside_param, row_inside, slice_get-last}
+use Rattle.plan_fit.proofs.Names.{among-second}
 use Rattle.plan_fit.proofs.Objects.{At, laid_kind, lives_as}
-use Rattle.plan_seen.proofs.Seeing.{knows_before, sees_entered, sees_object, sees_routine, sees_same, sees_wider}
+use Rattle.plan_fit.proofs.Seeing.{knows_before, sees_entered, sees_object, sees_routine, sees_same, sees_wider}
 use Rattle.plan_fit.proofs.Statements.{fit_items}
 use Rattle.plan_layout.specs.Fronts.{Definition, IsDefined, IsFront, begun_by, behind, ended_by, external_by, function_by, functions_of}
 use Rattle.plan_layout.specs.Layouts.{constant_by, constant_in, constant_of, first_in, formal_of, formals_of, is_constant_formal, layout_of, owner_of, parameters_in, rest_of, result_in, signatures_of}

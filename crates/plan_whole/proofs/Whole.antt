@@ -16,7 +16,7 @@ use Rattle.types_tree.specs.Tree as typed
 use Rattle.types_tree.specs.declared.variable.Variable.{Variable}
 use Rattle.c_types.specs.Typed.{CallsDefined, fault_of, typed_of}
 use Rattle.c_types.proofs.Seals.{calls_defined}
-use Rattle.plan_calls.specs.Serves.{at_entry}
+use Rattle.plan_runs.specs.Serves.{at_entry}
 use Rattle.plan_statements.specs.Fits.{block_declares, with_live}
 use Rattle.plan_forms.specs.Programs.{body_of}
 use Rattle.high_ir.specs.Tree.{Function}

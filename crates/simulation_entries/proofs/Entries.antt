@@ -26,9 +26,9 @@ use Rattle.simulation_steps.proofs.Given.{Given, state, reg, read, At}
 use Rattle.simulation_steps.proofs.Places.{value_is, steady_is, IsFrameWord, frame_word}
 use Rattle.simulation_steps.proofs.Moving.{load_one, store_any}
 use Rattle.simulation_steps.proofs.Operands.{frame, in_parts}
-use Rattle.simulation_saves.proofs.Saved.{Reached, frame_runs, Saved, saves_run, loads_run}
-use Rattle.simulation_jumps.proofs.Standing.{Stood}
-use Rattle.simulation_jumps.proofs.Calls.{return_lays}
+use Rattle.simulation_entries.proofs.Saved.{Reached, frame_runs, Saved, saves_run, loads_run}
+use Rattle.simulation_entries.proofs.Standing.{Stood}
+use Rattle.simulation_entries.proofs.Calls.{return_lays}
 
 is_zero : (n : ℕ) → (n == 0) ≡ true → n ≡ 0
 is_zero n e = grind (arith, nat_tests)

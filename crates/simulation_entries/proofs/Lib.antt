@@ -1,1 +1,10 @@
+pub mod Homes
+pub mod Members
+pub mod Saved
+pub mod Arguments
+pub mod Standing
+pub mod Jumps
+pub mod Branches
+pub mod Calls
+pub mod Arrivals
 pub mod Entries

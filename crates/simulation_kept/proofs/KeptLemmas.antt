@@ -29,7 +29,7 @@ use Rattle.image_frames.specs.Memories.{Placement, memory_of}
 use Rattle.image_definition.specs.Images.{image_in, exits_in, FitsImage}
 use Rattle.image_definition.proofs.LaidLemmas.{image_loadable}
 use Rattle.simulation_loaded.specs.Layouts.{layout_of}
-use Rattle.simulation_regions.proofs.Keeping.{keeps_regions}
+use Rattle.simulation_kept.proofs.Keeping.{keeps_regions}
 use Rattle.simulation_visits.proofs.CountLemmas.{ends_at_exit}
 use Rattle.simulation_visits.proofs.LoopLemmas.{loop_kept}
 use Rattle.claims_accesses.specs.Laws.{IsNamed}

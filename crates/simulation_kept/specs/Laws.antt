@@ -1,30 +1,37 @@
 -- Runs of the image of a program keep the claims on it, and end within the cycles of an accepted certificate.
-use Rattle.std.specs.Prelude.{ℕ, ◌<◌, ◌≤◌, List, length, All}
+use Rattle.std.specs.Prelude.{ℕ, All, ◌<◌, ◌≤◌, List, length}
+use Rattle.rv_core.specs.Runs.{Setup, mrun, Run, setup}
+use Rattle.code_flow_system.specs.KeptRuns.{KeepsLine, KeepsClaims}
+use Rattle.low_ir.specs.Effects.{World}
+use Rattle.low_ir.specs.Places.{Placed, Placing, assignment, placed}
+use Rattle.claims_definition.specs.Laws.{IsSettled}
+use Rattle.claims_definition.specs.Listed.{regions_of, claims_of}
+use Rattle.image_frames.specs.Memories.{Placement}
+use Rattle.claims_image.specs.Images.{laid_of}
+use Rattle.simulation_relation.specs.Following.{Ends}
+use Rattle.simulation_loaded.specs.Layouts.{layout_of}
 use Rattle.rv_core.specs.Table.{Table}
-use Rattle.rv_core.specs.Runs.{Run, setup, mrun}
 use Rattle.code_flow_system.specs.declared.cert.Cert.{Cert}
 use Rattle.code_flow_system.specs.Certificates.{Accepts}
 use Rattle.code_flow_system.specs.Claims.{Claims}
 use Rattle.code_flow_system.specs.Systems.{System, IsSystemOf}
-use Rattle.code_flow_system.specs.KeptRuns.{KeepsClaims}
 use Rattle.low_ir.specs.Code.{Low}
-use Rattle.low_ir.specs.Effects.{World}
 use Rattle.low_ir.specs.Formed.{IsLow}
 use Rattle.low_ir.specs.Runs.{lrun}
 use Rattle.low_ir.specs.Turns.{IsGood}
-use Rattle.low_ir.specs.Places.{Placed, Placing, assignment, placed}
 use Rattle.low_ir.specs.Spacing.{IsAssignment}
 use Rattle.low_counts.specs.Totals.{KeepsTotals}
 use Rattle.asm_program.specs.Formed.{IsProgram}
 use Rattle.asm_program.specs.Functions.{function_in}
 use Rattle.asm_sound.specs.Ranges.{InProgram}
-use Rattle.simulation_relation.specs.Following.{Ends}
-use Rattle.image_frames.specs.Memories.{Placement}
 use Rattle.image_definition.specs.Images.{image_in, FitsImage}
-use Rattle.simulation_loaded.specs.Layouts.{layout_of}
 use Rattle.claims_accesses.specs.Laws.{IsNamed}
-use Rattle.claims_definition.specs.Listed.{claims_of}
-use Rattle.claims_image.specs.Images.{laid_of}
+
+-- each visit within a line of regions touches only those that the line names
+abbrev pub RegionsAreKept : Type 0
+RegionsAreKept =
+    (pl : Placement) (p : Placed) → IsSettled (laid_of pl p) → (s : Setup) (v : ℕ) (u : World) (n : ℕ) → Ends (layout_of pl p) s v u n
+    → All (λ x. All (KeepsLine x) (regions_of (laid_of pl p))) (mrun s n).visits
 
 abbrev pub claims_on : Placement → Placed → Claims
 claims_on pl p = claims_of (laid_of pl p)

@@ -1,5 +1,10 @@
 // The laws of kept claims.
-ghost use Rattle.simulation_kept.specs.Laws.{AssignmentsEndInTime, AssignmentsKeepClaims, ImagesKeepClaims};
+ghost use Rattle.simulation_kept.specs.Laws.{RegionsAreKept, AssignmentsEndInTime, AssignmentsKeepClaims, ImagesKeepClaims};
+
+/// A run that has ended as one of its program touches only what the lines of regions name.
+pub fn regions_are_kept()
+    ensures { RegionsAreKept }
+{}
 
 /// A run of the machine that has ended as a run over places keeps the claims.
 pub fn images_keep_claims()

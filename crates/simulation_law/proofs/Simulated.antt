@@ -14,7 +14,7 @@ use Rattle.simulation_memory.specs.Laws.{KeepsRegisters}
 use Rattle.image_frames.specs.Memories.{Placement}
 use Rattle.image_definition.specs.Images.{image_in, FitsImage}
 use Rattle.simulation_loaded.specs.Layouts.{layout_of}
-use Rattle.simulation_start.proofs.Imaged.{image_ends}
+use Rattle.simulation_runs.proofs.Imaged.{image_ends}
 
 from_start : (P : ℕ → Type 0) → Later P 0 → (n : ℕ) × P n
 from_start P (k, h) = (0 + k, h)

@@ -11,9 +11,9 @@ use Rattle.simulation_relation.specs.Following.{PlacedRunning, PlacedRun}
 use Rattle.simulation_steps.proofs.Given.{Given}
 use Rattle.simulation_follow.proofs.Plains.{Runs, Going_at}
 use Rattle.simulation_follow.proofs.Steps.{do_follows}
-use Rattle.simulation_ends.proofs.Ends.{jump_follows, branch_follows}
-use Rattle.simulation_returns.proofs.Leaving.{return_follows}
-use Rattle.simulation_calls.proofs.Follows.{call_follows}
+use Rattle.simulation_runs.proofs.Ends.{jump_follows, branch_follows}
+use Rattle.simulation_runs.proofs.Leaving.{return_follows}
+use Rattle.simulation_runs.proofs.Follows.{call_follows}
 
 module _ (g : Given) where
   end_follows : (r : PlacedRunning) (n : ℕ) (h : Going_at g r n) (end : End Place) → r.top.end ≡ end → r.top.code ≡ [] → Later (Runs g (at_end places g.layout.program r end)) n

@@ -1,5 +1,6 @@
 use Rattle.std.proofs.Common.{◌-◌, ◌<◌, ap, arith, length, ◌∙◌}
 use Rattle.std.specs.Prelude.{reverse}
+use Rattle.std.proofs.lemmas.Result.{MatchResult-weaker}
 use Rattle.high_ir.specs.View.{expr_of, statement_of}
 use Rattle.lower_expression.specs.View.{scope_of, tested_in}
 use Rattle.lower_statement.specs.View.{exits_of, piece_of}
@@ -33,10 +34,11 @@ pub piece-pieces-requires : goal.piece-pieces-requires
 piece-pieces-requires t c =
     (omega (arith, c.decreases, size_of_seq c.args.statement.now c.in-Seq.parts c.deref.result.now c.in-Seq.is c.deref.ensures.value), tt)
 
-pub piece-returns-in_ok-pieces-in-Seq-clause-code : goal.piece-returns-in_ok-pieces-in-Seq-clause-code
-piece-returns-in_ok-pieces-in-Seq-clause-code t c =
-    c.in_ok-pieces-in-Seq.ensures.code
-    ∙ seq_runs (scope_of c.args.scope.now) c.args.statement.now c.in-Seq.parts c.deref.result.now (exits_of c.args.exits.now) (piece_of c.args.emitter.now) c.in-Seq.is c.deref.ensures.value
+pub piece-returns-in-Seq-clause-code : goal.piece-returns-in-Seq-clause-code
+piece-returns-in-Seq-clause-code t c =
+    MatchResult-weaker c.pieces.result c.pieces.ensures.code (λ done runs.
+    runs
+    ∙ seq_runs (scope_of c.args.scope.now) c.args.statement.now c.in-Seq.parts c.deref.result.now (exits_of c.args.exits.now) (piece_of c.args.emitter.now) c.in-Seq.is c.deref.ensures.value) (λ memory no_piece. no_piece)
 
 pub pieces-piece-requires : goal.pieces-piece-requires
 pieces-piece-requires t c =

@@ -1,5 +1,6 @@
 use Rattle.std.proofs.Common.{◌≡◌, ◌+◌, ap, arith, drop, sym, ◌∙◌}
 use Rattle.std.proofs.Math.ListN.{drop_of_length-le}
+use Rattle.std.proofs.lemmas.Result.{MatchResult-weaker}
 use Rattle.types_tree.specs.Tree.{If, IfElse, Switch}
 use Rattle.types_tree.specs.View.{expr_of, items_of, statement_of}
 use Rattle.high_code.specs.Code.{joined}
@@ -58,34 +59,38 @@ pub planned-all_planned-requires : goal.planned-all_planned-requires
 planned-all_planned-requires t c =
     (omega (arith, c.decreases, size_of_block c.args.statement.now c.in-Block.items c.in-Block.at c.deref.result.now c.in-Block.is c.deref.ensures.value), c.requires)
 
-pub planned-returns-in_ok-code-in-Block : goal.planned-returns-in_ok-code-in-Block
-planned-returns-in_ok-code-in-Block t c =
-    c.in_ok-code-in-Block.ensures
+pub planned-returns-in-Block : goal.planned-returns-in-Block
+planned-returns-in-Block t c =
+    MatchResult-weaker c.all_planned.result c.all_planned.ensures (λ code made.
+    made
     ∙ ap (λ xs. all_planned (plan_said c.args.plan.now) (items_of xs) c.args.k (exits_of c.args.exits)) c.deref.ensures.value
-    ∙ sym (block_planned (plan_said c.args.plan.now) c.args.statement.now c.in-Block.items c.in-Block.at c.args.k (exits_of c.args.exits) c.in-Block.is)
+    ∙ sym (block_planned (plan_said c.args.plan.now) c.args.statement.now c.in-Block.items c.in-Block.at c.args.k (exits_of c.args.exits) c.in-Block.is)) (λ memory no_code. no_code)
 
-pub planned-returns-in_ok-code-in-If : goal.planned-returns-in_ok-code-in-If
-planned-returns-in_ok-code-in-If t c =
+pub planned-returns-in-If : goal.planned-returns-in-If
+planned-returns-in-If t c =
     let plan = plan_said c.args.plan.now in
-    c.in_ok-code-in-If.ensures c.in-If.at
+    MatchResult-weaker c.chosen_if.result c.chosen_if.ensures (λ code made.
+    made c.in-If.at
     ∙ ap (λ s. planned plan (If (expr_of c.in-If.test) (statement_of s) c.in-If.at) c.args.k (exits_of c.args.exits)) c.deref-in-If.ensures
-    ∙ sym (ap (λ s. planned plan (statement_of s) c.args.k (exits_of c.args.exits)) c.in-If.is)
+    ∙ sym (ap (λ s. planned plan (statement_of s) c.args.k (exits_of c.args.exits)) c.in-If.is)) (λ memory no_code. no_code)
 
-pub planned-returns-in_ok-code-in-IfElse : goal.planned-returns-in_ok-code-in-IfElse
-planned-returns-in_ok-code-in-IfElse t c =
+pub planned-returns-in-IfElse : goal.planned-returns-in-IfElse
+planned-returns-in-IfElse t c =
     let plan = plan_said c.args.plan.now in
-    c.in_ok-code-in-IfElse.ensures c.in-IfElse.at
+    MatchResult-weaker c.chosen_else.result c.chosen_else.ensures (λ code made.
+    made c.in-IfElse.at
     ∙ ap (λ s. planned plan (IfElse (expr_of c.in-IfElse.test) (statement_of s) (statement_of c.deref-in-IfElse-2.result.now) c.in-IfElse.at) c.args.k (exits_of c.args.exits)) c.deref-in-IfElse.ensures
     ∙ ap (λ s. planned plan (IfElse (expr_of c.in-IfElse.test) (statement_of c.in-IfElse.then.value) (statement_of s) c.in-IfElse.at) c.args.k (exits_of c.args.exits)) c.deref-in-IfElse-2.ensures
-    ∙ sym (ap (λ s. planned plan (statement_of s) c.args.k (exits_of c.args.exits)) c.in-IfElse.is)
+    ∙ sym (ap (λ s. planned plan (statement_of s) c.args.k (exits_of c.args.exits)) c.in-IfElse.is)) (λ memory no_code. no_code)
 
 pub planned-chosen_part-requires : goal.planned-chosen_part-requires
 planned-chosen_part-requires t c =
     (omega (arith, c.decreases, size_of_switch c.args.statement.now c.in-Switch.test c.in-Switch.items c.in-Switch.at c.deref-in-Switch.result.now c.in-Switch.is c.deref-in-Switch.ensures.value), c.requires)
 
-pub planned-returns-in_ok-code-in-Switch : goal.planned-returns-in_ok-code-in-Switch
-planned-returns-in_ok-code-in-Switch t c =
+pub planned-returns-in-Switch : goal.planned-returns-in-Switch
+planned-returns-in-Switch t c =
     let plan = plan_said c.args.plan.now in
-    c.in_ok-code-in-Switch.ensures c.in-Switch.at
+    MatchResult-weaker c.chosen_part.result c.chosen_part.ensures (λ code made.
+    made c.in-Switch.at
     ∙ ap (λ xs. planned plan (Switch (expr_of c.in-Switch.test) (items_of xs) c.in-Switch.at) c.args.k (exits_of c.args.exits)) c.deref-in-Switch.ensures.value
-    ∙ sym (switch_planned plan c.args.statement.now c.in-Switch.test c.in-Switch.items c.in-Switch.at c.args.k (exits_of c.args.exits) c.in-Switch.is)
+    ∙ sym (switch_planned plan c.args.statement.now c.in-Switch.test c.in-Switch.items c.in-Switch.at c.args.k (exits_of c.args.exits) c.in-Switch.is)) (λ memory no_code. no_code)

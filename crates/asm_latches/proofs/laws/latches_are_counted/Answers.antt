@@ -1,5 +1,0 @@
-use Rattle.asm_latches.proofs.LatchLemmas.{latch_counted}
-use Rattle.asm_latches.proofs.laws.latches_are_counted.Goals as goal
-
-pub returns : goal.returns
-returns c = λ g l main image claims s here sys unit x conserved f k i r. latch_counted g l main image claims s here sys unit x conserved f k i r

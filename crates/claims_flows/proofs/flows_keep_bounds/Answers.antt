@@ -1,5 +1,0 @@
-use Rattle.claims_flows.proofs.FlowLemmas.{flows_keep_bounds}
-use Rattle.claims_flows.proofs.flows_keep_bounds.Goals as goal
-
-pub returns : goal.returns
-returns c = flows_keep_bounds c.args.costs.now

@@ -1,4 +1,0 @@
-pub mod Sites
-pub mod Growing
-pub mod Closing
-pub mod Numbering

@@ -1,6 +1,0 @@
-use Rattle.lower_order.proofs.Visits.{ordered}
-use Rattle.lower_claims.proofs.Closing.{closed}
-use Rattle.lower_claims.proofs.laws.claims_are_closed.Goals as goal
-
-pub returns : goal.returns
-returns c = λ p high f h member there. closed p (ordered p high) f h member there

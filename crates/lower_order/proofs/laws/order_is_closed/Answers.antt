@@ -1,5 +1,0 @@
-use Rattle.lower_order.proofs.Visits.{ordered}
-use Rattle.lower_order.proofs.laws.order_is_closed.Goals as goal
-
-pub returns : goal.returns
-returns c = λ p high. ordered p high

@@ -1,0 +1,243 @@
+-- What operators compute of words, in the high form and on the machine.
+use Rattle.std.proofs.Common.{◌≡◌, ◌≢◌, ℕ, zero, suc, ◌-◌, ◌*◌, ◌/◌, ◌%◌, ◌^◌, ◌<◌, ◌≤◌, Bool, true, false, nat_lt, ℤ, pos, negsuc, Some, refl, sym, ap, ◌∙◌, subst, ⊎_elim, arith}
+use Rattle.std.specs.Prelude.{◌==◌, if◌then◌else◌, bit_and, bit_xor, int_div, int_rem, int_lt}
+use Rattle.std.specs.Int.Bits.{xor_self, xor_add_and, and_lt}
+use Rattle.std.proofs.Math.Nat.{div-le_self}
+use Rattle.std.proofs.lemmas.Nat.{xor_lt, or_lt, and_le_l, and_le_r, and_mask, mod_below, pow_below}
+use Rattle.std.proofs.lemmas.Bool.{cases_eq, cases_lt}
+use Rattle.std.proofs.lemmas.Bool.Decides.{nat_tests}
+use Rattle.std.proofs.lemmas.Option.{same_Some}
+use Rattle.wcc_base.specs.Signs.{signed_of}
+use Rattle.wcc_base.specs.Words.{signed_word, wrapped, sign_filled, truth_word, sum_word, difference_word, product_word, quotient_word, remainder_word, signed_quotient_word, signed_remainder_word, and_word, xor_word, left_shift_word, right_shift_word, floor_shift, signed_right_shift_word, equal_word, less_word, signed_less_word}
+use Rattle.high_ir.specs.declared.object.Kind.{Kind as HighKind}
+use Rattle.high_ir.specs.declared.object.Kind.TheVariants as kinds
+use Rattle.high_ir.specs.declared.expression.UnaryOperator.{UnaryOperator}
+use Rattle.high_ir.specs.declared.expression.UnaryOperator.TheVariants.{Negate, Complement, IsZero, Convert}
+use Rattle.high_ir.specs.declared.expression.BinaryOperator.{BinaryOperator}
+use Rattle.high_ir.specs.declared.expression.BinaryOperator.TheVariants.{Add, Subtract, Multiply, Divide, DivideUnsigned, Remainder, RemainderUnsigned, And, Or, Xor, ShiftLeft, ShiftRight, ShiftRightUnsigned, Equal, NotEqual, Less, LessUnsigned, AtLeast, AtLeastUnsigned}
+use Rattle.high_ir.specs.Words.{converted, unary_word, binary_word, untrue_word}
+use Rattle.lower_definition.specs.Operators.{negated, exponent_below, exponent_of}
+
+-- each value is a word
+
+pub truth_below : (b : Bool) → truth_word b < 2 ^ 32
+truth_below true = omega arith
+truth_below false = omega arith
+
+pub wrapped_below : (z : ℤ) → wrapped z < 2 ^ 32
+wrapped_below (pos n) = omega arith
+wrapped_below (negsuc n) = omega arith
+
+product_below : (a b : ℕ) → product_word a b < 2 ^ 32
+product_below a b = mod_below (a * b) (2 ^ 32) (omega arith)
+
+quotient_below : (a b : ℕ) → a < 2 ^ 32 → quotient_word a b < 2 ^ 32
+quotient_below a zero h = omega arith
+quotient_below a (suc b) h = let le = div-le_self a (suc b) in omega (arith, le, h)
+
+remainder_below : (a b : ℕ) → a < 2 ^ 32 → b < 2 ^ 32 → remainder_word a b < 2 ^ 32
+remainder_below a zero h k = h
+remainder_below a (suc b) h k = let lt = mod_below a (suc b) (omega arith) in omega (arith, lt, k)
+
+signed_quotient_below : (a b : ℕ) → signed_quotient_word a b < 2 ^ 32
+signed_quotient_below a zero = omega arith
+signed_quotient_below a (suc b) = wrapped_below (int_div (signed_word a) (signed_word (suc b)))
+
+signed_remainder_below : (a b : ℕ) → a < 2 ^ 32 → signed_remainder_word a b < 2 ^ 32
+signed_remainder_below a zero h = h
+signed_remainder_below a (suc b) h = wrapped_below (int_rem (signed_word a) (signed_word (suc b)))
+
+left_shift_below : (a b : ℕ) → left_shift_word a b < 2 ^ 32
+left_shift_below a b = mod_below (a * 2 ^ (b % 32)) (2 ^ 32) (omega arith)
+
+right_shift_below : (a b : ℕ) → a < 2 ^ 32 → right_shift_word a b < 2 ^ 32
+right_shift_below a b h = let le = div-le_self a (2 ^ (b % 32)) in omega (arith, le, h)
+
+pub binary_below : (operator : BinaryOperator) (a b : ℕ) → a < 2 ^ 32 → b < 2 ^ 32 → binary_word operator a b < 2 ^ 32
+unfolding binary_word
+binary_below Add a b h k = omega arith
+binary_below Subtract a b h k = omega arith
+binary_below Multiply a b h k = product_below a b
+binary_below Divide a b h k = signed_quotient_below a b
+binary_below DivideUnsigned a b h k = quotient_below a b h
+binary_below Remainder a b h k = signed_remainder_below a b h
+binary_below RemainderUnsigned a b h k = remainder_below a b h k
+binary_below And a b h k = and_lt 32 a b h k
+binary_below Or a b h k = or_lt 32 a b h k
+binary_below Xor a b h k = xor_lt 32 a b h k
+binary_below ShiftLeft a b h k = left_shift_below a b
+binary_below ShiftRight a b h k = wrapped_below (floor_shift (signed_word a) (b % 32))
+binary_below ShiftRightUnsigned a b h k = right_shift_below a b h
+binary_below Equal a b h k = truth_below (a == b)
+binary_below NotEqual a b h k = truth_below (equal_word a b == 0)
+binary_below Less a b h k = truth_below (int_lt (signed_word a) (signed_word b))
+binary_below LessUnsigned a b h k = truth_below (nat_lt a b)
+binary_below AtLeast a b h k = truth_below (signed_less_word a b == 0)
+binary_below AtLeastUnsigned a b h k = truth_below (less_word a b == 0)
+
+pub converted_below : (kind : HighKind) (w : ℕ) → w < 2 ^ 32 → converted kind w < 2 ^ 32
+unfolding converted
+converted_below kinds.Unsigned8 w h = omega arith
+converted_below kinds.Signed8 w h = wrapped_below (signed_of 8 (w % 2 ^ 8))
+converted_below kinds.Unsigned16 w h = omega arith
+converted_below kinds.Signed16 w h = wrapped_below (signed_of 16 (w % 2 ^ 16))
+converted_below kinds.Word w h = h
+
+pub unary_below : (operator : UnaryOperator) (w : ℕ) → w < 2 ^ 32 → unary_word operator w < 2 ^ 32
+unfolding unary_word
+unary_below Negate w h = omega arith
+unary_below Complement w h = xor_lt 32 w (2 ^ 32 - 1) h (omega arith)
+unary_below IsZero w h = truth_below (w == 0)
+unary_below (Convert kind) w h = converted_below kind w h
+
+-- a sum with the complement is a difference
+pub sum-negated : (a w : ℕ) → w < 2 ^ 32 → sum_word a (negated w) ≡ difference_word a w
+sum-negated a w h = omega (arith, h)
+
+pub negated_below : (w : ℕ) → negated w < 2 ^ 32
+negated_below w = omega arith
+
+pub sum_sides : (a b : ℕ) → sum_word a b ≡ sum_word b a
+sum_sides a b = omega arith
+
+pub product_sides : (a b : ℕ) → product_word a b ≡ product_word b a
+product_sides a b = let e : a * b ≡ b * a = omega arith in ap (λ n. n % 2 ^ 32) e
+
+-- a power of two
+pub record IsPower (w k : ℕ) : Type 0 where
+  pub power : 2 ^ k ≡ w
+  pub below : k < 32
+
+found : (n w k : ℕ) → n ≤ 32 → exponent_below n w ≡ Some k → IsPower w k
+found zero w k le e = cc
+found (suc n) w k le e = at (2 ^ n == w) refl e (λ f. found n w k (omega (arith, le)) f)
+  where
+    at : (b : Bool) → (2 ^ n == w) ≡ b → (if b then Some n else exponent_below n w) ≡ Some k → (exponent_below n w ≡ Some k → IsPower w k) → IsPower w k
+    at true t e more =
+        let same : n ≡ k = same_Some n k e in
+        let is : 2 ^ n ≡ w = grind (arith, nat_tests, t) in
+        record { power = subst (λ m. 2 ^ m ≡ w) same is; below = omega (arith, same, le) }
+    at false t e more = more e
+
+pub exponent_found : (w k : ℕ) → exponent_of w ≡ Some k → IsPower w k
+unfolding exponent_of
+exponent_found w k e = found 32 w k (omega arith) e
+
+small_shift : (k : ℕ) → k < 32 → k % 32 ≡ k
+small_shift k h = omega (arith, h)
+
+pub product-shift : (a w k : ℕ) → IsPower w k → left_shift_word a k ≡ product_word a w
+product-shift a w k p = ap (λ n. a * 2 ^ n % 2 ^ 32) (small_shift k p.below) ∙ ap (λ m. a * m % 2 ^ 32) p.power
+
+positive : (k : ℕ) → 0 < 2 ^ k
+positive k = at (2 ^ k) refl
+  where
+    at : (n : ℕ) → 2 ^ k ≡ n → 0 < n
+    at zero e = absurd (omega (arith, e, pow_below 0 (suc k) (omega arith)))
+    at (suc n) e = omega arith
+
+quotient_by : (a w : ℕ) → 0 < w → quotient_word a w ≡ a / w
+quotient_by a zero h = absurd (omega (arith, h))
+quotient_by a (suc w) h = refl
+
+remainder_by : (a w : ℕ) → 0 < w → remainder_word a w ≡ a % w
+remainder_by a zero h = absurd (omega (arith, h))
+remainder_by a (suc w) h = refl
+
+pub quotient-shift : (a w k : ℕ) → IsPower w k → right_shift_word a k ≡ quotient_word a w
+quotient-shift a w k p =
+    ap (λ n. a / 2 ^ n) (small_shift k p.below) ∙ ap (λ m. a / m) p.power ∙ sym (quotient_by a w (subst (λ m. 0 < m) p.power (positive k)))
+
+pub remainder-mask : (a w k : ℕ) → IsPower w k → and_word a (w - 1) ≡ remainder_word a w
+remainder-mask a w k p =
+    ap (λ m. bit_and a (m - 1)) (sym p.power) ∙ and_mask a k ∙ ap (λ m. a % m) p.power ∙ sym (remainder_by a w (subst (λ m. 0 < m) p.power (positive k)))
+
+-- words are equal where they differ in no bit
+no_bits : (a b : ℕ) → bit_xor a b ≡ 0 → a ≡ b
+no_bits a b e =
+    let sums = xor_add_and a b in
+    let l = and_le_l a b in
+    let r = and_le_r a b in
+    omega (arith, sums, l, r, e)
+
+pub equal-xor : (a b : ℕ) → less_word (xor_word a b) 1 ≡ equal_word a b
+equal-xor a b = ⊎_elim
+    (λ (same : a ≡ b).
+    let none : bit_xor a b ≡ 0 = ap (bit_xor a) (sym same) ∙ xor_self a in
+    let small : nat_lt (bit_xor a b) 1 ≡ true = grind (arith, nat_tests, none) in
+    let is : (a == b) ≡ true = grind (arith, nat_tests, same) in
+    ap truth_word small ∙ sym (ap truth_word is))
+    (λ (other : a ≢ b).
+    let some : bit_xor a b ≢ 0 = λ e. other (no_bits a b e) in
+    let big : nat_lt (bit_xor a b) 1 ≡ false = grind (arith, nat_tests, some) in
+    let isnt : (a == b) ≡ false = grind (arith, nat_tests, other) in
+    ap truth_word big ∙ sym (ap truth_word isnt))
+    (cases_eq a b)
+
+-- whether a word is 0, and whether it isn't
+pub zero-less : (a : ℕ) → less_word a 1 ≡ equal_word a 0
+zero-less zero = refl
+zero-less (suc a) =
+    let big : nat_lt (suc a) 1 ≡ false = grind (arith, nat_tests) in
+    let isnt : (suc a == 0) ≡ false = grind (arith, nat_tests) in
+    ap truth_word big ∙ sym (ap truth_word isnt)
+
+nonzero-less : (a : ℕ) → less_word 0 a ≡ untrue_word (less_word a 1)
+nonzero-less zero = refl
+nonzero-less (suc a) =
+    let big : nat_lt (suc a) 1 ≡ false = grind (arith, nat_tests) in
+    let some : nat_lt 0 (suc a) ≡ true = grind (arith, nat_tests) in
+    ap truth_word some ∙ sym (ap (λ b. untrue_word (truth_word b)) big)
+
+pub not_equal-xor : (a b : ℕ) → less_word 0 (xor_word a b) ≡ untrue_word (equal_word a b)
+not_equal-xor a b = nonzero-less (xor_word a b) ∙ ap untrue_word (equal-xor a b)
+
+pub untrue-xor : (b : Bool) → xor_word (truth_word b) 1 ≡ untrue_word (truth_word b)
+untrue-xor true = refl
+untrue-xor false = refl
+
+-- conversions
+
+pub low8-mask : (w : ℕ) → and_word w 255 ≡ w % 2 ^ 8
+low8-mask w = and_mask w 8
+
+pub low16-shifts : (w : ℕ) → right_shift_word (left_shift_word w 16) 16 ≡ w % 2 ^ 16
+low16-shifts w = omega arith
+
+filled8 : (x : ℕ) → x < 2 ^ 8 → wrapped (floor_shift (signed_word (x * 2 ^ 24)) 24) ≡ wrapped (signed_of 8 x)
+filled8 x h = ⊎_elim
+    (λ (less : x < 2 ^ 7).
+    let low : nat_lt (x * 2 ^ 24) (2 ^ 31) ≡ true = grind (arith, nat_tests, less) in
+    let low8 : nat_lt x (2 ^ 7) ≡ true = grind (arith, nat_tests, less) in
+    let back : x * 2 ^ 24 / 2 ^ 24 ≡ x = omega arith in
+    ap (λ b. wrapped (floor_shift (if b then pos (x * 2 ^ 24) else negsuc (2 ^ 32 - 1 - x * 2 ^ 24)) 24)) low ∙ ap (λ n. wrapped (pos n)) back ∙ sym (ap (λ b. wrapped (if b then pos x else negsuc (2 ^ 8 - 1 - x))) low8))
+    (λ (more : 2 ^ 7 ≤ x).
+    let low : nat_lt (x * 2 ^ 24) (2 ^ 31) ≡ false = grind (arith, nat_tests, more) in
+    let low8 : nat_lt x (2 ^ 7) ≡ false = grind (arith, nat_tests, more) in
+    let back : (2 ^ 32 - 1 - x * 2 ^ 24) / 2 ^ 24 ≡ 2 ^ 8 - 1 - x = omega (arith, h) in
+    ap (λ b. wrapped (floor_shift (if b then pos (x * 2 ^ 24) else negsuc (2 ^ 32 - 1 - x * 2 ^ 24)) 24)) low ∙ ap (λ n. wrapped (negsuc n)) back ∙ sym (ap (λ b. wrapped (if b then pos x else negsuc (2 ^ 8 - 1 - x))) low8))
+    (cases_lt x (2 ^ 7))
+
+filled16 : (x : ℕ) → x < 2 ^ 16 → wrapped (floor_shift (signed_word (x * 2 ^ 16)) 16) ≡ wrapped (signed_of 16 x)
+filled16 x h = ⊎_elim
+    (λ (less : x < 2 ^ 15).
+    let low : nat_lt (x * 2 ^ 16) (2 ^ 31) ≡ true = grind (arith, nat_tests, less) in
+    let low16 : nat_lt x (2 ^ 15) ≡ true = grind (arith, nat_tests, less) in
+    let back : x * 2 ^ 16 / 2 ^ 16 ≡ x = omega arith in
+    ap (λ b. wrapped (floor_shift (if b then pos (x * 2 ^ 16) else negsuc (2 ^ 32 - 1 - x * 2 ^ 16)) 16)) low ∙ ap (λ n. wrapped (pos n)) back ∙ sym (ap (λ b. wrapped (if b then pos x else negsuc (2 ^ 16 - 1 - x))) low16))
+    (λ (more : 2 ^ 15 ≤ x).
+    let low : nat_lt (x * 2 ^ 16) (2 ^ 31) ≡ false = grind (arith, nat_tests, more) in
+    let low16 : nat_lt x (2 ^ 15) ≡ false = grind (arith, nat_tests, more) in
+    let back : (2 ^ 32 - 1 - x * 2 ^ 16) / 2 ^ 16 ≡ 2 ^ 16 - 1 - x = omega (arith, h) in
+    ap (λ b. wrapped (floor_shift (if b then pos (x * 2 ^ 16) else negsuc (2 ^ 32 - 1 - x * 2 ^ 16)) 16)) low ∙ ap (λ n. wrapped (negsuc n)) back ∙ sym (ap (λ b. wrapped (if b then pos x else negsuc (2 ^ 16 - 1 - x))) low16))
+    (cases_lt x (2 ^ 15))
+
+pub fill8-shifts : (w : ℕ) → signed_right_shift_word (left_shift_word w 24) 24 ≡ sign_filled 8 w
+fill8-shifts w =
+    let up : left_shift_word w 24 ≡ w % 2 ^ 8 * 2 ^ 24 = omega arith in
+    ap (λ n. wrapped (floor_shift (signed_word n) 24)) up ∙ filled8 (w % 2 ^ 8) (omega arith)
+
+pub fill16-shifts : (w : ℕ) → signed_right_shift_word (left_shift_word w 16) 16 ≡ sign_filled 16 w
+fill16-shifts w =
+    let up : left_shift_word w 16 ≡ w % 2 ^ 16 * 2 ^ 16 = omega arith in
+    ap (λ n. wrapped (floor_shift (signed_word n) 16)) up ∙ filled16 (w % 2 ^ 16) (omega arith)

@@ -1,6 +1,0 @@
-use Rattle.std.proofs.Common.{arith}
-use Rattle.lower_words.proofs.Operators.{binary_puts}
-use Rattle.lower_words.proofs.laws.binary_code_computes.Goals as goal
-
-pub returns : goal.returns
-returns c = λ claims u s operator d t x y a b low room ha hb hx hy. binary_puts claims u s t d (omega (arith, low, room)) operator x y a b low room ha hb hx hy

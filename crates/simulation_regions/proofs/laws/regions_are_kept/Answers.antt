@@ -1,5 +1,0 @@
-use Rattle.simulation_regions.proofs.Keeping.{keeps_regions}
-use Rattle.simulation_regions.proofs.laws.regions_are_kept.Goals as goal
-
-pub returns : goal.returns
-returns c = λ pl p is s v u n ends. keeps_regions pl p is s v u n ends

@@ -1,3 +1,0 @@
-pub mod FirstArrays
-pub mod Starting
-pub mod Imaged
