@@ -49,6 +49,3 @@ fn compare_proper(left: (u128, u128), right: (u128, u128)) -> Ordering
     }
     a.cmp(&c)
 }
-
-#[cfg(test)]
-mod tests;
