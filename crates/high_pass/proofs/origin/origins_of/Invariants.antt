@@ -2,7 +2,7 @@ use Rattle.std.proofs.Common.{◌≡◌, ◌<◌, ℕ, drop, length, map}
 use Rattle.std.specs.Prelude.{slice_index_or}
 use Rattle.high_pass.specs.Composing.{no_origin, origin_among}
 use Rattle.high_pass.specs.Listing.{loop_entry}
-use Rattle.high_pass.proofs.compose.origins_of.Given as goal
+use Rattle.high_pass.proofs.origin.origins_of.Given as goal
 
 abbrev pub invariant-loop-entry : goal.invariant-loop-entry
 invariant-loop-entry l =
