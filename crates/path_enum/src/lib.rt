@@ -6,5 +6,6 @@
 #![tactic(auto)]
 
 pub use path_answer::{Bounded, Column, Kind, LoopShape, Span};
+pub use path_best::{best_flows_are_found, fact_flows_are_best};
 pub use path_fit::loops_fit;
 pub use path_search::bound;
