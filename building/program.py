@@ -79,7 +79,7 @@ def build(why, anew=False):
         if not here.toolchain:
             raise NotBuilt("cannot build: rt, the command of the Rattle toolchain, is not on PATH")
         proving, line = Proving(here.crates, here.toolchain, PROGRAM, ROOM), Line()
-        say(f"proving and building{why}: about an hour on four processors, with 6 GB of disk. A call after an interrupt goes on")
+        say(f"proving and building{why}: about an hour on four processors, with 5 GB of disk. A call after an interrupt goes on")
         try:
             program = proving.run(line.show)
         finally:

@@ -91,7 +91,7 @@ class Proving:
             above = [self.rows[it] for it in self.rows if name in crates.libraries(it)]
             self.rows[name] = self.weights[name] + max(above, default=0)
         self.left = sorted(self.names, key=lambda it: -self.rows[it])
-        self.standing, self.running, self.workers = set(), {}, workers()
+        self.standing, self.running, self.killed, self.workers = set(), {}, set(), workers()
         self.weight_ended, self.seconds_of_ended = SECONDS_BEFORE_PACE, SECONDS_BEFORE_PACE
 
     def built(self, name):
@@ -149,14 +149,20 @@ class Proving:
         """Takes what has been built since the last call."""
         for job in [it for it in self.running.values() if it.run.poll() is not None]:
             del self.running[job.name]
-            if job.run.returncode == -signal.SIGKILL and self.workers > 1:
-                # Most likely for memory.
-                self.workers //= 2
-                self.left.insert(0, job.name)
+            if job.run.returncode == -signal.SIGKILL:
+                self.begin_again(job.name)
             elif job.run.returncode:
                 raise NotBuilt(f"{job.name} is not proved: {self.room}/{job.name}.log says why")
             else:
                 self.keep(job)
+
+    def begin_again(self, name):
+        """Where a proof was killed, most likely for memory, fewer are proved at once."""
+        if self.workers == 1 and name in self.killed:
+            raise NotBuilt(f"the proof of {name} was killed, most likely for memory")
+        self.killed.add(name)
+        self.workers = max(1, self.workers // 2)
+        self.left.insert(0, name)
 
     def keep(self, job):
         name = job.name

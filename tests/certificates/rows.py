@@ -1,5 +1,6 @@
 """The rows of the checker, evaluated over whole numbers without end: written from docs/CHECKING.md alone."""
 from collections import defaultdict
+from fractions import Fraction
 
 from . import reports
 from .flows import CodeFault, System, coefficients, destinations, limits, multipliers
@@ -89,9 +90,8 @@ def greatest(system, report, potentials):
         fits = total <= 0 if limit.sign == "<=" else total >= 0 if limit.sign == ">=" else total == 0
         if not fits or sum(map(abs, terms)) >= NARROW:
             raise No(f"unmet {limit.claim}")
-    total = report.scale * sum(listed.get((it.at, it.number), 0) * system.cost(it) for it in system.moves)
-    wanted = report.unit * potentials[system.entry]
-    if total != wanted or abs(total) + abs(wanted) >= NARROW:
+    total = sum(listed.get((it.at, it.number), 0) * system.cost(it) for it in system.moves)
+    if total >= NARROW or Fraction(total, report.unit) != Fraction(potentials[system.entry], report.scale):
         raise No("greatest")
 
 

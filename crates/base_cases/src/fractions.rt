@@ -1,5 +1,5 @@
 // Fractions.
-use frac128::Frac;
+use frac128::{Frac, compare_ratios};
 use std::alloc::{AllocError, Global};
 
 fn shown(alloc: Global, found: Option<Frac>) -> Result<String, AllocError> {
@@ -39,9 +39,22 @@ fn nth(numbers: &[i128], at: usize) -> Option<Frac> {
     }
 }
 
+/// How two fractions of any parts compare, with positive denominators.
+fn compared(alloc: Global, numbers: &[i128]) -> Result<String, AllocError> {
+    if let Some([a, b, c, d, ..]) = numbers.get(0..) {
+        if *b > 0 && *d > 0 {
+            return format!(in alloc; "{:?}", compare_ratios(*a, *b, *c, *d));
+        }
+    }
+    String::from_str(alloc, "no fractions")
+}
+
 /// What a command says of its numbers.
 pub fn answer(alloc: Global, command: &str, text: &str) -> Result<String, AllocError> {
     let numbers = numbers_of(alloc, text)?;
+    if command == "compare" {
+        return compared(alloc, &numbers);
+    }
     let left = nth(&numbers, 0);
     if command == "new" {
         return shown(alloc, left);

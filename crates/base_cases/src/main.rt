@@ -3,6 +3,7 @@
 //! A line of the input is a command and its numbers, and the answer is a line, too:
 //!
 //! - `new N D`, `floor N D`, `add N D N D`, `mul N D N D`, `cmp N D N D`: fractions.
+//! - `compare N D N D`: fractions of any parts, with positive denominators.
 //! - `sum A:C A:C ..`: the terms at the addresses A are added one by one; the faults, and the terms of the sum.
 //! - `store calm`, `store slow`, `store failing`, `sink calm`, `sink failing`: calls of these, and what they answer.
 //!

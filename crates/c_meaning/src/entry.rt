@@ -1,6 +1,7 @@
 // The number of main.
 ghost use Rattle.std.specs.Prelude.{◌≡◌, codes, map};
-ghost use Rattle.facts_definitions.specs.FlowFacts.{function_name, id_in, index_of, main_of};
+ghost use Rattle.facts_definitions.specs.FlowFacts.{id_in, index_of, main_of};
+ghost use Rattle.types_tree.specs.Tree.{function_name};
 ghost use Rattle.types_tree.specs.View.{function_of, program_of};
 
 use c_tree::expression::NameId;

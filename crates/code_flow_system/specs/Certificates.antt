@@ -133,14 +133,14 @@ pub record IsBalanced (out arriving : ℤ) : Type 0 where
   pub equal : out ≡ arriving
   pub narrow : IsNarrow (unsigned_abs out + unsigned_abs arriving)
 
--- the listed flow is one, and its value is the entry's potential over the scale
+-- the listed flow is one, and its value over the unit is the entry's potential over the scale; what its moves cost is narrow together
 pub record IsGreatest (t : Table) (s : System) (c : Cert) : Type 0 where
   pub in_system : All (λ p. has_move s.moves p.at p.number ≡ true) c.flow.parts
   pub balanced : (a : ℕ) → IsBalanced (count (listed c.flow.parts) s.moves a) (coefficient (inflow s.entry c.flow.unit (listed c.flow.parts) s.moves) a)
   pub claims : KeepsCounts s.claims (count (listed c.flow.parts) s.moves)
   pub claims_narrow : All (λ l. IsNarrow (size_by (λ t. t.1 *ℤ count (listed c.flow.parts) s.moves t.0) l.terms)) (limits s.claims c)
   pub reached : (pos c.scale *ℤ value t s (listed c.flow.parts)) ≡ (pos c.flow.unit *ℤ potential c s.entry)
-  pub narrow : IsNarrow (unsigned_abs (pos c.scale *ℤ value t s (listed c.flow.parts)) + unsigned_abs (pos c.flow.unit *ℤ potential c s.entry))
+  pub narrow : IsNarrow (unsigned_abs (value t s (listed c.flow.parts)))
 
 abbrev pub KeepsMark : Mark → Table → System → Cert → Type 0
 KeepsMark Greatest t s c = IsGreatest t s c

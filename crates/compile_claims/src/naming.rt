@@ -1,40 +1,14 @@
 // Loop claims by the loops of the source.
-ghost use Rattle.std.specs.Prelude.{◌≡◌, ℕ, ◌<◌, [], length, map, slice_index_or, All, IfOk};
-ghost use Rattle.high_pass.specs.Composing.{no_origin, origin_among, origin_within};
+ghost use Rattle.std.specs.Prelude.{◌≡◌, ◌<◌, [], length, map, slice_index_or, All, IfOk};
+ghost use Rattle.high_pass.specs.Composing.{no_origin};
 ghost use Rattle.high_pass.specs.Listing.{loop_entry};
 ghost use Rattle.compile_claims.specs.Named.{named, renamed};
 
 use code_flow_system::{Claims, LoopClaim};
 use high_ir::LoopCopies;
-use high_pass::origin::Origin;
+use high_pass::origin::{Origin, origins_of};
 use std::alloc::Global;
 use wcc_base::Memory;
-
-/// Notes of which loop these are the copies.
-fn note_origins(origins: &mut [Origin], entry: &LoopCopies)
-    requires { All (λ l. l.id < length origins.old) entry.now.new.items }
-    ensures { (k : ℕ) → k < length origins.old → slice_index_or origins.new k no_origin ≡ origin_within entry.now.old entry.now.new.items k (slice_index_or origins.old k no_origin) }
-{
-    for copy in &entry.new {
-        origins[copy.id as usize] = Origin {
-            old: entry.old,
-            factor: copy.factor,
-        };
-    }
-}
-
-/// Of which loop of the source each loop is a copy, by its number.
-fn origins_of(alloc: Global, copies: &[LoopCopies], loops: u32) -> Result<Vec<Origin>, Memory>
-    requires { All (λ e. All (λ l. l.id < loops) e.new) (map loop_entry copies.now) }
-    ensures count { IfOk result (λ v. length v.items ≡ loops) }
-    ensures origins { IfOk result (λ v. (k : ℕ) → k < loops → slice_index_or v.items k no_origin ≡ origin_among (map loop_entry copies.now) k no_origin) }
-{
-    let mut origins = vec![in alloc; Origin { old: 0, factor: 0 }; loops as usize]?;
-    for entry in copies {
-        note_origins(&mut origins, entry);
-    }
-    Ok(origins)
-}
 
 /// The claim with the loop of the source, numbered from 1 on.
 fn renamed(claim: LoopClaim, origin: Origin) -> LoopClaim

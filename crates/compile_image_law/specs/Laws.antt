@@ -14,6 +14,7 @@ use Rattle.meaning_semantics.specs.Runs.{meaning}
 use Rattle.meaning_semantics.specs.declared.source_run.SourceRun.TheVariants.{Done}
 use Rattle.types_tree.specs.Tree as typed
 use Rattle.high_ir.specs.Tree.{Program}
+use Rattle.high_ir.specs.Whole.{IsWhole}
 use Rattle.high_pass.specs.Carries.{Behaviour, Carries, Shown}
 use Rattle.high_pass.specs.Listing.{Listing}
 use Rattle.plan_carried.specs.Sources.{source_behaviour}
@@ -22,7 +23,6 @@ use Rattle.low_ir.specs.Places.{Placed, Placing, assignment, placed}
 use Rattle.image_frames.specs.Memories.{Placement}
 use Rattle.claims_definition.specs.Listed.{places_of}
 use Rattle.claims_image.specs.Images.{laid_of}
-use Rattle.lower_program.specs.Kept.{IsWhole}
 use Rattle.lower_law.specs.Programs.{KeepsProgram}
 use Rattle.simulation_kept.specs.Laws.{claims_on, run_of, HasSystem}
 use Rattle.layout_law.specs.Kept.{KeepsLow}

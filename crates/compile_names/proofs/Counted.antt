@@ -2,7 +2,8 @@
 use Rattle.std.proofs.Common.{◌≡◌, ℕ, List, [], ◌∷◌, ◌++◌, map, Option, Some, None, refl, sym, subst}
 use Rattle.std.specs.List.{All, Contains}
 use Rattle.std.proofs.lemmas.List.Elements.{All-append, All-cons, All-contains, All-nil}
-use Rattle.facts_definitions.specs.FlowFacts.{and_one, function_name, gathered, id_in, marker_at, marker_ids, name_id, numbered as id_of}
+use Rattle.facts_definitions.specs.FlowFacts.{and_one, gathered, id_in, marker_at, marker_ids, name_id, numbered as id_of}
+use Rattle.types_tree.specs.Tree.{function_name}
 use Rattle.facts_definitions.specs.PragmaTexts.{marker_name}
 use Rattle.facts_definitions.specs.Sites.{sites_of}
 use Rattle.facts_definitions.specs.declared.facts.Facts.{Facts}

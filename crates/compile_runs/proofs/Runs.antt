@@ -2,6 +2,7 @@
 use Rattle.std.proofs.Common.{◌≡◌, ℕ, ℤ, pos, List, [], ◌++◌, refl, sym, ap, ◌∙◌, subst}
 use Rattle.std.specs.Prelude.{slice_index_or}
 use Rattle.std.proofs.lemmas.Option.{get_or_from_slice_get, slice_get_within}
+use Rattle.high_ir.specs.Whole.{IsWhole}
 use Rattle.frac128.specs.Terms.{int_sum_by}
 use Rattle.frac128.proofs.TermsLemmas.{int_sum_by-same}
 use Rattle.rv_core.specs.Images.{Image}
@@ -22,7 +23,6 @@ use Rattle.low_ir.specs.Placings.{placed_of, placings_of}
 use Rattle.low_ir.specs.Programs.{low_of}
 use Rattle.image_definition.specs.Images.{image_in}
 use Rattle.simulation_kept.specs.Laws.{run_of}
-use Rattle.lower_program.specs.Kept.{IsWhole}
 use Rattle.claims_definition.specs.Listed.{claims_of}
 use Rattle.claims_image.specs.Images.{laid_of}
 use Rattle.compile_image_law.specs.Laws.{EndsAsMain, IsCompiled, passed}

@@ -1,5 +1,5 @@
 -- The image of a source: nothing lies in its scratchpad, and its loads and stores lie in lines.
-use Rattle.std.proofs.Common.{◌≡◌, ℕ, List, sym, ap, ◌∙◌, subst, true, Contains, All}
+use Rattle.std.proofs.Common.{◌≡◌, ℕ, ◌<◌, List, sym, ap, ◌∙◌, subst, true, Contains, All}
 use Rattle.std.specs.Prelude.{slice_get}
 use Rattle.std.proofs.lemmas.List.Elements.{All-contains_itself, All-weaker}
 use Rattle.rv_core.specs.Images.{Image}
@@ -14,11 +14,14 @@ use Rattle.facts_front.specs.Fronts.{IsSource}
 use Rattle.types_tree.specs.Tree.{Program}
 use Rattle.plan_checked.proofs.Sources.{checked}
 use Rattle.plan_elements.specs.Elements.{HasElements as HaveSome}
-use Rattle.plan_elements.proofs.Programs.{lowered_some, plan_some}
+use Rattle.plan_elements.proofs.Programs.{plan_some}
+use Rattle.high_ir.specs.Tree as high
 use Rattle.high_pass.specs.Listing.{LoopEntry, listing_of}
+use Rattle.low_ir.specs.Code.{Object}
 use Rattle.low_ir.specs.Places.{Placed, assignment, placed}
 use Rattle.low_ir.specs.Placings.{placings_of}
 use Rattle.low_ir.specs.Programs.{low_of}
+use Rattle.lower_definition.specs.Objects.{object_of}
 use Rattle.image_definition.specs.Images.{image_in}
 use Rattle.claims_definition.specs.Listed.{Laid, claims_of, regions_of}
 use Rattle.claims_image.specs.Images.{laid_of}
@@ -33,6 +36,7 @@ use Rattle.promise_report.specs.Compiled.{AreLined, IsLined, scratchpad_taken}
 use Rattle.compile_sizes.specs.Limits.{nothing}
 use Rattle.compile_reports.specs.Reported.{IsReported}
 use Rattle.compile_told.proofs.Lined.{move_lined}
+use Rattle.compile_told.proofs.Lists.{all_got, map_got}
 use Rattle.compile_told.proofs.Unplaced.{moves_none, unplaced}
 
 module _ (names : List (List ℕ)) (program : Program) (facts : Facts) (m : Made) (made : IsMade names program facts m) where
@@ -52,7 +56,8 @@ module _ (names : List (List ℕ)) (program : Program) (facts : Facts) (m : Made
     elements : HasElements over
     elements o x e =
         let some : HaveSome made.program = subst HaveSome (sym made.planned) (plan_some names program facts (checked source names program facts is)) in
-        lowered_some made.program.objects some o x (sym (ap (λ l. slice_get l o) made.in_memory.keeps_program.objects) ∙ e)
+        let from = map_got object_of made.program.objects o x (sym (ap (λ l. slice_get l o) made.in_memory.keeps_program.objects) ∙ e) in
+        subst (λ (z : Object). 0 < z.size) from.2 (all_got (λ (y : high.Object). 0 < y.size) made.program.objects o from.0 some from.1)
 
     module _ (t : Table) (r : Report) (s : System) (reported : IsReported t names facts m r) (system : IsSystemOf m.laid.image r.claims s) where
       abbrev es : List LoopEntry

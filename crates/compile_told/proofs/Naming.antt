@@ -14,7 +14,8 @@ use Rattle.c_tree.specs.Spelling.{mark_said, spell_unit}
 use Rattle.c_tree.specs.Tree.{Row, Nothing, Then, External, Restriction, Declaring, Function, TranslationUnit, Whole}
 use Rattle.c_tree.specs.declared.expression.NameId.{NameId}
 use Rattle.c_lexer.specs.Cut.{HasTokens}
-use Rattle.facts_definitions.specs.FlowFacts.{function_name, name_id}
+use Rattle.facts_definitions.specs.FlowFacts.{name_id}
+use Rattle.types_tree.specs.Tree.{function_name}
 use Rattle.facts_definitions.specs.declared.facts.Facts.{Facts}
 use Rattle.facts_front.specs.Fronts.{IsSource}
 use Rattle.types_rules.specs.Limits.{broken, limits_before, limits_behind, tally_unit, variables_of}
@@ -22,11 +23,11 @@ use Rattle.types_rules.specs.Scope.{started, with_number}
 use Rattle.types_rules.specs.Sights.{SeenUnit, definitions, externals_nodes, first_fault, outline_of, unit_nodes}
 use Rattle.types_tree.specs.Tree.{Program}
 use Rattle.c_types.specs.Typed.{fault_behind, fault_of, typed_of}
-use Rattle.plan_fit.proofs.Rules.{none_first, none_second, parts_keep}
-use Rattle.plan_layout.proofs.Lists.{slice_get-cases, slice_get-one}
-use Rattle.plan_layout.proofs.Trees.{not_broken}
+use Rattle.types_seen.proofs.Rules.{none_first, none_second, parts_keep}
+use Rattle.types_seen.proofs.Lists.{slice_get-cases, slice_get-one}
+use Rattle.types_seen.proofs.Units.{not_broken}
 use Rattle.plan_formed.proofs.Facts.{says}
-use Rattle.plan_served.proofs.Known.{named}
+use Rattle.types_seen.proofs.Known.{named}
 use Rattle.facts_laws.proofs.Cutting.{list_tokens}
 use Rattle.facts_laws.proofs.Naming.{HasName, IsPragma, named_each}
 use Rattle.facts_laws.proofs.Numbering.{AreOnce, number_of, once_all, once_none, within_names}

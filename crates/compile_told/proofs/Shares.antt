@@ -15,7 +15,7 @@ use Rattle.asm_items.specs.Placings.{base_of, start_of}
 use Rattle.high_ir.specs.Tree as high
 use Rattle.high_pass.specs.Listing.{MarkEntry, mark_copies}
 use Rattle.high_pass.proofs.Elements.{Contains-flat_map}
-use Rattle.plan_layout.proofs.Lists.{slice_get-before, slice_get-some}
+use Rattle.types_seen.proofs.Lists.{slice_get-before, slice_get-some}
 use Rattle.low_ir.specs.declared.places.Place.{Place}
 use Rattle.low_ir.specs.Code.{Block, Function, Low, Note}
 use Rattle.low_ir.specs.Formed.{HasMarkBelow, mark_of, opening}

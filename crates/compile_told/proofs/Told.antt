@@ -9,6 +9,7 @@ use Rattle.code_flow_system.specs.declared.claims.FactClaim.{FactClaim}
 use Rattle.code_flow_system.specs.declared.claims.LoopClaim.{LoopClaim}
 use Rattle.code_flow_system.specs.declared.claims.Never.{Never}
 use Rattle.facts_definitions.specs.declared.facts.Facts.{Facts}
+use Rattle.facts_loops.specs.Loops.{source_loops}
 use Rattle.facts_definitions.specs.declared.facts.Restriction.{Restriction}
 use Rattle.facts_front.specs.Fronts.{IsSource}
 use Rattle.types_tree.specs.Tree.{Program}
@@ -33,7 +34,7 @@ use Rattle.report_text.specs.Reports.{Report}
 use Rattle.compile_claims.specs.Named.{named as renamed}
 use Rattle.compile_image.specs.declared.stages.Made.{Made}
 use Rattle.compile_image.specs.Made.{IsMade}
-use Rattle.promise_report.specs.Facts.{AreFactLines, IsLoopLine, IsNeverLine, TellsFacts, places_told, source_bounds}
+use Rattle.promise_report.specs.Facts.{AreFactLines, IsLoopLine, IsNeverLine, TellsFacts, places_told}
 use Rattle.compile_sizes.specs.Limits.{nothing}
 use Rattle.compile_reports.specs.Reported.{AreShared, IsReported}
 use Rattle.compile_reports.proofs.Openings.{functions_counted}
@@ -100,15 +101,15 @@ module _ (source : List ℕ) (names : List (List ℕ)) (program : Program) (fact
       let kept = made.in_memory.keeps_low in
       let carries = made.keeps_source.carries in
       let marks = (listing_of m.copies).marks in
-      let bounds = source_bounds program facts in
+      let loops = source_loops program facts in
       let places = m.laid.lists.places.items in
       record {
         copies = names_told names places (facts.functions ++ facts.markers) marks r.names reported.lines;
         facts_told = subst (λ (rs : List Restriction). AreFactLines facts (places_told facts r) rs r.claims.facts) (sym plain)
             (subst (λ (cs : List FactClaim). AreFactLines facts (places_told facts r) [] cs) (sym (ap (λ (c : Claims). c.facts) claims_are)) tt);
-        loops = subst (λ (cs : List LoopClaim). All (IsLoopLine bounds) cs) (sym (ap (λ (c : Claims). c.loops) claims_are))
-            (loops_lined (source_behaviour program names facts) made.program (listing_of m.copies) carries made.keeps_source.is_high q keeps a own refl kept.loops);
-        nevers = subst (λ (cs : List Never). All (IsNeverLine bounds) cs) (sym (ap (λ (c : Claims). c.nevers) claims_are)) (All-nil (IsNeverLine bounds));
+        loops = subst (λ (cs : List LoopClaim). All (IsLoopLine loops) cs) (sym (ap (λ (c : Claims). c.loops) claims_are))
+            (loops_lined loops (source_behaviour program names facts) refl made.program (listing_of m.copies) carries made.keeps_source.is_high q keeps a own refl kept.loops);
+        nevers = subst (λ (cs : List Never). All (IsNeverLine loops) cs) (sym (ap (λ (c : Claims). c.nevers) claims_are)) (All-nil (IsNeverLine loops));
         shares = λ i d lt.
             let s = slice_index_or r.shares i d in
             let h = has_code i s (slice_get-get_or r.shares i d lt) in

@@ -3,11 +3,12 @@ use Rattle.std.proofs.Common.{ℕ, List, All}
 use Rattle.std.proofs.lemmas.List.Elements.{All-map}
 use Rattle.facts_definitions.specs.FlowFacts.{AreFacts}
 use Rattle.facts_definitions.specs.declared.facts.Facts.{Facts}
+use Rattle.facts_loops.specs.Loops.{source_loops}
 use Rattle.types_tree.specs.Tree as c
 use Rattle.plan_carried.specs.Sources.{source_behaviour}
 use Rattle.high_ir.specs.Formed.{IsHigh}
 use Rattle.high_ir.specs.Tree as high
-use Rattle.plan_loops.specs.Loops.{functions_loops, in_source}
+use Rattle.plan_loops.specs.Loops.{bounded}
 use Rattle.high_pass.specs.Carries.{Carries}
 use Rattle.high_pass.specs.Listing.{Listing}
 use Rattle.low_ir.specs.Code.{Low}
@@ -19,7 +20,7 @@ use Rattle.compile_turns.proofs.Lowering.{lowered_kept}
 use Rattle.compile_turns.proofs.Ordered.{facts_ordered}
 
 pub source_kept : (source : c.Program) (names : List (List ℕ)) (facts : Facts) → AreFacts source names facts → All IsKeepable (source_behaviour source names facts).loops
-source_kept source names facts are = All-map IsKeepable in_source (functions_loops facts.bounds source.functions) (functions_kept facts.bounds (facts_ordered source names facts are) source.functions)
+source_kept source names facts are = All-map IsKeepable bounded (source_loops source facts) (functions_kept facts.bounds (facts_ordered source names facts are) source.functions)
 
 pub all_kept : (source : c.Program) (names : List (List ℕ)) (facts : Facts) (p : high.Program) (made : Listing) (q : Low) → AreFacts source names facts → Carries (source_behaviour source names facts) p made → IsHigh p → KeepsProgram p q → LowTurns q
 all_kept source names facts p made q are carries is_high keeps = lowered_kept p q keeps (carried_kept (source_behaviour source names facts) p made carries is_high (source_kept source names facts are))

@@ -1,5 +1,6 @@
 -- The constants of a source that was read are words, so its plan is whole.
 use Rattle.std.proofs.Common.{ℕ, List, sym, subst}
+use Rattle.high_ir.specs.Whole.{IsWhole}
 use Rattle.facts_definitions.specs.FlowFacts.{main_of}
 use Rattle.facts_definitions.specs.declared.facts.Facts.{Facts}
 use Rattle.facts_front.specs.Fronts.{IsSource}
@@ -10,7 +11,6 @@ use Rattle.c_tree.specs.Spelling.{spell_unit}
 use Rattle.types_tree.specs.Tree.{Program}
 use Rattle.plan_checked.proofs.Sources.{checked}
 use Rattle.plan_definition.specs.Programs.{program_planned}
-use Rattle.lower_program.specs.Kept.{IsWhole}
 use Rattle.plan_whole.specs.Words.{ProgramWords}
 use Rattle.plan_whole.proofs.Whole.{planned_is_whole}
 use Rattle.compile_words.proofs.Spelling.{unit_tree}
@@ -25,6 +25,6 @@ source_words source names program facts h =
     let marks = spelling_words (spell_unit (named_unit (name_of names) p.unit)) u.tokens are u.tree.1 in
     subst ProgramWords (sym p.program_is) (unit_words names p.unit (unit_tree (name_of names) p.unit marks))
 
--- what the low form asks of the program that it becomes
+-- the program that it becomes is whole
 pub source_is_whole : (source : List ℕ) (names : List (List ℕ)) (program : Program) (facts : Facts) → IsSource source names program facts → IsWhole (program_planned program facts (main_of program names))
 source_is_whole source names program facts h = planned_is_whole names program facts (checked source names program facts h) (source_words source names program facts h)

@@ -130,11 +130,11 @@ pub record AreMet (s : System) (c : Cert) : Type 0 where
   pub claims : KeepsCounts s.claims (counts s c)
   pub narrow : All (λ l. IsNarrow (size_by (λ t. t.1 *ℤ counts s c t.0) l.terms)) (limits s.claims c)
 
--- greatest: the listed flow's value is the entry's potential over the scale
+-- greatest: the listed flow's value over the unit is the entry's potential over the scale, as fractions; what its moves cost is narrow together
 
 pub record IsReached (t : Table) (s : System) (c : Cert) : Type 0 where
   pub equal : (pos c.scale *ℤ value t s (listed c.flow.parts)) ≡ (pos c.flow.unit *ℤ potential c s.entry)
-  pub narrow : IsNarrow (unsigned_abs (pos c.scale *ℤ value t s (listed c.flow.parts)) + unsigned_abs (pos c.flow.unit *ℤ potential c s.entry))
+  pub narrow : IsNarrow (unsigned_abs (value t s (listed c.flow.parts)))
 
 -- empty: the entry's potential is negative
 

@@ -1,56 +1,68 @@
 // Whether the value of the listed flow is the entry's potential over the scale.
-ghost use Rattle.std.specs.Prelude.{◌≡◌, ◌+◌, ◌<◌, ◌≤◌, ◌^◌, pos, ◌+ℤ◌, ◌-ℤ◌, ◌*ℤ◌, unsigned_abs, IfSome, IsNone, ◌↔◌, true};
+ghost use Rattle.std.specs.Prelude.{◌≡◌, ◌+◌, ◌<◌, ◌≤◌, ◌^◌, pos, ◌+ℤ◌, ◌*ℤ◌, unsigned_abs, IfSome, IsNone, ◌↔◌, true};
 ghost use Rattle.frac128.specs.Terms.{int_sum_by};
 ghost use Rattle.rv_core.specs.Table.{table_of};
+ghost use Rattle.code_flow_system.specs.declared.cert.Mark.{Mark};
 ghost use Rattle.code_flow_system.specs.Counts.{amount};
-ghost use Rattle.code_flow_system.specs.Flows.{value};
-ghost use Rattle.code_flow_system.specs.Certificates.{listed, size_by, potential, scaled_price, whole_part, IsInForm};
+ghost use Rattle.code_flow_system.specs.Flows.{price, value};
+ghost use Rattle.code_flow_system.specs.Certificates.{listed, size_by, whole_part, IsInForm};
 ghost use Rattle.dual_check.specs.Rows.{HasValue, IsReached};
 
 use crate::flows::amount_of;
 use crate::potentials::potential_of;
-use crate::rows::price;
 use crate::running::{Running, add_term, nothing};
-use crate::wide::negated;
+use crate::wide::whole;
 use code_flow_lookup::move_cost;
 use code_flow_system::{Cert, System};
+use frac128::compare_ratios;
 use rv_core::Costs;
+use std::cmp::Ordering;
 
-/// What the listed flow pays for its moves.
-fn add_prices(sum: Running, system: &System, costs: &Costs, cert: &Cert) -> Option<Running>
+/// A sum and what the listed flow pays for its moves.
+fn add_costs(sum: Running, system: &System, costs: &Costs, cert: &Cert) -> Option<Running>
     requires { IsInForm system.now.claims cert.now }
-    ensures none { IsNone result ↔ (2 ^ 126 ≤ sum.size + size_by (λ m. amount (listed cert.now.flow.parts) m *ℤ scaled_price (table_of costs.now) system.now cert.now m) system.now.moves) }
-    ensures total { IfSome result (λ r. r.total ≡ sum.total +ℤ int_sum_by (λ m. amount (listed cert.now.flow.parts) m *ℤ scaled_price (table_of costs.now) system.now cert.now m) system.now.moves) }
+    ensures none { IsNone result ↔ (2 ^ 126 ≤ sum.size + size_by (λ m. amount (listed cert.now.flow.parts) m *ℤ price (table_of costs.now) system.now m) system.now.moves) }
+    ensures total { IfSome result (λ r. r.total ≡ sum.total +ℤ int_sum_by (λ m. amount (listed cert.now.flow.parts) m *ℤ price (table_of costs.now) system.now m) system.now.moves) }
 {
     let moves = system.moves();
     let mut all = sum;
     for i in 0..moves.len() {
         let step = &moves[i];
-        let price = price(move_cost(system, costs, step), cert.scale);
-        all = add_term(all, amount_of(system, cert, step), price)?;
+        let cost = whole(move_cost(system, costs, step));
+        all = add_term(all, amount_of(system, cert, step), cost)?;
     }
     Some(all)
 }
 
-/// The listed flow's value times the scale, less the unit times the entry's potential.
-fn excess(system: &System, costs: &Costs, cert: &Cert) -> Option<Running>
+/// The listed flow's value, over its unit.
+fn value(system: &System, costs: &Costs, cert: &Cert) -> Option<Running>
     requires { IsInForm system.now.claims cert.now }
-    ensures none { IsNone result ↔ (2 ^ 126 ≤ unsigned_abs (pos cert.now.scale *ℤ value (table_of costs.now) system.now (listed cert.now.flow.parts)) + unsigned_abs (pos cert.now.flow.unit *ℤ potential cert.now system.now.entry)) }
-    ensures total { IfSome result (λ r. r.total ≡ (pos cert.now.scale *ℤ value (table_of costs.now) system.now (listed cert.now.flow.parts)) -ℤ (pos cert.now.flow.unit *ℤ potential cert.now system.now.entry)) }
+    ensures none { IsNone result ↔ (2 ^ 126 ≤ unsigned_abs (value (table_of costs.now) system.now (listed cert.now.flow.parts))) }
+    ensures total { IfSome result (λ r. r.total ≡ value (table_of costs.now) system.now (listed cert.now.flow.parts)) }
 {
-    let unit = negated(cert.flow.unit);
-    let entry = potential_of(cert, system.entry());
-    let bound = add_term(nothing(), unit, entry)?;
-    add_prices(bound, system, costs, cert)
+    add_costs(nothing(), system, costs, cert)
+}
+
+/// Whether a number over the unit is another one over the scale.
+fn is_ratio(number: i128, unit: u64, other: i128, scale: u64) -> bool
+    requires unit { 0 < unit }
+    requires scale { 0 < scale }
+    ensures { (result ≡ true) ↔ ((pos scale *ℤ number) ≡ (pos unit *ℤ other)) }
+{
+    compare_ratios(number, whole(unit), other, whole(scale)) == Ordering::Equal
 }
 
 /// Whether the listed flow's value is the entry's potential over the scale.
 pub fn is_reached(system: &System, costs: &Costs, cert: &Cert) -> bool
-    requires { IsInForm system.now.claims cert.now }
+    requires form { IsInForm system.now.claims cert.now }
+    requires mark { cert.now.mark ≡ Mark.Greatest }
     ensures { (result ≡ true) ↔ IsReached (table_of costs.now) system.now cert.now }
 {
-    match excess(system, costs, cert) {
-        Some(sum) => sum.total == 0,
+    match value(system, costs, cert) {
+        Some(sum) => {
+            let entry = potential_of(cert, system.entry());
+            is_ratio(sum.total, cert.flow.unit, entry, cert.scale)
+        }
         None => false,
     }
 }

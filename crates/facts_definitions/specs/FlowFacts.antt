@@ -17,7 +17,7 @@ use Rattle.types_calls.specs.declared.ranks.Ranks.{Ranks}
 use Rattle.facts_definitions.specs.declared.site.Site.{Site}
 use Rattle.facts_definitions.specs.declared.site.Site.TheVariants as sites
 use Rattle.c_tree.specs.declared.expression.NameId.{NameId}
-use Rattle.types_tree.specs.Tree.{Function, Defined, Program}
+use Rattle.types_tree.specs.Tree.{Function, Program, function_name}
 
 -- the number of a name in a list of names, or the list's length
 abbrev pub id_in : List (List ℕ) → List ℕ → ℕ
@@ -64,9 +64,6 @@ marker_ids names all = gathered (marker_at names) all
 
 abbrev pub function_ids : List Site → List ℕ
 function_ids all = gathered function_at all
-
-abbrev pub function_name : Function → ℕ
-function_name (Defined specifiers name name_at params first body body_at at) = name
 
 -- what names in pragmas may stand for, and the bounds that were derived
 pub record Known : Type 0 where

@@ -1,13 +1,12 @@
 -- The nodes of lists.
 use Rattle.std.proofs.Common.{◌≡◌, ℕ, ◌+◌, List, [], ◌∷◌, map, refl, sym, ap, ◌∙◌}
-use Rattle.std.specs.Prelude.{Vec, sum_by, length}
+use Rattle.std.specs.Prelude.{Vec, sum_by}
 use Rattle.std.specs.Global.{Global}
 use Rattle.std.proofs.lemmas.List.Sums.{sum_by-cons}
-use Rattle.high_ir.specs.declared.object.Base.{Base}
 use Rattle.high_ir.specs.declared.expression.Expr as exprs
 use Rattle.high_ir.specs.declared.statement.Statement as statements
-use Rattle.high_ir.specs.Size.{expr_nodes, nodes, nodes_all}
-use Rattle.high_ir.specs.View.{expr_of, statement_of, statements_of}
+use Rattle.high_ir.specs.Size.{nodes, nodes_all}
+use Rattle.high_ir.specs.View.{statement_of, statements_of}
 use Rattle.high_ir.proofs.Rows.{statement_of-Seq}
 
 pub sum_by-map : {A B : Type 0} (f : B → ℕ) (g : A → B) (xs : List A) → sum_by f (map g xs) ≡ sum_by (λ x. f (g x)) xs
@@ -20,6 +19,3 @@ nodes_all-statements_of (x ∷ xs) = ap (λ n. nodes (statement_of x) + n) (node
 
 pub nodes-Seq : (s : statements.Statement) (v : Vec statements.Statement Global) → s ≡ statements.Seq v → nodes (statement_of s) ≡ sum_by (λ s. nodes (statement_of s)) v.items + 1
 nodes-Seq s v same = ap (λ s. nodes (statement_of s)) same ∙ ap nodes (statement_of-Seq v) ∙ ap (λ n. n + 1) (nodes_all-statements_of v.items)
-
-pub nodes-Call : (s : statements.Statement) (f : ℕ) (v : Vec exprs.Expr Global) (a : Vec Base Global) (into : _) → s ≡ statements.Call f v a into → nodes (statement_of s) ≡ sum_by (λ e. expr_nodes (expr_of e)) v.items + length a.items + 1
-nodes-Call s f v a into same = ap (λ s. nodes (statement_of s)) same ∙ ap (λ n. n + length a.items + 1) (sum_by-map expr_nodes expr_of v.items)

@@ -8,4 +8,5 @@ pub mod Size
 pub mod Splitting
 pub mod Weight
 pub mod Formed
+pub mod Whole
 pub mod Programs

@@ -3,7 +3,7 @@
 //!
 //! `specs/` has the tree without where it lies in memory (`Tree`, `View`), what it does (`Words`,
 //! `Meaning`, `Runs`), how large it is (`Size`, `Weight`) and what a program keeps to (`Standing`,
-//! `Formed`). A run is good where it ends by a return and every loop starts its body as often as its
+//! `Formed`, and `Whole`: its constants are words). A run is good where it ends by a return and every loop starts its body as often as its
 //! bounds say.
 //!
 //! Proved: [`High`] keeps to `IsHigh`; [`size`] and [`loops`] are its numbers, and the operators

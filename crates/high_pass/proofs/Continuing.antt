@@ -111,10 +111,6 @@ module _ (old new : Program) (whole step : Listing) (high : IsHigh old) (lists :
       wider f le = omega (arith, le)
 
   module _ (first : Behaviour) (h : Carries first old whole) where
-    -- a loop of the old program that is a copy of one of the first
-    IsCopyOf : ℕ → ℕ → ℕ → Type 0
-    IsCopyOf id from factor = (1 ≤ factor) × AreBy (bounds_of first.loops from) factor (bounds_of (loops_in old.functions) id)
-
     lists_through : ListsThoseOf new (composed whole step)
     lists_through = record {
       marks = λ k. sum_by-listed_marks (λ x. cond (x == k) 1 0) whole step old.marks lists.marks marks_length ∙ law.carries.lists.marks k;

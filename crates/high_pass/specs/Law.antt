@@ -3,6 +3,7 @@ use Rattle.std.specs.Prelude.{◌≡◌, ℕ, ◌≤◌, map, All, sum_by}
 use Rattle.high_ir.specs.Tree.{Function, Program}
 use Rattle.high_ir.specs.Size.{program_operations, program_depth, local_bytes}
 use Rattle.high_ir.specs.Weight.{weight, reach}
+use Rattle.high_ir.specs.Whole.{IsWhole}
 use Rattle.high_pass.specs.Listing.{Listing}
 use Rattle.high_pass.specs.Carries.{behaviour_of, Carries}
 
@@ -37,6 +38,8 @@ pub record IsLawful (old new : Program) (c : Listing) : Type 0 where
   pub budgets : WithinBudgets old → WithinBudgets new
   pub weight : weight new ≤ weight old
   pub reach : ReachWithin (reach old) new c
+  -- constants stay words
+  pub whole : IsWhole old → IsWhole new
   -- the functions and the objects stay
   pub functions : map signature_of new.functions ≡ map signature_of old.functions
   pub objects : new.objects ≡ old.objects

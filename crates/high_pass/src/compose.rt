@@ -1,10 +1,10 @@
 // The copies of copies.
-ghost use Rattle.std.specs.Prelude.{◌≡◌, ℕ, ◌<◌, ◌≤◌, ◌++◌, length, map, All, IfOk, slice_index_or};
+ghost use Rattle.std.specs.Prelude.{◌≡◌, ◌<◌, ◌≤◌, ◌++◌, length, map, All, IfOk, slice_index_or};
 ghost use Rattle.std.specs.List.{flat_map};
-ghost use Rattle.high_pass.specs.Composing.{CanCompose, at_mark, back_to, composed, copies_by, loops_through, marks_through, nevers_through, no_origin, origin_among, origin_within, times};
+ghost use Rattle.high_pass.specs.Composing.{CanCompose, at_mark, back_to, composed, copies_by, loops_through, marks_through, nevers_through, no_origin, times};
 ghost use Rattle.high_pass.specs.Listing.{listing_of, loop_entry, mark_copies, mark_entry};
 
-use super::origin::Origin;
+use super::origin::{Origin, origins_of};
 use high_ir::{Copies, LoopCopies, LoopCopy, MarkCopies, NeverMark};
 use std::alloc::Global;
 use wcc_base::Memory;
@@ -121,32 +121,6 @@ fn copies_of_nevers(
         add_nevers(&mut all, &step[never.mark as usize].new, *never)?;
     }
     Ok(all)
-}
-
-/// Notes of which loop these are the copies.
-fn note_origins(origins: &mut [Origin], entry: &LoopCopies)
-    requires { All (λ l. l.id < length origins.old) entry.now.new.items }
-    ensures { (k : ℕ) → k < length origins.old → slice_index_or origins.new k no_origin ≡ origin_within entry.now.old entry.now.new.items k (slice_index_or origins.old k no_origin) }
-{
-    for copy in &entry.new {
-        origins[copy.id as usize] = Origin {
-            old: entry.old,
-            factor: copy.factor,
-        };
-    }
-}
-
-/// Of which loop each loop is a copy, by its number.
-fn origins_of(alloc: Global, whole: &[LoopCopies], loops: u32) -> Result<Vec<Origin>, Memory>
-    requires { All (λ e. All (λ l. l.id < loops) e.new) (map loop_entry whole.now) }
-    ensures count { IfOk result (λ v. length v.items ≡ loops) }
-    ensures origins { IfOk result (λ v. (k : ℕ) → k < loops → slice_index_or v.items k no_origin ≡ origin_among (map loop_entry whole.now) k no_origin) }
-{
-    let mut origins = vec![in alloc; Origin { old: 0, factor: 0 }; loops as usize]?;
-    for entry in whole {
-        note_origins(&mut origins, entry);
-    }
-    Ok(origins)
 }
 
 /// Adds never marks, each taken back to the loop that its own is a copy of.

@@ -66,10 +66,6 @@ known_leaf : (x : Operand ℕ) → Known x (register_of (Some x))
 known_leaf (Register r) = inl refl
 known_leaf (Constant w) = tt
 
-known_none : (x : Operand ℕ) → Known x None
-known_none (Register r) = inr refl
-known_none (Constant w) = tt
-
 known_operand : (o : Option (Operand ℕ)) (into : ℕ → ℕ → Coded) (t : ℕ) → Known (operand_by o into t).value (register_of o)
 known_operand (Some x) into t = known_leaf x
 known_operand None into t = inr refl

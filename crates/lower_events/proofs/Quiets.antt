@@ -8,10 +8,6 @@ use Rattle.low_ir.specs.Code.{Loop, Low}
 use Rattle.lower_events.specs.Segments.{AreBelow, LoopsGrow, Quiet}
 use Rattle.lower_events.proofs.Turning.{Others, grown_then, others_grown}
 
-pub below_append : (f : ℕ) (xs ys : List Began) → AreBelow f xs → AreBelow f ys → AreBelow f (xs ++ ys)
-below_append f [] ys h k = k
-below_append f (x ∷ xs) ys h k = (h.0, below_append f xs ys h.1 k)
-
 pub below_wider : (f g : ℕ) (es : List Began) → f ≤ g → AreBelow f es → AreBelow g es
 below_wider f g [] low h = tt
 below_wider f g (e ∷ es) low h = let k = h.0 in (omega (arith, low, k), below_wider f g es low h.1)
@@ -35,19 +31,8 @@ loops_nothing q f g fn there low i d inside = others_grown g (slice_index_or fn.
 pub quiet_nothing : (q : Low) (f : ℕ) (a : List Began) → Quiet q f a a
 quiet_nothing q f a = record { events = []; are = sym (append-nil a); below = tt; loops = loops_nothing q f }
 
-pub quiet_same : (q : Low) (f : ℕ) (a b : List Began) → b ≡ a → Quiet q f a b
-quiet_same q f a b e = record { events = []; are = e ∙ sym (append-nil a); below = tt; loops = loops_nothing q f }
-
 pub more_is : (a b c xs ys : List Began) → b ≡ a ++ xs → c ≡ b ++ ys → c ≡ a ++ (xs ++ ys)
 more_is a b c xs ys e f = f ∙ ap (λ z. z ++ ys) e ∙ append_assoc a xs ys
-
-pub quiet_then : (q : Low) (f : ℕ) (a b c : List Began) → Quiet q f a b → Quiet q f b c → Quiet q f a c
-quiet_then q f a b c h k = record {
-  events = h.events ++ k.events;
-  are = more_is a b c h.events k.events h.are k.are;
-  below = below_append f h.events k.events h.below k.below;
-  loops = loops_then q f h.events k.events h.loops k.loops;
-}
 
 -- seen from a function of a higher number
 pub quiet_wider : (q : Low) (f g : ℕ) (a b : List Began) → f ≤ g → Quiet q f a b → Quiet q g a b

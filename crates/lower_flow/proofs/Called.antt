@@ -1,27 +1,22 @@
 -- Calls as statements.
-use Rattle.std.proofs.Common.{◌≡◌, ℕ, ◌+◌, List, [], ◌∷◌, ◌++◌, length, Option, Some, None, refl}
+use Rattle.std.proofs.Common.{◌≡◌, ℕ, ◌+◌, List, ◌++◌, length, Option, Some, None, refl}
 use Rattle.high_ir.specs.declared.object.Base.{Base}
 use Rattle.high_ir.specs.Meaning as high
 use Rattle.high_ir.specs.Meaning.{Goes}
 use Rattle.high_ir.specs.Tree.{Expr, Call}
+use Rattle.high_ir.specs.Whole.{AreWordy}
 use Rattle.low_ir.specs.Code.{Low}
 use Rattle.low_ir.specs.Code as code
 use Rattle.lower_definition.specs.Operators.{only}
 use Rattle.lower_definition.specs.Values.{scaled_in_all, share_code, values_passed}
 use Rattle.lower_definition.specs.Calls.{place_in}
 use Rattle.lower_definition.specs.Statements.{before, call_code, into_there, shares_of}
-use Rattle.lower_values.proofs.Passing.{AreWordy as Wordy}
-use Rattle.lower_flow.specs.Claims.{AreWordy, whole}
+use Rattle.lower_flow.specs.Claims.{whole}
 use Rattle.lower_flow.specs.Following.{Place, IsPlace, Activation, Serves}
 use Rattle.lower_flow.proofs.Filled.{Filled, filled_behind}
 use Rattle.lower_flow.proofs.Calls.{call_passes, call_state}
 use Rattle.lower_flow.proofs.Ends.{Ends}
 use Rattle.lower_flow.proofs.Statements.{Followed, code_follows}
-
--- constants that are words
-wordy : (es : List Expr) → AreWordy es → Wordy es
-wordy [] h = tt
-wordy (e ∷ es) h = (h.0, wordy es h.1)
 
 module _ (q : Low) (at : Place) (is_place : IsPlace q at) (act : Activation) (sem : high.Calls) where
   call_filled : (f : ℕ) (es : List Expr) (bs : List Base) (into : Option ℕ) (t : ℕ) → Filled (call_code at.scope f es bs into t).code
@@ -39,7 +34,7 @@ module _ (q : Low) (at : Place) (is_place : IsPlace q at) (act : Activation) (se
       by_taken vs ns given None is_vs is_ns is_given taken = tt
       by_taken vs ns given (Some vars2) is_vs is_ns is_given taken =
           code_follows q at is_place act sem (call_code at.scope f es bs into t) n k st (call_state q at is_place act vars2 given) so_far r (call_filled f es bs into t)
-          (λ enough. call_passes q at is_place act sem f es bs into t vs ns given vars2 st serves (wordy es words) around.free is_vs is_ns is_given taken enough) fits here
+          (λ enough. call_passes q at is_place act sem f es bs into t vs ns given vars2 st serves words around.free is_vs is_ns is_given taken enough) fits here
 
       by_given : (vs ns : List ℕ) (o : Option high.Given) → high.values_of act.passed st.variables st.world es ≡ Some vs → high.objects_of act.passed bs ≡ Some ns → sem f vs ns st.world st.trace ≡ o → Ends q at is_place act (whole n (before n k (call_code at.scope f es bs into t))) so_far r k exits (high.after_call st.variables into o)
       by_given vs ns None is_vs is_ns is_given = tt

@@ -7,6 +7,7 @@ use Rattle.std.proofs.lemmas.Option.{same_Some}
 use Rattle.high_ir.specs.declared.object.Base.{Base}
 use Rattle.high_ir.specs.Meaning as high
 use Rattle.high_ir.specs.Tree.{Expr}
+use Rattle.high_ir.specs.Whole.{AreWordy}
 use Rattle.low_ir.specs.declared.run.Began.{Began}
 use Rattle.low_ir.specs.declared.run.Value.TheVariants.{Word}
 use Rattle.low_ir.specs.declared.run.Value.{Value}
@@ -27,7 +28,7 @@ use Rattle.lower_values.proofs.Elements.{from_value}
 use Rattle.lower_values.proofs.Standing.{computed_then, stands_after}
 use Rattle.lower_values.proofs.Values.{works}
 use Rattle.lower_values.proofs.Shares.{begun, scaled_written_all}
-use Rattle.lower_values.proofs.Passing.{AreWordy, values_free, values_pass}
+use Rattle.lower_values.proofs.Passing.{values_free, values_pass}
 use Rattle.lower_flow.specs.Following.{Goer, Place, IsPlace, Activation, After, Answers, Meets, Onward, Enters, AreSmall, Serves}
 use Rattle.lower_flow.proofs.Steps.{after_map, and_then, step_to, steps_to, computed_runs}
 use Rattle.lower_flow.proofs.Steps as runs

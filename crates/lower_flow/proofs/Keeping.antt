@@ -9,6 +9,7 @@ use Rattle.high_ir.specs.Meaning as high
 use Rattle.high_ir.specs.Tree.{Expr, Constant, Variable, Element, Unary, Binary}
 use Rattle.high_ir.specs.Words as words
 use Rattle.high_ir.specs.Words.{unary_word}
+use Rattle.high_ir.specs.Whole.{IsWordy}
 use Rattle.low_ir.specs.declared.run.Value.TheVariants.{Word}
 use Rattle.low_ir.specs.Code.{Operand, Base, Store, Do, Low}
 use Rattle.low_ir.specs.Effects.{Contents, Did, there, address_reads, effect_of, stored, changes, with_objects}
@@ -19,7 +20,7 @@ use Rattle.lower_definition.specs.Values.{Coded, Offset, first_free, operand, in
 use Rattle.lower_definition.specs.Statements.{sharing, shares_of, kept_value, unconverted, store_at, keep_code}
 use Rattle.lower_values.proofs.Writing.{has_word}
 use Rattle.lower_events.proofs.Quiets.{quiet_nothing}
-use Rattle.lower_values.specs.Meeting.{contents_of, IsWordy}
+use Rattle.lower_values.specs.Meeting.{contents_of}
 use Rattle.lower_values.proofs.Elements.{from_value}
 use Rattle.lower_values.proofs.Reading.{Means, IsOffset, OffsetBelow, leads}
 use Rattle.lower_values.proofs.Standing.{stands_after, based, computed_then}

@@ -76,9 +76,6 @@ module _ (q : Low) (at : Place) where
         (λ r h. after_map q (Going r) (Reached q at act x h.now Q) (Reached q at act x so_far Q) (go h.now r h.holds)
         (λ y k. record { now = k.now; part = part_of_two x so_far h.now k.now h.part k.part; holds = k.holds }))
 
-    pub reach_map : (x : Extent) (so_far : List Began) (z : Run ℕ Note Bank) (P Q : List Began → Goer → Type 0) → After q z (Reached q at act x so_far P) → ((t : List Began) (r : Goer) → P t r → Q t r) → After q z (Reached q at act x so_far Q)
-    reach_map x so_far z P Q a go = after_map q z (Reached q at act x so_far P) (Reached q at act x so_far Q) a (λ r h. record { now = h.now; part = h.part; holds = go h.now r h.holds })
-
     pub reached_in : (x y : Extent) (so_far : List Began) (P : List Began → Goer → Type 0) (r : Goer) → InPart x y → Reached q at act x so_far P r → Reached q at act y so_far P r
     reached_in x y so_far P r into h = record { now = h.now; part = into so_far h.now h.part; holds = h.holds }
 

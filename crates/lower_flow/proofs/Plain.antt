@@ -7,6 +7,7 @@ use Rattle.std.proofs.lemmas.Option.{same_Some, slice_get_within}
 use Rattle.high_ir.specs.Meaning as high
 use Rattle.high_ir.specs.Meaning.{Outcome}
 use Rattle.high_ir.specs.Tree.{Expr}
+use Rattle.high_ir.specs.Whole.{IsWordy}
 use Rattle.low_ir.specs.declared.run.Began.{Began}
 use Rattle.low_ir.specs.declared.run.Value.TheVariants.{Word}
 use Rattle.low_ir.specs.Code.{Operand, End, Jump, Block, Do, Put, Get, Low, Note}
@@ -21,7 +22,7 @@ use Rattle.lower_values.proofs.Writing.{has_word, write_inside}
 use Rattle.lower_events.specs.Segments.{Quiet}
 use Rattle.lower_events.proofs.Pieces.{part_quiet}
 use Rattle.lower_events.proofs.Quiets.{quiet_nothing}
-use Rattle.lower_values.specs.Meeting.{IsWordy, MeetsFrame, MeetsWorld}
+use Rattle.lower_values.specs.Meeting.{MeetsFrame, MeetsWorld}
 use Rattle.lower_values.proofs.Elements.{index_within}
 use Rattle.lower_values.proofs.Standing.{stands_after, computed_then}
 use Rattle.lower_values.proofs.Values.{works, grows, operand_found, operand_free}

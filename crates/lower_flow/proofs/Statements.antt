@@ -8,6 +8,7 @@ use Rattle.high_ir.specs.declared.object.Array.{Array}
 use Rattle.high_ir.specs.Meaning as high
 use Rattle.high_ir.specs.Meaning.{Outcome, Goes, Leaves, Returns, Bad}
 use Rattle.high_ir.specs.Tree.{Expr, Element, Statement, Set, Put, Get, Keep, Mark, If, Loop, Block, Leave, Return, Statements, Then}
+use Rattle.high_ir.specs.Whole.{IsWordy}
 use Rattle.low_ir.specs.declared.run.Began.{Began}
 use Rattle.low_ir.specs.Code.{Base, Store, Jump, Branch, Do, Note, Low}
 use Rattle.low_ir.specs.Code as code
@@ -18,7 +19,7 @@ use Rattle.lower_definition.specs.Operators.{only}
 use Rattle.lower_definition.specs.Values.{Share, Coded, Valued, Tested, address, coded, index_of, offset_of, operand, scaled_in, share_code, tested, value_into}
 use Rattle.lower_definition.specs.Statements.{Piece, Landed, landed, before, marked_by, one_block, parted, set_code, put_code, get_code, keep_code, test_code, return_block, kept_value, shares_of, only_if, piece, pieces}
 use Rattle.lower_values.proofs.Writing.{has_word}
-use Rattle.lower_values.specs.Meeting.{IsWordy, MeetsFrame, MeetsWorld, is_true}
+use Rattle.lower_values.specs.Meeting.{MeetsFrame, MeetsWorld, is_true}
 use Rattle.lower_values.proofs.Standing.{based, computed_then, stands_after}
 use Rattle.lower_values.proofs.Values.{works, operand_found, operand_free}
 use Rattle.lower_values.proofs.Shares.{begun, scaled_written}

@@ -14,11 +14,11 @@ use Rattle.high_ir.specs.declared.object.Storage.TheVariants as storages
 use Rattle.high_ir.specs.declared.object.Array.{Array}
 use Rattle.high_ir.specs.Words as words
 use Rattle.high_ir.specs.Meaning as high
+use Rattle.high_ir.proofs.Words.{converted_below}
 use Rattle.low_ir.specs.Kinds.{converted, same_kind}
 use Rattle.low_ir.specs.Effects.{Contents, World, there, only_if, can_store, with_element, with_objects, stored}
 use Rattle.lower_definition.specs.Objects.{kind_of, scale_of, storage_of}
 use Rattle.lower_definition.specs.Values.{Scope, bytes}
-use Rattle.lower_values.proofs.Words.{converted_below}
 use Rattle.lower_values.specs.Meeting.{contents_of, AreWords, IsSound, MeetsWorld}
 use Rattle.lower_values.proofs.Elements.{from_value, from_test, object_there, kind_there, at_place}
 use Rattle.lower_values.proofs.Kept.{keeps, converted-keeps}

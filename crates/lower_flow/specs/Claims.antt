@@ -1,9 +1,10 @@
 -- What is claimed of the code of statements and functions: it does what they do.
-use Rattle.std.specs.Prelude.{◌≡◌, ℕ, ◌+◌, ◌≤◌, List, [], ◌∷◌, length, Some, slice_get, slice_index_or}
+use Rattle.std.specs.Prelude.{◌≡◌, ℕ, ◌+◌, ◌≤◌, List, ◌∷◌, length, Some, slice_get, slice_index_or}
 use Rattle.high_ir.specs.Meaning as high
 use Rattle.high_ir.specs.Runs.{enter}
-use Rattle.high_ir.specs.Tree.{Expr, Statement, Set, Put, Get, Keep, Mark, Seq, If, Loop, Block, Leave, Call, Return, Statements, End, Then}
+use Rattle.high_ir.specs.Tree.{Statement, Set, Put, Get, Keep, Mark, Seq, If, Loop, Block, Leave, Call, Return, Statements, End, Then}
 use Rattle.high_ir.specs.Tree as tree
+use Rattle.high_ir.specs.Whole.{AreWordy, IsWordy}
 use Rattle.low_ir.specs.declared.run.Began.{Began}
 use Rattle.low_ir.specs.Code.{Jump, Branch, Low, Note}
 use Rattle.low_ir.specs.Code as code
@@ -11,7 +12,6 @@ use Rattle.low_ir.specs.Runs.{Going}
 use Rattle.lower_definition.specs.Values.{Scope, first_free}
 use Rattle.lower_definition.specs.Statements.{Piece, piece}
 use Rattle.lower_definition.specs.Programs.{body_piece, lowered_function}
-use Rattle.lower_values.specs.Meeting.{IsWordy}
 use Rattle.lower_flow.specs.Following.{Goer, Place, Activation, Extent, Stand, Here, Does, CallDoes, IsPlace, Serves, extent}
 
 -- where an end jumps to, as a number from the end of the function, is a block
@@ -35,11 +35,6 @@ pub record Fits (q : Low) (at : Place) (n : ℕ) (p : Piece) : Type 0 where
 -- the blocks of a piece, and its loops
 abbrev pub whole : ℕ → Piece → Extent
 whole n p = extent n p.new p.loops
-
--- the constants of expressions are words
-abbrev pub AreWordy : List Expr → Type 0
-AreWordy [] = Unit {0}
-AreWordy (e ∷ es) = IsWordy e × AreWordy es
 
 -- wherever the code of a statement stands, a run that comes to it does what the statement does
 abbrev pub IsFollowed : (q : Low) (at : Place) (act : Activation) (call : high.Calls) → Statement → Type 0

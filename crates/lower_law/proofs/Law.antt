@@ -33,7 +33,7 @@ keeps p high =
     let slots = assignment (map in_slots q.functions) in
     record {
       is_low = is_low p high;
-      runs = λ whole input bytes. kept p whole input bytes;
+      runs = λ whole input bytes. kept p high whole input bytes;
       slots = carried slots q (all_safe slots q (slots_assigned q));
       functions = functions_come p high;
       reached = reached_there p high;

@@ -5,6 +5,7 @@ use Rattle.high_ir.specs.Runs.{hrun}
 use Rattle.high_ir.specs.Size.{local_object_bytes, program_operations}
 use Rattle.high_ir.specs.Tree.{Program}
 use Rattle.high_ir.specs.Weight as high
+use Rattle.high_ir.specs.Whole.{IsWhole}
 use Rattle.low_ir.specs.Code.{Function, Low, Note}
 use Rattle.low_ir.specs.Formed.{IsLow, mark_of}
 use Rattle.low_ir.specs.Places.{assignment, in_slots}
@@ -12,7 +13,7 @@ use Rattle.low_ir.specs.Room.{reach, room, weight}
 use Rattle.low_ir.specs.Spacing.{Carries}
 use Rattle.lower_definition.specs.Objects.{object_of}
 use Rattle.lower_definition.specs.Programs.{lowered}
-use Rattle.lower_program.specs.Kept.{IsKept, IsWhole}
+use Rattle.lower_program.specs.Kept.{IsKept}
 use Rattle.lower_budget.specs.Costs.{marks_at}
 use Rattle.lower_origins.specs.Reached.{IsReached}
 use Rattle.lower_law.specs.Arrays.{local_bytes}

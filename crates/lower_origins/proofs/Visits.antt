@@ -13,10 +13,6 @@ use Rattle.lower_definition.specs.Calls.{behind_callees, order, place_in, visite
 use Rattle.lower_origins.proofs.Members.{member_back, member_first, member_front, place_front, same_test, splits}
 use Rattle.lower_origins.specs.Orders.{AreAmong, IsBehind, IsClosed, IsOrdered}
 
-among_more : (seen more gs : List ℕ) → AreAmong seen gs → AreAmong (seen ++ more) gs
-among_more seen more [] h = tt
-among_more seen more (g ∷ gs) h = (member_front seen more g h.0, among_more seen more gs h.1)
-
 among_at : (seen gs : List ℕ) (g : ℕ) → AreAmong seen gs → is_member gs g ≡ true → is_member seen g ≡ true
 among_at seen [] g h e = cc
 among_at seen (x ∷ gs) g h e = by_test (x == g) refl e (λ f. among_at seen gs g h.1 f)

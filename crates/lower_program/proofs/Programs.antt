@@ -1,10 +1,12 @@
 -- A good run in the high form is one in the low form.
 use Rattle.std.proofs.Common.{◌≡◌, ℕ, zero, suc, ◌+◌, ◌<◌, ◌^◌, List, [], Option, Some, None, refl, ap, ◌∙◌, arith}
 use Rattle.std.specs.Prelude.{All}
+use Rattle.high_ir.specs.Formed.{IsHigh}
 use Rattle.high_ir.specs.Meaning as high
 use Rattle.high_ir.specs.Runs.{calls, hrun, rank_or, run_of}
 use Rattle.high_ir.specs.Runs as runs
 use Rattle.high_ir.specs.Tree.{Program}
+use Rattle.high_ir.specs.Whole.{IsWhole}
 use Rattle.low_ir.specs.Code.{Low, Note, Operand, Return}
 use Rattle.low_ir.specs.declared.run.Value.TheVariants.{Word}
 use Rattle.low_ir.specs.Effects.{start}
@@ -14,7 +16,7 @@ use Rattle.lower_events.proofs.Whole.{quiet_keeps}
 use Rattle.lower_flow.specs.Following.{After, Answers, Goer}
 use Rattle.lower_origins.specs.Orders.{IsOrdered}
 use Rattle.lower_origins.proofs.Visits.{ordered}
-use Rattle.lower_program.specs.Kept.{IsKept, IsWhole, Keeps}
+use Rattle.lower_program.specs.Kept.{IsKept, Keeps}
 use Rattle.lower_program.proofs.Serving.{all_do, place_of, stands_at}
 use Rattle.lower_program.proofs.Start.{start_meets}
 
@@ -26,9 +28,9 @@ run_add : (q : Low) (n m : ℕ) (z : Run ℕ Note Bank) → run virtual q (n + m
 run_add q zero m z = let e : 0 + m ≡ m = omega arith in ap (λ k. run virtual q k z) e
 run_add q (suc n) m z = let e : suc n + m ≡ suc (n + m) = omega arith in ap (λ k. run virtual q k z) e ∙ run_add q n m (step virtual q z)
 
-module _ (p : Program) (whole : IsWhole p) (input : List ℕ) (bytes : All (λ c. c < 2 ^ 8) input) where
+module _ (p : Program) (is_high : IsHigh p) (whole : IsWhole p) (input : List ℕ) (bytes : All (λ c. c < 2 ^ 8) input) where
   order_is : IsOrdered p
-  order_is = ordered p whole.high
+  order_is = ordered p is_high
 
   abbrev depth : ℕ
   depth = suc (rank_or p.functions p.main 0)

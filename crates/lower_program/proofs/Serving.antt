@@ -10,6 +10,7 @@ use Rattle.high_ir.specs.Meaning as high
 use Rattle.high_ir.specs.Runs.{calls, enter}
 use Rattle.high_ir.specs.Standing.{callees_of}
 use Rattle.high_ir.specs.Tree.{Function, Program, Statement, Set, Put, Get, Keep, Mark, Seq, If, Loop, Block, Leave, Call, Return, Statements, End, Then}
+use Rattle.high_ir.specs.Whole.{AllHaveWords, HasWords}
 use Rattle.low_ir.specs.Code.{Low}
 use Rattle.low_ir.specs.Effects.{is_member}
 use Rattle.lower_definition.specs.Values.{Scope}
@@ -26,7 +27,6 @@ use Rattle.lower_origins.specs.Closed.{AreCovered, IsCovered, listed, listed_at}
 use Rattle.lower_origins.proofs.Numbering.{Stood, all_there, has_number, length-numbered, listed_count, number_of, stood}
 use Rattle.lower_origins.proofs.Closing.{closed}
 use Rattle.lower_origins.proofs.Sites.{sites-callees}
-use Rattle.lower_program.specs.Kept.{AllHaveWords, HasWords}
 
 -- a list of one array has it
 one_member : (o : ℕ) → is_member (o ∷ []) o ≡ true

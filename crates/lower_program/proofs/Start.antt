@@ -12,14 +12,14 @@ use Rattle.high_ir.specs.Meaning as high
 use Rattle.high_ir.specs.Runs as runs
 use Rattle.high_ir.specs.Tree.{Object}
 use Rattle.high_ir.specs.Words as words
+use Rattle.high_ir.specs.Whole.{IsSmall}
+use Rattle.high_ir.proofs.Words.{converted_below}
 use Rattle.low_ir.specs.Effects.{contents, first_elements, start}
 use Rattle.low_ir.specs.Kinds.{converted}
 use Rattle.lower_definition.specs.Objects.{kind_of, object_of, scale_of, storage_of}
 use Rattle.lower_definition.specs.Values.{Scope}
-use Rattle.lower_values.proofs.Words.{converted_below}
 use Rattle.lower_values.specs.Meeting.{AreWords, IsSound, MeetsWorld, contents_of}
 use Rattle.lower_values.proofs.Widths.{converted-kind_of}
-use Rattle.lower_program.specs.Kept.{IsSmall}
 
 -- lists of words
 words_take : (n : ℕ) (xs : List (Option ℕ)) → AreWords xs → AreWords (take n xs)
@@ -59,7 +59,7 @@ take_count zero xs = omega arith
 take_count (suc n) [] = omega arith
 take_count (suc n) (x ∷ xs) = let h = take_count n xs in omega (arith, h)
 
-fewer : (k : HighKind) (a b : ℕ) → a ≤ b → 2 ^ scale_of k * b ≤ 2 ^ 32 → 2 ^ scale_of k * a ≤ 2 ^ 32
+fewer : (k : HighKind) (a b : ℕ) → a ≤ b → words.kind_bytes k * b ≤ 2 ^ 32 → 2 ^ scale_of k * a ≤ 2 ^ 32
 fewer kinds.Unsigned8 a b h k = omega (arith, h, k)
 fewer kinds.Signed8 a b h k = omega (arith, h, k)
 fewer kinds.Unsigned16 a b h k = omega (arith, h, k)

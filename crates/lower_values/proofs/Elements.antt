@@ -15,9 +15,6 @@ use Rattle.lower_definition.specs.Values.{Scope, bytes}
 use Rattle.lower_values.specs.Meeting.{contents_of, MeetsWorld}
 use Rattle.lower_values.proofs.Widths.{same_kind-kind_of, kind_bytes-kind_of, IsAt, bytes_at}
 
-pub is_some : {A : Type 0} (o : Option A) (x : A) → o ≡ Some x → (y : A) → o ≡ Some y → x ≡ y
-is_some o x e y f = same_Some x y (sym e ∙ f)
-
 -- what an optional value was, where what follows from it is there
 pub record From {A B : Type 0} (o : Option A) (go : A → Option B) (y : B) : Type 0 where
   pub value : A

@@ -30,10 +30,6 @@ sum_commutes : Commutes alu.Sum
 unfolding alu_value
 sum_commutes = record { swaps = sum_sides }
 
-product_commutes : Commutes alu.Product
-unfolding alu_value
-product_commutes = record { swaps = product_sides }
-
 and_commutes : Commutes alu.BitAnd
 unfolding alu_value
 and_commutes = record { swaps = and_comm }

@@ -7,6 +7,7 @@ use Rattle.high_ir.specs.declared.object.Base.{Base as HighBase}
 use Rattle.high_ir.specs.declared.object.Base.TheVariants.{Object, Parameter}
 use Rattle.high_ir.specs.Meaning as high
 use Rattle.high_ir.specs.Tree.{Expr}
+use Rattle.high_ir.specs.Whole.{AreWordy}
 use Rattle.low_ir.specs.Code.{Address, Operand, Register, Constant, Fixed, Point, Do}
 use Rattle.low_ir.specs.declared.run.Value.{Value}
 use Rattle.low_ir.specs.declared.run.Value.TheVariants.{Word, Pointer}
@@ -16,16 +17,11 @@ use Rattle.lower_definition.specs.Operators.{only}
 use Rattle.lower_definition.specs.Values.{Scope, Share, Valued, Passing, pointer, operand, then_passed, passed_array, arrays_passed, values_passed}
 use Rattle.lower_values.specs.Computing.{after_instr, computed}
 use Rattle.lower_values.proofs.Writing.{has_word, write_inside}
-use Rattle.lower_values.specs.Meeting.{AreWords, IsWordy, IsBelow, MeetsWorld, Stands, array_value, array_values, passed_values}
+use Rattle.lower_values.specs.Meeting.{AreWords, IsBelow, MeetsWorld, Stands, array_value, array_values, passed_values}
 use Rattle.lower_values.proofs.Elements.{from_value}
 use Rattle.lower_values.proofs.Reading.{leads}
 use Rattle.lower_values.proofs.Standing.{stands_after, computed_then}
 use Rattle.lower_values.proofs.Values.{works, operand_found, operand_free}
-
--- the constants of expressions are words
-abbrev pub AreWordy : List Expr → Type 0
-AreWordy [] = Unit {0}
-AreWordy (e ∷ es) = IsWordy e × AreWordy es
 
 -- a pointer to an array, or nothing
 abbrev pointed : ℕ → ℕ → Valued

@@ -13,11 +13,12 @@ use Rattle.high_ir.specs.declared.expression.BinaryOperator.TheVariants.{Add, Su
 use Rattle.high_ir.specs.Meaning as high
 use Rattle.high_ir.specs.Tree.{Expr, Constant, Variable, Element, Unary, Binary}
 use Rattle.high_ir.specs.Words.{unary_word, binary_word, untrue_word}
+use Rattle.high_ir.specs.Whole.{IsWordy}
 use Rattle.low_ir.specs.Effects.{World}
 use Rattle.low_ir.specs.Runs.{Bank}
 use Rattle.lower_definition.specs.Operators.{condition_of, inverse}
 use Rattle.lower_definition.specs.Values.{Scope, Share, Valued, Tested, operand, unless_zero, inverted, compared, negated_or, tested}
-use Rattle.lower_values.specs.Meeting.{AreWords, Decides, is_true, IsWordy, MeetsWorld, Stands}
+use Rattle.lower_values.specs.Meeting.{AreWords, Decides, is_true, MeetsWorld, Stands}
 use Rattle.lower_values.proofs.Elements.{from_value}
 use Rattle.lower_values.proofs.Standing.{stands_after, computed_then}
 use Rattle.lower_values.proofs.Values.{works, operand_found, operand_free, has_after}

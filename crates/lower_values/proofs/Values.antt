@@ -12,6 +12,8 @@ use Rattle.high_ir.specs.declared.expression.BinaryOperator.TheVariants.{Add, Su
 use Rattle.high_ir.specs.Meaning as high
 use Rattle.high_ir.specs.Tree.{Expr, Constant, Variable, Element, Unary, Binary}
 use Rattle.high_ir.specs.Words.{unary_word, binary_word}
+use Rattle.high_ir.specs.Whole.{IsWordy}
+use Rattle.high_ir.proofs.Words.{binary_below, unary_below}
 use Rattle.low_ir.specs.Code.{Operand, Register, Base, Set, Load, Do, Constant as Literal}
 use Rattle.low_ir.specs.declared.run.Value.TheVariants.{Word}
 use Rattle.low_ir.specs.Effects.{World, Did, there, resolved, loaded, gives}
@@ -20,10 +22,10 @@ use Rattle.lower_definition.specs.Objects.{kind_of, scale_of}
 use Rattle.lower_definition.specs.Operators.{Code, only, operate, negated, binary_code, unary_code}
 use Rattle.lower_definition.specs.Values.{Scope, Share, Coded, Valued, Index, Offset, shared, variable, leaf, in_register, operand_by, set_to, unary_into, sides_into, plain_index, plus, minus, split, bytes, scaled, scaled_by, offset_by, offset_of, base_of, address, load_into, element_into, forms, operand}
 use Rattle.lower_values.specs.Computing.{after_instr, computed, Has, Puts}
-use Rattle.lower_values.proofs.Words.{binary_below, unary_below, sum-negated, negated_below}
+use Rattle.lower_values.proofs.Words.{sum-negated, negated_below}
 use Rattle.lower_values.proofs.Writing.{has_word, write_inside, puts_one, set_after}
 use Rattle.lower_values.proofs.Operators.{binary_puts, unary_puts}
-use Rattle.lower_values.specs.Meeting.{AreWords, IsWordy, MeetsWorld, Stands, IsBelow, Finds}
+use Rattle.lower_values.specs.Meeting.{AreWords, MeetsWorld, Stands, IsBelow, Finds}
 use Rattle.lower_values.proofs.Elements.{from_value, Reads, reads, loaded_is, index_within}
 use Rattle.lower_values.proofs.Widths.{bytes_sum, bytes_whole, scale_small}
 use Rattle.lower_values.proofs.Reading.{OffsetBelow, Means, IsOffset, leads}

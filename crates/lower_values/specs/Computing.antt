@@ -1,7 +1,6 @@
 -- Instructions that only write registers: what they leave of a bank of them.
 use Rattle.std.specs.Prelude.{◌≡◌, ◌≢◌, ℕ, ◌<◌, List, [], ◌∷◌, length, Option, Some, None, slice_index_or}
 use Rattle.low_ir.specs.Code.{Operand, Register, Constant, Plain, Set, Operate, Point, Load, Store, Put, Get, Do, Call}
-use Rattle.low_ir.specs.declared.run.Value.{Value}
 use Rattle.low_ir.specs.declared.run.Value.TheVariants.{Word}
 use Rattle.low_ir.specs.Effects.{World, there, reads, dest, effect_of}
 use Rattle.low_ir.specs.Runs.{Bank, virtual, values, write_to}
@@ -26,12 +25,7 @@ module _ (claims : List (List ℕ)) (u : World) where
   computed (Do i ∷ is) s = there (after_instr i s) (computed is)
   computed (Call into f args note ∷ is) s = None
 
--- an operand has a value
-abbrev pub Holds : Bank → Operand ℕ → Value → Type 0
-Holds s (Register r) x = slice_index_or s r None ≡ Some x
-Holds s (Constant w) x = Word w ≡ x
-
--- it has a word
+-- an operand has a word
 abbrev pub Has : Bank → Operand ℕ → ℕ → Type 0
 Has s (Register r) v = slice_index_or s r None ≡ Some (Word v)
 Has s (Constant w) v = w ≡ v

@@ -10,8 +10,9 @@ use Rattle.lower_definition.specs.Operators.{binary_code, binary_needs, unary_co
 use Rattle.lower_values.specs.Computing.{Has, Puts}
 use Rattle.high_ir.specs.Tree.{Expr}
 use Rattle.lower_definition.specs.Values.{Scope, Share, operand, tested, value_into}
-use Rattle.lower_values.specs.Meeting.{Decides, Finds, IsWordy, MeetsWorld, Stands}
+use Rattle.lower_values.specs.Meeting.{Decides, Finds, MeetsWorld, Stands}
 use Rattle.high_ir.specs.Meaning as high
+use Rattle.high_ir.specs.Whole.{IsWordy}
 
 -- over any bank that has the registers d and, where they are needed, those from t on
 abbrev pub UnaryComputes : Type 0

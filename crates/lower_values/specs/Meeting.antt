@@ -2,7 +2,6 @@
 use Rattle.std.specs.Prelude.{◌≡◌, ℕ, ◌*◌, ◌<◌, ◌≤◌, ◌^◌, ◌==◌, Bool, true, not, List, [], ◌∷◌, length, map, Option, Some, None, slice_get, slice_index_or, nat_lt, if◌then◌else◌}
 use Rattle.rv_core.specs.Arithmetic.{holds}
 use Rattle.high_ir.specs.Meaning as high
-use Rattle.high_ir.specs.Tree.{Expr, Constant, Variable, Element, Unary, Binary}
 use Rattle.low_ir.specs.Code.{Operand, Register, Constant as Literal}
 use Rattle.low_ir.specs.declared.run.Value.{Value}
 use Rattle.low_ir.specs.declared.run.Value.TheVariants.{Word, Pointer}
@@ -19,14 +18,6 @@ contents_of c = record { kind = kind_of c.kind; storage = storage_of c.storage; 
 -- what was written are words
 abbrev pub AreWords : List (Option ℕ) → Type 0
 AreWords xs = (i v : ℕ) → slice_index_or xs i None ≡ Some v → v < 2 ^ 32
-
--- the constants of an expression are words
-abbrev pub IsWordy : Expr → Type 0
-IsWordy (Constant w) = w < 2 ^ 32
-IsWordy (Variable x) = Unit {0}
-IsWordy (Element array index) = IsWordy index
-IsWordy (Unary operator operand) = IsWordy operand
-IsWordy (Binary operator left right) = IsWordy left × IsWordy right
 
 -- an array whose bytes have addresses, and whose elements are words
 pub record IsSound (c : high.Contents) : Type 0 where

@@ -35,7 +35,7 @@ use Rattle.path_counts.proofs.KeepLemmas.{all_keep, goes, counted}
 use Rattle.path_slack.proofs.MoveLemmas.{all_reached}
 use Rattle.path_cert.specs.Certificates.{entry_worth, mark_of, certificate_with, costs_of, certificate_of}
 use Rattle.path_cert.specs.Laws.{HasRanges, HasFlowRanges, IsOpenFlow}
-use Rattle.path_cert.proofs.CertLemmas.{limits_same, price_same, entry_is, below_zero, below_all, all_accepted}
+use Rattle.path_cert.proofs.CertLemmas.{limits_same, price_same, below_zero, all_accepted}
 use Rattle.path_limits.specs.Limits.{IsLoopWithin}
 use Rattle.path_limits.proofs.NarrowLemmas.{counts_below, narrow_limits}
 use Rattle.path_cost_ranges.specs.Ranges.{HasRanges as HasNumbers}
@@ -96,7 +96,7 @@ module _ (t : Table) (s : System) (ls : List LoopShape) (ps : List Span) (is : I
   kept_bounds = all_map IsLoopWithin HasBounds s.claims.loops (λ c k. k.0) is.limited.loops
 
   pub loose_below : LooseBelow t s
-  loose_below unit x l = let b = counts_below t s is.fetches whole.system is.limited.values unit x l in (is.limited.values unit x l, b.0, b.1)
+  loose_below unit x l = let b = counts_below t s is.fetches whole.system (2 ^ 60) is.limited.values unit x l in (is.limited.values unit x l, b.0, b.1)
 
   abbrev cert : Mark → Cert
   cert m = certificate_with m s (costs_of t s) (values_of s ls ps (costs_of t s)) (amounts_of s ls ps (costs_of t s))
@@ -124,7 +124,7 @@ module _ (t : Table) (s : System) (ls : List LoopShape) (ps : List Span) (is : I
   loose h = flows_are_loose s (goes_back s s.claims.loops ls whole.fits.shapes whole.fits.loops) 1 x (all_keep s ls ps whole (costs_of t s) (neg_ℤ (pos (2 ^ 60))) (open_system h))
 
   reached : pos 0 ≤ℤ z → value t s x ≡ z
-  reached h = all_reached s ls ps whole (costs_of t s) (neg_ℤ (pos (2 ^ 60))) (open_system h) (λ m im. below_all (2 ^ 62) (move_cost t s m))
+  reached h = all_reached s ls ps whole (costs_of t s) (neg_ℤ (pos (2 ^ 60))) (open_system h)
 
   -- the entry's worth is that of a flow, or negative
   pub worth_below : z <ℤ pos (2 ^ 60)
@@ -186,8 +186,8 @@ module _ (t : Table) (s : System) (ls : List LoopShape) (ps : List Span) (is : I
     parts = parts_small s.moves (amounts_of s ls ps (costs_of t s)) (listed_amounts s.moves (amounts_of s ls ps (costs_of t s)) (goes s ls ps whole (costs_of t s) (neg_ℤ (pos (2 ^ 60))) (open_system h)).long_amounts whole.system.ascending)
         (λ m im. one_unit (amount x m) (2 ^ 60) (below.2 m im));
     balances = λ a. within (narrow_pair (count x s.moves a) (coefficient (inflow s.entry 1 x s.moves) a) (2 ^ 60) (counts a).0 (counts a).1 (sym (flow.conserved a)));
-    claims = subst (λ js. All (λ l. IsNarrow (size_by (λ u. u.1 *ℤ count x s.moves u.0) l.terms)) js) (sym (limits_same t s ls ps whole is.facts Greatest)) (narrow_limits s.claims is.short (count x s.moves) counts (cert Greatest).nevers (cert Greatest).loops);
-    value = within (narrow_pair (pos 1 *ℤ value t s x) (pos 1 *ℤ potential (cert Greatest) s.entry) (2 ^ 60) (at_least (value t s x) (subst (λ (y : ℤ). pos 0 ≤ℤ y) (sym (reached h)) h)) (one_below (value t s x) (2 ^ 60) below.0) (ap (λ (y : ℤ). pos 1 *ℤ y) (entry_is t s ls ps whole is.facts Greatest ∙ sym (reached h))));
+    claims = subst (λ js. All (λ l. IsNarrow (size_by (λ u. u.1 *ℤ count x s.moves u.0) l.terms)) js) (sym (limits_same t s ls ps whole is.facts Greatest)) (narrow_limits s.claims is.short (2 ^ 60) (omega arith) (count x s.moves) counts (cert Greatest).nevers (cert Greatest).loops);
+    value = alone (size_below (value t s x) (2 ^ 60) (subst (λ (y : ℤ). pos 0 ≤ℤ y) (sym (reached h)) h) (one_unit (value t s x) (2 ^ 60) below.0));
   }
     where
       flow : IsFlow s 1 (listed (parts_of s.moves (amounts_of s ls ps (costs_of t s))))
@@ -208,11 +208,8 @@ module _ (t : Table) (s : System) (ls : List LoopShape) (ps : List Span) (is : I
       within : {k : ℕ} → k < 2 ^ 60 + 2 ^ 60 → IsNarrow k
       within lt = omega (arith, lt)
 
-      at_least : (y : ℤ) → pos 0 ≤ℤ y → pos 0 ≤ℤ (pos 1 *ℤ y)
-      at_least y h = omega (arith, ints)
-
-      one_below : (y : ℤ) (k : ℕ) → y <ℤ (pos 1 *ℤ pos k) → (pos 1 *ℤ y) <ℤ pos k
-      one_below y k h = omega (arith, ints)
+      alone : {k : ℕ} → k < 2 ^ 60 → IsNarrow k
+      alone lt = omega (arith, lt)
 
   -- ---- all
 

@@ -49,13 +49,10 @@ module _ (t : Table) (s : System) (ls : List LoopShape) (ps : List Span) (is : I
       within : (v l : ℤ) → pos 0 ≤ℤ v → v ≤ℤ l → IsUpTo v l
       within v l h k = (omega (arith, ints), k)
 
-  positive : All (λ m. pos 0 ≤ℤ of m) s.moves
-  positive = all_map (λ m. (pos 0 ≤ℤ of m) × (of m ≤ℤ price t s m)) (λ m. pos 0 ≤ℤ of m) s.moves (λ m h. h.0) up
-
   open_system : pos 0 ≤ℤ entry_worth s ls ps (priced of) → IsOpenSystem s ls ps (priced of) (neg_ℤ (pos (2 ^ 60)))
   open_system h = record {
     negative = omega (arith, ints);
-    code = all_open s ls ps (priced of) (price t s) (pos (2 ^ 60)) (2 ^ 32) bounded positive (omega (arith, ints));
+    code = all_open s ls ps (priced of) (price t s) (pos (2 ^ 60)) (2 ^ 32) bounded (omega (arith, ints));
     entry = above (entry_worth s ls ps (priced of)) h;
     bounds = kept_bounds t s ls ps is;
     backs = is.backs;
@@ -65,12 +62,6 @@ module _ (t : Table) (s : System) (ls : List LoopShape) (ps : List Span) (is : I
       above : (z : ℤ) → pos 0 ≤ℤ z → neg_ℤ (pos (2 ^ 60)) ≤ℤ z
       above z h = omega (arith, ints)
 
-  not_low : (m : Move) → Contains s.moves m → neg_ℤ (pos (2 ^ 62)) ≤ℤ of m
-  not_low m im = above (of m) (All-contains (λ (k : Move). pos 0 ≤ℤ of k) s.moves m positive im)
-    where
-      above : (z : ℤ) → pos 0 ≤ℤ z → neg_ℤ (pos (2 ^ 62)) ≤ℤ z
-      above z h = omega (arith, ints)
-
   flow : pos 0 ≤ℤ entry_worth s ls ps (priced of) → IsPricedFlow s ls ps (priced of)
   flow h =
       let can = open_system h in
@@ -78,7 +69,7 @@ module _ (t : Table) (s : System) (ls : List LoopShape) (ps : List Span) (is : I
       let loose : IsLoose s 1 x = flows_are_loose s (goes_back s s.claims.loops ls is.limited.whole.fits.shapes is.limited.whole.fits.loops) 1 x keeps in
       let long = (goes s ls ps is.limited.whole (priced of) (neg_ℤ (pos (2 ^ 60))) can).long_amounts in record {
         flow = keeps;
-        total = all_reached s ls ps is.limited.whole (priced of) (neg_ℤ (pos (2 ^ 60))) can not_low;
+        total = all_reached s ls ps is.limited.whole (priced of) (neg_ℤ (pos (2 ^ 60))) can;
         amounts = amounts_below x s.moves (amounts_of s ls ps (priced of)) long (listed_amounts s.moves (amounts_of s ls ps (priced of)) long is.limited.whole.system.ascending)
             (λ m im. one_unit (amount x m) (2 ^ 60) ((loose_below t s ls ps is 1 x loose).2 m im));
       }

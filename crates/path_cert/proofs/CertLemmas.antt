@@ -49,17 +49,14 @@ append_none (x ∷ xs) = ap (λ ys. x ∷ ys) (append_none xs)
 pub below_zero : (n : ℕ) → neg_ℤ (pos n) ≤ℤ pos 0
 below_zero n = omega (arith, ints)
 
-pub below_all : (n k : ℕ) → neg_ℤ (pos n) ≤ℤ pos k
-below_all n k = omega (arith, ints)
-
 times_one : (n : ℕ) → n * 1 ≡ n
 times_one n = omega arith
 
-nevers_long : (owe : ℕ → ℤ) (cs : List Never) → length (never_bounds owe cs) ≡ length cs
+pub nevers_long : (owe : ℕ → ℤ) (cs : List Never) → length (never_bounds owe cs) ≡ length cs
 nevers_long owe [] = refl
 nevers_long owe (c ∷ cs) = ap suc (nevers_long owe cs)
 
-loops_long : (owe : ℕ → ℤ) (cs : List LoopClaim) (ps : List Pair) → Alongside cs ps → length (loop_bounds owe cs ps) ≡ length cs
+pub loops_long : (owe : ℕ → ℤ) (cs : List LoopClaim) (ps : List Pair) → Alongside cs ps → length (loop_bounds owe cs ps) ≡ length cs
 loops_long owe [] ps h = refl
 loops_long owe (c ∷ cs) [] h = absurd h
 loops_long owe (c ∷ cs) (p ∷ ps) h = ap suc (loops_long owe cs ps h)
@@ -157,7 +154,7 @@ module _ (t : Table) (s : System) (ls : List LoopShape) (ps : List Span) (whole 
       keeps = all_keep s ls ps whole (costs_of t s) least is
 
       reached : value t s (listed (parts_of s.moves (amounts_of s ls ps (costs_of t s)))) ≡ entry_worth s (values_of s ls ps (costs_of t s))
-      reached = all_reached s ls ps whole (costs_of t s) least is (λ m im. below_all (2 ^ 62) (move_cost t s m))
+      reached = all_reached s ls ps whole (costs_of t s) least is
 
   accepted : HasRanges t s (certificate_of t s ls ps) → (pos 0 ≤ℤ entry_worth s (values_of s ls ps (costs_of t s)) → IsOpenFlow t s ls ps) → IsInForm s.claims (certificate_of t s ls ps) × Accepts t s (certificate_of t s ls ps)
   accepted ranges flow = by_sign (int_lt (entry_worth s (values_of s ls ps (costs_of t s))) (pos 0)) refl ranges

@@ -26,7 +26,7 @@ pub record HasFlowRanges (t : Table) (s : System) (c : Cert) : Type 0 where
   pub parts : All (λ p. IsSmall p.part) c.flow.parts
   pub balances : (a : ℕ) → IsNarrow (unsigned_abs (count (listed c.flow.parts) s.moves a) + unsigned_abs (coefficient (inflow s.entry c.flow.unit (listed c.flow.parts) s.moves) a))
   pub claims : All (λ l. IsNarrow (size_by (λ u. u.1 *ℤ count (listed c.flow.parts) s.moves u.0) l.terms)) (limits s.claims c)
-  pub value : IsNarrow (unsigned_abs (pos c.scale *ℤ value t s (listed c.flow.parts)) + unsigned_abs (pos c.flow.unit *ℤ potential c s.entry))
+  pub value : IsNarrow (unsigned_abs (value t s (listed c.flow.parts)))
 
 -- what is asked where the entry's worth isn't negative
 pub record IsOpenFlow (t : Table) (s : System) (ls : List LoopShape) (ps : List Span) : Type 0 where

@@ -331,7 +331,7 @@ module _ (s : System) (ls : List LoopShape) (ps : List Span) (whole : IsReachedW
               sum = omega (arith, h, j);
               least = omega (arith, h, k0);
               most = omega (arith, h, k1);
-              no_least = inl kb.no_least;
+              no_least = elim kb.no_least [ inl z ↦ inl z | inr z ↦ inr (omega (arith, h, z)) ];
               exact = elim kb.exact [ inl z ↦ inl z | inr z ↦ inr (omega (arith, h, z)) ];
             }
       ]

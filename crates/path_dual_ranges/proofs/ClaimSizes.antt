@@ -1,13 +1,12 @@
 -- What the limits of claims hold at an address, in size: of one loop that begins there and one that ends there.
-use Rattle.std.proofs.Common.{◌≡◌, ◌≢◌, ℕ, zero, suc, ◌+◌, ◌*◌, ◌≤◌, ◌<◌, ℤ, pos, neg_ℤ, ◌+ℤ◌, ◌-ℤ◌, ◌*ℤ◌, ◌≤ℤ◌, arith, refl, sym, ap, ◌∙◌, subst, List, [], ◌∷◌, ◌++◌, Contains, All, inl, inr, ◌⊎◌, Bool, true, false, cond, unsigned_abs}
+use Rattle.std.proofs.Common.{◌≡◌, ℕ, zero, suc, ◌+◌, ◌*◌, ◌≤◌, ◌<◌, ℤ, pos, neg_ℤ, ◌+ℤ◌, ◌-ℤ◌, ◌*ℤ◌, ◌≤ℤ◌, arith, refl, ap, ◌∙◌, subst, List, [], ◌∷◌, ◌++◌, Contains, All, inl, inr, ◌⊎◌, Bool, true, false, cond, unsigned_abs}
 use Rattle.std.specs.Prelude.{◌==◌}
 use lib.IntN.{negsuc, *ℤ-zero}
 use Rattle.std.proofs.lemmas.Int.{ints}
 use Rattle.std.proofs.lemmas.Bool.Decides.{nat_tests, eqb_tells}
-use Rattle.std.proofs.lemmas.List.Elements.{All-head, All-tail, All-contains}
-use Rattle.std.proofs.Math.Nat.{mul-le-mul_left}
+use Rattle.std.proofs.lemmas.List.Elements.{All-head, All-tail}
 use Rattle.frac128.specs.Terms.{coefficient}
-use Rattle.frac128.proofs.SignedLemmas.{mul-sub, mul-neg, add-mul}
+use Rattle.frac128.proofs.SignedLemmas.{mul-neg}
 use Rattle.code_flow_system.specs.declared.claims.Never.{Never}
 use Rattle.code_flow_system.specs.declared.claims.LoopClaim.{LoopClaim}
 use Rattle.code_flow_system.specs.declared.shapes.LoopShape.{LoopShape}
@@ -50,6 +49,7 @@ pub record IsSizedClaim (n : ℕ) (c : LoopClaim) (p : Pair) : Type 0 where
   pub most : unsigned_abs p.most ≤ n
   pub most_turns : unsigned_abs (p.most *ℤ (pos c.max -ℤ pos 1)) ≤ n
   pub most_starts : unsigned_abs (p.most *ℤ pos c.max) ≤ n
+  pub weight : unsigned_abs ((p.most *ℤ (pos c.max -ℤ pos 1)) -ℤ (p.least *ℤ (pos c.min -ℤ pos 1))) ≤ n
 
 abbrev pub IsSizedDeal : ℕ → LoopClaim → LoopShape → Pair → Type 0
 IsSizedDeal n c l p = IsSizedClaim n c p
@@ -185,15 +185,15 @@ pairs_size n (c ∷ cs) (l ∷ ks) (u ∷ us) a sized =
 
 -- ---- one loop begins at an address, and one ends
 
-abbrev beginning : List LoopClaim → ℕ → ℕ
+abbrev pub beginning : List LoopClaim → ℕ → ℕ
 beginning [] a = 0
 beginning (c ∷ cs) a = cond (c.header == a) 1 0 + beginning cs a
 
-abbrev ending : List LoopClaim → ℕ → ℕ
+abbrev pub ending : List LoopClaim → ℕ → ℕ
 ending [] a = 0
 ending (c ∷ cs) a = cond (c.back == a) 1 0 + ending cs a
 
-touching-parts : (cs : List LoopClaim) (a : ℕ) → touching cs a ≡ beginning cs a + ending cs a
+pub touching-parts : (cs : List LoopClaim) (a : ℕ) → touching cs a ≡ beginning cs a + ending cs a
 touching-parts [] a = refl
 touching-parts (c ∷ cs) a = let r = touching-parts cs a in omega (arith, r)
 
@@ -204,7 +204,7 @@ none_begins (c ∷ cs) a h e k = elim (eqb_tells c.header a) [
   | inr q ↦ let r = none_begins cs a h e (All-tail (λ (d : LoopClaim). h < d.header) c cs k) in let q0 = q.0 in rw q0 (omega (arith, r))
 ]
 
-one_begins : (cs : List LoopClaim) (a : ℕ) → ClaimsAscend cs → beginning cs a ≤ 1
+pub one_begins : (cs : List LoopClaim) (a : ℕ) → ClaimsAscend cs → beginning cs a ≤ 1
 one_begins [] a k = omega arith
 one_begins (c ∷ cs) a k = elim (eqb_tells c.header a) [
   | inl q ↦ let r = none_begins cs a c.header q.1 k.0 in let q0 = q.0 in rw q0 (omega (arith, r))

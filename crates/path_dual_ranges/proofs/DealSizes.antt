@@ -1,5 +1,5 @@
 -- The sizes of the multipliers of all claims, as they are dealt from function to function.
-use Rattle.std.proofs.Common.{◌≡◌, ℕ, zero, suc, ◌+◌, ◌≤◌, ◌<◌, ℤ, pos, neg_ℤ, ◌+ℤ◌, ◌-ℤ◌, ◌*ℤ◌, ◌≤ℤ◌, arith, refl, sym, ap, ◌∙◌, subst, List, [], ◌∷◌, Bool, true, false, cond, unsigned_abs}
+use Rattle.std.proofs.Common.{◌≡◌, ℕ, ℤ, pos, ◌-ℤ◌, ◌*ℤ◌, arith, ap, List, [], ◌∷◌, Bool, true, false, cond, unsigned_abs}
 use Rattle.std.specs.Prelude.{◌&&◌}
 use Rattle.std.proofs.lemmas.Int.{ints}
 use Rattle.code_flow_system.specs.declared.claims.LoopClaim.{LoopClaim}
@@ -11,11 +11,11 @@ use Rattle.loop_walks.specs.declared.step.Step.{Step}
 use Rattle.loop_walks.specs.declared.step.Loop.{Loop}
 use Rattle.loop_walks.specs.declared.step.Pair.{Pair}
 use Rattle.loop_walks.specs.Levels.{Level}
-use Rattle.loop_sizes.specs.Laws.{IsIn, IsSizedPair, AreSizedPairs}
+use Rattle.loop_sizes.specs.Laws.{IsSizedPair, AreSizedPairs}
 use Rattle.path_places.specs.Reached.{in_span}
 use Rattle.path_places.specs.Places.{loop_of, loops_of}
 use Rattle.path_places.specs.Laws.{function_steps}
-use Rattle.path_rows.specs.Driver.{Prices, blank, function_level, function_pairs}
+use Rattle.path_rows.specs.Driver.{Prices, function_level, function_pairs}
 use Rattle.path_duals.specs.Duals.{dealt, no_pairs, pairs_from}
 use Rattle.path_duals.proofs.DealLemmas.{AreDealt}
 use Rattle.path_sizes.specs.Sizes.{AllAreSized}
@@ -30,6 +30,7 @@ module _ (s : System) (ls : List LoopShape) (q : Prices) (n : ℕ) where
     most = size_within n k.most h.most.0 h.most.1;
     most_turns = size_within n (k.most *ℤ (pos c.max -ℤ pos 1)) h.most_turns.0 h.most_turns.1;
     most_starts = size_within n (k.most *ℤ pos c.max) h.most_starts.0 h.most_starts.1;
+    weight = size_within n ((k.most *ℤ (pos c.max -ℤ pos 1)) -ℤ (k.least *ℤ (pos c.min -ℤ pos 1))) h.weight.0 h.weight.1;
   }
 
   deal_sized : (p : Span) (ms : List Step) (cs : List LoopClaim) (ks : List LoopShape) (known new : List Pair) → AreDealt (IsSizedDeal n) cs ks known → AreSizedPairs (pos n) (loops_of q.of q.low s.moves s.claims p ms cs ks) new → AreDealt (IsSizedDeal n) cs ks (dealt s.moves p ks known new)
@@ -55,11 +56,11 @@ module _ (s : System) (ls : List LoopShape) (q : Prices) (n : ℕ) where
   sized_from v (r ∷ rs) known h k = sized_from (function_level s ls q v r) rs (dealt s.moves r ls known (function_pairs s ls q v r)) h.1
       (deal_sized r (function_steps s ls q.of v.worths r) s.claims.loops ls known (function_pairs s ls q v r) k h.0.pairs)
 
+  zero_product : (z : ℤ) → pos 0 *ℤ z ≡ pos 0
+  zero_product z = omega (arith, ints)
+
   nothing : (z : ℤ) → unsigned_abs (pos 0 *ℤ z) ≡ 0
   nothing z = ap unsigned_abs (zero_product z)
-    where
-      zero_product : (z : ℤ) → pos 0 *ℤ z ≡ pos 0
-      zero_product z = omega (arith, ints)
 
   none_sized : (c : LoopClaim) → IsSizedClaim n c (record { least = pos 0; most = pos 0 })
   none_sized c = record {
@@ -69,6 +70,7 @@ module _ (s : System) (ls : List LoopShape) (q : Prices) (n : ℕ) where
     most = omega arith;
     most_turns = (let e = nothing (pos c.max -ℤ pos 1) in omega (arith, e));
     most_starts = (let e = nothing (pos c.max) in omega (arith, e));
+    weight = (let e = zero_product (pos c.max -ℤ pos 1) in let f = zero_product (pos c.min -ℤ pos 1) in let g : ((pos 0 *ℤ (pos c.max -ℤ pos 1)) -ℤ (pos 0 *ℤ (pos c.min -ℤ pos 1))) ≡ pos 0 = omega (arith, ints) in let k = ap unsigned_abs g in omega (arith, k));
   }
 
   no_pairs_sized : (cs : List LoopClaim) (ks : List LoopShape) → AreShapesOf cs ks → AreDealt (IsSizedDeal n) cs ks (no_pairs ks)

@@ -41,11 +41,10 @@ use Rattle.path_ranges.proofs.SystemRanges.{prices}
 use Rattle.path_ranges.proofs.WorthRanges.{worths_bounded}
 use Rattle.path_sizes.specs.Sizes.{IsEnough}
 use Rattle.path_sizes.proofs.SystemSizes.{all_fit}
-use Rattle.path_dual_ranges.specs.Ranges.{IsNarrowDual, DualsAreNarrow}
 use Rattle.path_dual_ranges.proofs.ClaimSizes.{size-neg, size-add, size_within, size-append, held_size, IsSizedDeal, touching, loops_size, pairs_size, two_touch, NeversAscend, nevers_size}
 use Rattle.path_dual_ranges.proofs.DealSizes.{all_dealt}
 
-all_of : {X : Type 0} (P : X → Type 0) (xs : List X) → ((x : X) → Contains xs x → P x) → All P xs
+pub all_of : {X : Type 0} (P : X → Type 0) (xs : List X) → ((x : X) → Contains xs x → P x) → All P xs
 all_of P [] h = All-nil P
 all_of P (x ∷ xs) h = All-cons P x xs (h x (zero, omega arith, refl)) (all_of P xs (λ y k. h y (suc k.0, (let j = k.1 in omega (arith, j)), k.2)))
 
@@ -87,7 +86,7 @@ sound_nevers c h = nevers_ascend None c.nevers (left_part (never_flaws None c.ne
 
 -- ---- shapes
 
-shape_for : (cs : List LoopClaim) (ls : List LoopShape) (c : LoopClaim) → AreShapesOf cs ls → Contains cs c → (l : LoopShape) × Contains ls l × (l.header ≡ c.header) × (l.back ≡ c.back)
+pub shape_for : (cs : List LoopClaim) (ls : List LoopShape) (c : LoopClaim) → AreShapesOf cs ls → Contains cs c → (l : LoopShape) × Contains ls l × (l.header ≡ c.header) × (l.back ≡ c.back)
 shape_for [] ls c h (i, lt, e) = absurd (omega (arith, lt))
 shape_for (x ∷ cs) [] c h i = absurd h
 shape_for (x ∷ cs) (l ∷ ls) c h (zero, lt, e) = (l, (zero, omega arith, refl), h.0 ∙ ap (λ (y : LoopClaim). y.header) e, h.1 ∙ ap (λ (y : LoopClaim). y.back) e)
@@ -96,7 +95,7 @@ shape_for (x ∷ cs) (l ∷ ls) c h (suc i, lt, e) = later (shape_for cs ls c h.
     later : ((k : LoopShape) × Contains ls k × (k.header ≡ c.header) × (k.back ≡ c.back)) → (k : LoopShape) × Contains (l ∷ ls) k × (k.header ≡ c.header) × (k.back ≡ c.back)
     later r = (r.0, (suc r.1.0, (let j = r.1.1 in omega (arith, j)), r.1.2), r.2, r.3)
 
-abbrev first_of : List ℕ → ℕ
+abbrev pub first_of : List ℕ → ℕ
 first_of [] = 0
 first_of (d ∷ ds) = d
 
@@ -148,7 +147,7 @@ module _ (s : System) (ls : List LoopShape) (ps : List Span) (q : Prices) (price
   negative = let a = b.apart in let p = b.positive in omega (arith, ints)
 
   -- the size is enough for what worths reach, for a block and for the bound
-  sizes : (reach (loop_step q most starts) most (length s.claims.loops) ≤ℤ pos n) × (neg_ℤ (pos n) ≤ℤ q.low) × (most ≤ℤ pos n)
+  pub sizes : (reach (loop_step q most starts) most (length s.claims.loops) ≤ℤ pos n) × (neg_ℤ (pos n) ≤ℤ q.low) × (most ≤ℤ pos n)
   sizes =
       let r = reach_least (loop_step q most starts) most (length s.claims.loops) (let a = negative in let p = b.positive in omega (arith, ints)) in
       let e = enough in let p = b.positive in let a = negative in (omega (arith, ints), omega (arith, ints), omega (arith, ints))
@@ -178,11 +177,11 @@ module _ (s : System) (ls : List LoopShape) (ps : List Span) (q : Prices) (price
       let z = sizes in let z2 = z.2 in
       size_within n (q.of m) (omega (arith, ints)) (omega (arith, ints))
 
-  dealt_sized : AreDealt (IsSizedDeal n) s.claims.loops ls (final_pairs s ls ps q)
+  pub dealt_sized : AreDealt (IsSizedDeal n) s.claims.loops ls (final_pairs s ls ps q)
   dealt_sized = all_dealt s ls q n (blank (length s.moves) q.low) ps b.whole.fits.shapes (all_fit s ls ps q price most starts (pos n) b enough (let f = fits in omega (arith, ints, f))).1
 
   -- a move's address touches two loops at most
-  touches : (m : Move) → Contains s.moves m → touching s.claims.loops m.at ≤ 2
+  pub touches : (m : Move) → Contains s.moves m → touching s.claims.loops m.at ≤ 2
   touches m im = two_touch s.claims.loops m.at (first_of (destinations m)) (sound_ascend s.claims b.whole.system.sound)
       (λ c i e.
       let k = shape_for s.claims.loops ls c b.whole.fits.shapes i in
@@ -232,7 +231,7 @@ module _ (s : System) (ls : List LoopShape) (ps : List Span) (q : Prices) (price
           by_test false r = r
 
   -- the terms of a row
-  row_small : (m : Move) → Contains s.moves m → row_size q.of (coefficient (potentials_of s.moves (final_level s ls ps q).worths s.moves)) (dual_of s q.of (values_of s ls ps q)).limits m ≤ 32 * n
+  pub row_small : (m : Move) → Contains s.moves m → row_size q.of (coefficient (potentials_of s.moves (final_level s ls ps q).worths s.moves)) (dual_of s q.of (values_of s ls ps q)).limits m ≤ 32 * n
   row_small m im =
       let pr = price_small m im in
       let at = potential_small m.at (has_of s.moves m im) in
@@ -249,7 +248,7 @@ module _ (s : System) (ls : List LoopShape) (ps : List Span) (q : Prices) (price
       twice (suc (suc (suc k))) h = absurd (omega (arith, h))
 
   -- and beside the multipliers of loops alone
-  plain_small : (m : Move) → Contains s.moves m → row_size q.of (coefficient (potentials_of s.moves (final_level s ls ps q).worths s.moves)) (loop_limits s.claims.loops (both_of (final_pairs s ls ps q))) m ≤ 32 * n
+  pub plain_small : (m : Move) → Contains s.moves m → row_size q.of (coefficient (potentials_of s.moves (final_level s ls ps q).worths s.moves)) (loop_limits s.claims.loops (both_of (final_pairs s ls ps q))) m ≤ 32 * n
   plain_small m im =
       let pr = price_small m im in
       let at = potential_small m.at (has_of s.moves m im) in
@@ -263,7 +262,7 @@ module _ (s : System) (ls : List LoopShape) (ps : List Span) (q : Prices) (price
       twice (suc (suc zero)) h = omega arith
       twice (suc (suc (suc k))) h = absurd (omega (arith, h))
 
-  pairs_small : (cs : List LoopClaim) (ks : List LoopShape) (us : List Pair) → length us ≡ length cs → AreDealt (IsSizedDeal n) cs ks us → All (λ p. (unsigned_abs p.least ≤ n) × (unsigned_abs p.most ≤ n)) us
+  pub pairs_small : (cs : List LoopClaim) (ks : List LoopShape) (us : List Pair) → length us ≡ length cs → AreDealt (IsSizedDeal n) cs ks us → All (λ p. (unsigned_abs p.least ≤ n) × (unsigned_abs p.most ≤ n)) us
   pairs_small [] ks [] long h = All-nil (λ p. (unsigned_abs p.least ≤ n) × (unsigned_abs p.most ≤ n))
   pairs_small [] ks (u ∷ us) long h = absurd (omega (arith, long))
   pairs_small (c ∷ cs) ks [] long h = absurd (omega (arith, long))
@@ -271,7 +270,7 @@ module _ (s : System) (ls : List LoopShape) (ps : List Span) (q : Prices) (price
   pairs_small (c ∷ cs) (l ∷ ks) (u ∷ us) long h =
       All-cons (λ p. (unsigned_abs p.least ≤ n) × (unsigned_abs p.most ≤ n)) u us (h.0.least, h.0.most) (pairs_small cs ks us (omega (arith, long)) h.1)
 
-  potentials_small : (ms : List Move) → All (λ t. unsigned_abs t.1 ≤ n) (potentials_of s.moves (final_level s ls ps q).worths ms)
+  pub potentials_small : (ms : List Move) → All (λ t. unsigned_abs t.1 ≤ n) (potentials_of s.moves (final_level s ls ps q).worths ms)
   potentials_small [] = All-nil (λ t. unsigned_abs t.1 ≤ n)
   potentials_small (m ∷ ms) = by_test (m.number == 0) (potentials_small ms)
     where
@@ -279,34 +278,5 @@ module _ (s : System) (ls : List LoopShape) (ps : List Span) (q : Prices) (price
       by_test true r = All-cons (λ t. unsigned_abs t.1 ≤ n) (m.at, worth_at (final_level s ls ps q).worths (place_of s.moves m.at)) (potentials_of s.moves (final_level s ls ps q).worths ms) (worth_small (place_of s.moves m.at)) r
       by_test false r = r
 
-  nevers_small : (cs : List Never) → All (λ w. unsigned_abs w ≤ 8 * n) (never_bounds (owe_of s q.of (values_of s ls ps q)) cs)
-  nevers_small [] = All-nil (λ w. unsigned_abs w ≤ 8 * n)
-  nevers_small (c ∷ cs) = All-cons (λ w. unsigned_abs w ≤ 8 * n) (owe_of s q.of (values_of s ls ps q) c.at) (never_bounds (owe_of s q.of (values_of s ls ps q)) cs) (owe_small c.at) (nevers_small cs)
-
-  loops_small : (cs : List LoopClaim) (ks : List LoopShape) (us : List Pair) → AreDealt (IsSizedDeal n) cs ks us → All (λ w. (unsigned_abs w.0 ≤ n) × (unsigned_abs w.1 ≤ 9 * n)) (loop_bounds (owe_of s q.of (values_of s ls ps q)) cs us)
-  loops_small [] ks us h = All-nil (λ w. (unsigned_abs w.0 ≤ n) × (unsigned_abs w.1 ≤ 9 * n))
-  loops_small (c ∷ cs) [] us h = absurd h
-  loops_small (c ∷ cs) (l ∷ ks) [] h = absurd h
-  loops_small (c ∷ cs) (l ∷ ks) (u ∷ us) h =
-      All-cons (λ w. (unsigned_abs w.0 ≤ n) × (unsigned_abs w.1 ≤ 9 * n)) (u.least, u.most +ℤ cond (c.max == 0) (owe_of s q.of (values_of s ls ps q) c.header) (pos 0)) (loop_bounds (owe_of s q.of (values_of s ls ps q)) cs us) (h.0.least, by_test (c.max == 0)) (loops_small cs ks us h.1)
-    where
-      by_test : (t : Bool) → unsigned_abs (u.most +ℤ cond t (owe_of s q.of (values_of s ls ps q) c.header) (pos 0)) ≤ 9 * n
-      by_test true = let s1 = size-add u.most (owe_of s q.of (values_of s ls ps q) c.header) in let o = owe_small c.header in let m = h.0.most in omega (arith, s1, o, m)
-      by_test false = let s1 = size-add u.most (pos 0) in let m = h.0.most in omega (arith, s1, m)
-
-  long : length (final_pairs s ls ps q) ≡ length s.claims.loops
+  pub long : length (final_pairs s ls ps q) ≡ length s.claims.loops
   long = pairs_long s ls q (blank (length s.moves) q.low) ps (no_pairs ls) (none_long ls) ∙ shapes_long s.claims.loops ls b.whole.fits.shapes
-
-  pub narrow : IsNarrowDual s q.of (values_of s ls ps q) n
-  narrow = record {
-    potentials = potentials_small s.moves;
-    nevers = nevers_small s.claims.nevers;
-    loops = loops_small s.claims.loops ls (final_pairs s ls ps q) dealt_sized;
-    rows = all_of (λ m. row_size q.of (coefficient (potentials_of s.moves (final_level s ls ps q).worths s.moves)) (dual_of s q.of (values_of s ls ps q)).limits m ≤ 32 * n) s.moves row_small;
-    long = long;
-    pairs = pairs_small s.claims.loops ls (final_pairs s ls ps q) long dealt_sized;
-    plain = all_of (λ m. row_size q.of (coefficient (potentials_of s.moves (final_level s ls ps q).worths s.moves)) (loop_limits s.claims.loops (both_of (final_pairs s ls ps q))) m ≤ 32 * n) s.moves plain_small;
-  }
-
-pub duals_narrow : (s : System) (ls : List LoopShape) (ps : List Span) → DualsAreNarrow s ls ps
-duals_narrow s ls ps q price most starts n b enough fits = narrow s ls ps q price most starts n b enough fits

@@ -11,11 +11,11 @@ use Rattle.path_duals.specs.Duals.{Values, values_of, potentials_of, both_of, ne
 use Rattle.path_ranges.specs.Bounded.{IsBounded}
 use Rattle.path_sizes.specs.Sizes.{IsEnough}
 
--- numbers are no larger than 8 times a size in size, and a row's terms together no more than 32 times that
+-- numbers are no larger than a size, never claims and loops without turns pay no more than 3 times that, and a row's terms together come to no more than 32 times that
 pub record IsNarrowDual (s : System) (price : Move → ℤ) (x : Values) (size : ℕ) : Type 0 where
   pub potentials : All (λ t. unsigned_abs t.1 ≤ size) (potentials_of s.moves x.worths s.moves)
-  pub nevers : All (λ w. unsigned_abs w ≤ 8 * size) (never_multipliers s price x)
-  pub loops : All (λ w. (unsigned_abs w.0 ≤ size) × (unsigned_abs w.1 ≤ 9 * size)) (loop_multipliers s price x)
+  pub nevers : All (λ w. unsigned_abs w ≤ 3 * size) (never_multipliers s price x)
+  pub loops : All (λ w. (unsigned_abs w.0 ≤ size) × (unsigned_abs w.1 ≤ 3 * size)) (loop_multipliers s price x)
   pub rows : All (λ m. row_size price (coefficient (potentials_of s.moves x.worths s.moves)) (dual_of s price x).limits m ≤ 32 * size) s.moves
   -- one pair for each loop; and a row beside the loops' multipliers alone
   pub long : length x.pairs ≡ length s.claims.loops

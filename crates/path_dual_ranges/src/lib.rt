@@ -4,6 +4,9 @@
 //! that may not be visited. An address is the header of one loop at most, and the jump back of one, so that few terms of
 //! its rows are there, and a row adds up to no more than 32 times the size of the walks' numbers (`path_sizes`).
 //!
+//! What never claims and loops without turns pay is no more than three times that size: a call ends no loop, and a loop
+//! that begins and ends at an address holds there what it holds at one of both.
+//!
 //! The crate has this law, a call with an empty body.
 #![tactic(auto)]
 

@@ -1,6 +1,6 @@
 -- The multipliers of each loop are settled at the final worths, and a header that is a jump back has none.
 use Rattle.std.proofs.Common.{◌≡◌, ◌≢◌, ℕ, zero, suc, ◌<◌, ℤ, pos, ◌+ℤ◌, ◌-ℤ◌, ◌*ℤ◌, ◌≤ℤ◌, arith, refl, sym, ap, ◌∙◌, subst, List, [], ◌∷◌, ◌++◌, length, Contains, inl, inr, Bool, true, false, cond, Some, None, length-append}
-use Rattle.std.specs.Prelude.{◌==◌, ◌&&◌, not}
+use Rattle.std.specs.Prelude.{◌||◌, ◌==◌, ◌&&◌, not}
 use Rattle.std.proofs.lemmas.Int.{ints}
 use Rattle.std.proofs.Math.ListN.{replicate}
 use Rattle.std.proofs.lemmas.List.{length-replicate}
@@ -80,6 +80,7 @@ module _ (s : System) (ls : List LoopShape) (ps : List Span) (whole : IsReachedW
     pub alone : has_moves s.moves c.back ≡ true → is_stop s.claims c.back ≡ false → c.back ≡ c.header → dearest_from q.of s.moves c.back q.low ≤ℤ (k.most -ℤ k.least)
     pub pays : has_moves s.moves c.header ≡ true → has_moves s.moves c.back ≡ true → is_stop s.claims c.back ≡ false → c.back ≢ c.header → (((dearest_from q.of s.moves c.back q.low +ℤ worth_at w.worths (place_of s.moves c.header)) +ℤ (k.least *ℤ pos c.min)) -ℤ (k.most *ℤ pos c.max)) ≤ℤ worth_at w.worths (place_of s.moves c.back)
     pub blocked : has_moves s.moves c.header ≡ true → is_back ls c.header ≡ true → c.back ≢ c.header → (k.least ≡ pos 0) × (k.most ≡ pos 0)
+    pub shut : has_moves s.moves c.header ≡ true → is_stop s.claims c.header ≡ true → (k.least ≡ pos 0) × (k.most ≡ pos 0)
 
   same_place : (a b : ℕ) → has_moves s.moves a ≡ true → has_moves s.moves b ≡ true → place_of s.moves a ≡ place_of s.moves b → a ≡ b
   same_place a b h k e = let x = place_tells s.moves a b k (omega (arith, e)) in let y = place_tells s.moves b a h (omega (arith, e)) in omega (arith, x, y)
@@ -91,6 +92,28 @@ module _ (s : System) (ls : List LoopShape) (ps : List Span) (whole : IsReachedW
       let same = same_place m.at a (has_of s.moves m im) h e in
       let n = walked_not (in_span p m.at) (is_stop s.claims m.at) (is_back ls m.at) t in
       absurd (differ (is_back ls m.at) (subst (λ b. is_back ls b ≡ true) (sym same) is) n))
+
+  -- nor has an address that may not be visited
+  no_stop : (p : Span) (ws : List ℤ) (a : ℕ) → has_moves s.moves a ≡ true → is_stop s.claims a ≡ true → Each (λ k. k.at ≢ place_of s.moves a) (function_steps s ls q.of ws p)
+  no_stop p ws a h is = steps_each (λ k. k.at ≢ place_of s.moves a) q.of s.moves ws (is_walked s.claims ls p) s.moves
+      (λ m im t e.
+      let same = same_place m.at a (has_of s.moves m im) h e in
+      let n = walked_free (in_span p m.at) (is_stop s.claims m.at) (is_back ls m.at) t in
+      absurd (differ (is_stop s.claims m.at) (subst (λ b. is_stop s.claims b ≡ true) (sym same) is) n))
+    where
+      walked_free : (x t b : Bool) → x && not (t || b) ≡ true → t ≡ false
+      walked_free true true b h = cc
+      walked_free true false b h = refl
+      walked_free false t b h = cc
+
+  -- where a jump back may not be visited, it is no place
+  no_back : (a b : ℕ) → is_stop s.claims a ≡ true → back_place s.moves s.claims a ≡ Some b → ⊥
+  no_back a b stop is = by_has (has_moves s.moves a) (is_stop s.claims a) stop is
+    where
+      by_has : (t u : Bool) → u ≡ true → cond (t && not u) (Some (place_of s.moves a)) None ≡ Some b → ⊥
+      by_has true true e h = cc
+      by_has true false e h = cc
+      by_has false u e h = cc
 
   back_is : (c : LoopClaim) (l : LoopShape) → l.back ≡ c.back → has_moves s.moves c.back ≡ true → is_stop s.claims c.back ≡ false → back_place s.moves s.claims l.back ≡ Some (place_of s.moves c.back)
   back_is c l e h n = ap (back_place s.moves s.claims) e ∙ there (has_moves s.moves c.back) (is_stop s.claims c.back) h n
@@ -127,6 +150,11 @@ module _ (s : System) (ls : List LoopShape) (ps : List Span) (whole : IsReachedW
         g.3.1 (no_step g.0 g.1 l.header (at_l there) (subst (λ a. is_back ls a ≡ true) (sym are.0) is))
         (λ b e f. let r = back_reached l b e in
         d (sym are.1 ∙ (same_place l.back l.header r.0 (at_l there) (r.1 ∙ f) ∙ are.0)));
+    shut = λ there is. let g = good (at_l there) in
+        let stop = subst (λ a. is_stop s.claims a ≡ true) (sym are.0) is in
+        g.3.1 (no_stop g.0 g.1 l.header (at_l there) stop)
+        (λ b e f. let r = back_reached l b e in
+        absurd (no_back l.back b (subst (λ a. is_stop s.claims a ≡ true) (sym (same_place l.back l.header r.0 (at_l there) (r.1 ∙ f))) stop) e));
   }
     where
       at_l : has_moves s.moves c.header ≡ true → has_moves s.moves l.header ≡ true

@@ -54,7 +54,7 @@ costs_one t s m fetches placed = elim placed.region [
 ]
 
 pub counts_below : (t : Table) (s : System) → LooseCountsBelow t s
-counts_below t s fetches is values unit x loose = (
+counts_below t s fetches is most values unit x loose = (
   count_below,
   λ m im.
       let p = part_of_total (leaves m.at) x s.moves m (λ k i. same_least k.at m.at) im in
@@ -68,7 +68,7 @@ counts_below t s fetches is values unit x loose = (
     leaves_cheap : (a : ℕ) (m : Move) → Contains s.moves m → when_same m.at a (pos 1) ≤ℤ price t s m
     leaves_cheap a m im = let w = same_most m.at a in let c = costs_one t s m fetches (All-contains (λ k. IsPlaced k.at) s.moves m is.placed im) in omega (arith, ints, c)
 
-    count_below : (a : ℕ) → count x s.moves a <ℤ (pos unit *ℤ pos (2 ^ 60))
+    count_below : (a : ℕ) → count x s.moves a <ℤ (pos unit *ℤ pos most)
     count_below a =
         let e = count-total x s.moves a in
         let m = total_mono (leaves a) (price t s) x s.moves (leaves_cheap a) in
@@ -77,13 +77,14 @@ counts_below t s fetches is values unit x loose = (
 -- ---- limits
 
 -- a number of a claim, times a count
-product_small : (k : ℕ) (z : ℤ) → k ≤ 2 ^ 32 → pos 0 ≤ℤ z → z <ℤ pos (2 ^ 60) → (unsigned_abs (pos k *ℤ z) ≤ 2 ^ 92) × (unsigned_abs (neg_ℤ (pos k) *ℤ z) ≤ 2 ^ 92)
-product_small k (negsuc n) few h lt = absurd (omega (arith, ints))
-product_small k (pos n) few h lt =
+product_small : (most k : ℕ) (z : ℤ) → most ≤ 2 ^ 93 → k ≤ 2 ^ 32 → pos 0 ≤ℤ z → z <ℤ pos most → (unsigned_abs (pos k *ℤ z) < 2 ^ 125) × (unsigned_abs (neg_ℤ (pos k) *ℤ z) < 2 ^ 125)
+product_small most k (negsuc n) up few h lt = absurd (omega (arith, ints))
+product_small most k (pos n) up few h lt =
     let p : pos k *ℤ pos n ≡ pos (k * n) = product k n in
     let m : neg_ℤ (pos k) *ℤ pos n ≡ neg_ℤ (pos (k * n)) = *ℤ_comm (neg_ℤ (pos k)) (pos n) ∙ (mul-neg (pos n) (pos k) ∙ ap neg_ℤ (*ℤ_comm (pos n) (pos k) ∙ p)) in
-    let s : n ≤ 2 ^ 60 = omega (arith, ints) in
-    let b : k * n ≤ 2 ^ 92 = bounded s in
+    let l : n < most = omega (arith, ints) in
+    let s : n ≤ 2 ^ 93 - 1 = omega (arith, l, up) in
+    let b : k * n < 2 ^ 125 = bounded s in
     let a : unsigned_abs (neg_ℤ (pos (k * n))) ≡ k * n = negated (k * n) in
     let c : unsigned_abs (pos k *ℤ pos n) ≡ unsigned_abs (pos (k * n)) = ap unsigned_abs p in
     let d : unsigned_abs (neg_ℤ (pos k) *ℤ pos n) ≡ k * n = ap unsigned_abs m ∙ a in
@@ -96,42 +97,42 @@ product_small k (pos n) few h lt =
     negated : (a : ℕ) → unsigned_abs (neg_ℤ (pos a)) ≡ a
     negated a = omega (arith, ints)
 
-    bounded : n ≤ 2 ^ 60 → k * n ≤ 2 ^ 92
-    bounded s = let e : k * n ≤ k * 2 ^ 60 = mul-le-mul_left k s in omega (arith, e, few)
+    bounded : n ≤ 2 ^ 93 - 1 → k * n < 2 ^ 125
+    bounded s = let e : k * n ≤ k * (2 ^ 93 - 1) = mul-le-mul_left k s in omega (arith, e, few)
 
-module _ (n : ℕ → ℤ) (small : (a : ℕ) → (pos 0 ≤ℤ n a) × (n a <ℤ pos (2 ^ 60))) where
+module _ (most : ℕ) (up : most ≤ 2 ^ 93) (n : ℕ → ℤ) (small : (a : ℕ) → (pos 0 ≤ℤ n a) × (n a <ℤ pos most)) where
   least_narrow : (c : LoopClaim) (w : ℤ) → HasShortBounds c → IsNarrow (size_by (λ t. t.1 *ℤ n t.0) (least_limit c w).terms)
   least_narrow c w h =
       let k = h.0 in
-      let b = product_small c.min (n c.back) (omega (arith, k)) (small c.back).0 (small c.back).1 in
+      let b = product_small most c.min (n c.back) up (omega (arith, k)) (small c.back).0 (small c.back).1 in
       let b1 = b.1 in
       let a = first c.min k in omega (arith, a, b1)
     where
-      first : (k : ℕ) → k < 2 ^ 32 → unsigned_abs ((pos k -ℤ pos 1) *ℤ n c.header) ≤ 2 ^ 92
+      first : (k : ℕ) → k < 2 ^ 32 → unsigned_abs ((pos k -ℤ pos 1) *ℤ n c.header) < 2 ^ 125
       first zero lt =
           let e : (pos 0 -ℤ pos 1) ≡ neg_ℤ (pos 1) = omega (arith, ints) in
-          let p = (product_small 1 (n c.header) (omega arith) (small c.header).0 (small c.header).1).1 in
+          let p = (product_small most 1 (n c.header) up (omega arith) (small c.header).0 (small c.header).1).1 in
           let g : unsigned_abs ((pos 0 -ℤ pos 1) *ℤ n c.header) ≡ unsigned_abs (neg_ℤ (pos 1) *ℤ n c.header) = ap (λ (y : ℤ). unsigned_abs (y *ℤ n c.header)) e in omega (arith, g, p)
       first (suc k) lt =
           let e : (pos (suc k) -ℤ pos 1) ≡ pos k = omega (arith, ints) in
-          let p = (product_small k (n c.header) (omega (arith, lt)) (small c.header).0 (small c.header).1).0 in
+          let p = (product_small most k (n c.header) up (omega (arith, lt)) (small c.header).0 (small c.header).1).0 in
           let g : unsigned_abs ((pos (suc k) -ℤ pos 1) *ℤ n c.header) ≡ unsigned_abs (pos k *ℤ n c.header) = ap (λ (y : ℤ). unsigned_abs (y *ℤ n c.header)) e in omega (arith, g, p)
 
   most_narrow : (c : LoopClaim) (w : ℤ) → HasShortBounds c → IsNarrow (size_by (λ t. t.1 *ℤ n t.0) (most_limit c w).terms)
   most_narrow c w h =
       let k = h.1 in
-      let b = product_small c.max (n c.back) (omega (arith, k)) (small c.back).0 (small c.back).1 in
+      let b = product_small most c.max (n c.back) up (omega (arith, k)) (small c.back).0 (small c.back).1 in
       let b0 = b.0 in
       let a = first c.max k in omega (arith, a, b0)
     where
-      first : (k : ℕ) → k < 2 ^ 32 → unsigned_abs ((pos 1 -ℤ pos k) *ℤ n c.header) ≤ 2 ^ 92
+      first : (k : ℕ) → k < 2 ^ 32 → unsigned_abs ((pos 1 -ℤ pos k) *ℤ n c.header) < 2 ^ 125
       first zero lt =
           let e : (pos 1 -ℤ pos 0) ≡ pos 1 = omega (arith, ints) in
-          let p = (product_small 1 (n c.header) (omega arith) (small c.header).0 (small c.header).1).0 in
+          let p = (product_small most 1 (n c.header) up (omega arith) (small c.header).0 (small c.header).1).0 in
           let g : unsigned_abs ((pos 1 -ℤ pos 0) *ℤ n c.header) ≡ unsigned_abs (pos 1 *ℤ n c.header) = ap (λ (y : ℤ). unsigned_abs (y *ℤ n c.header)) e in omega (arith, g, p)
       first (suc k) lt =
           let e : (pos 1 -ℤ pos (suc k)) ≡ neg_ℤ (pos k) = omega (arith, ints) in
-          let p = (product_small k (n c.header) (omega (arith, lt)) (small c.header).0 (small c.header).1).1 in
+          let p = (product_small most k (n c.header) up (omega (arith, lt)) (small c.header).0 (small c.header).1).1 in
           let g : unsigned_abs ((pos 1 -ℤ pos (suc k)) *ℤ n c.header) ≡ unsigned_abs (neg_ℤ (pos k) *ℤ n c.header) = ap (λ (y : ℤ). unsigned_abs (y *ℤ n c.header)) e in omega (arith, g, p)
 
   loops_narrow : (cs : List LoopClaim) (us : List (ℤ × ℤ)) → All HasShortBounds cs → All (λ l. IsNarrow (size_by (λ t. t.1 *ℤ n t.0) l.terms)) (loop_limits cs us)
@@ -147,7 +148,7 @@ module _ (n : ℕ → ℤ) (small : (a : ℕ) → (pos 0 ≤ℤ n a) × (n a <�
   limits_narrow (k ∷ ks) [] cs us h = loops_narrow cs us h
   limits_narrow (k ∷ ks) (w ∷ ws) cs us h =
       All-cons (λ l. IsNarrow (size_by (λ t. t.1 *ℤ n t.0) l.terms)) (record { terms = (k.at, pos 1) ∷ []; op = AtMost; by = w }) (never_limits ks ws ++ loop_limits cs us)
-      (let p = (product_small 1 (n k.at) (omega arith) (small k.at).0 (small k.at).1).0 in omega (arith, p)) (limits_narrow ks ws cs us h)
+      (let p = (product_small most 1 (n k.at) up (omega arith) (small k.at).0 (small k.at).1).0 in omega (arith, p)) (limits_narrow ks ws cs us h)
 
 pub narrow_limits : (c : Claims) → LimitsAreNarrow c
-narrow_limits c short n small ws us = limits_narrow n small c.nevers ws c.loops us short
+narrow_limits c short most up n small ws us = limits_narrow most up n small c.nevers ws c.loops us short

@@ -5,7 +5,7 @@ use Rattle.code_flow_system.specs.declared.claims.LoopClaim.{LoopClaim}
 use Rattle.code_flow_system.specs.declared.shapes.LoopShape.{LoopShape}
 use Rattle.code_flow_system.specs.declared.shapes.Span.{Span}
 use Rattle.code_flow_system.specs.Systems.{System}
-use Rattle.code_flow_system.specs.Counts.{Amounts}
+use Rattle.code_flow_system.specs.Counts.{Amounts, count}
 use Rattle.code_flow_system.specs.Flows.{price, value}
 use Rattle.code_flow_system.specs.Loose.{IsLoose}
 use Rattle.path_places.specs.Laws.{IsReachedWhole}
@@ -17,9 +17,17 @@ use Rattle.path_sizes.specs.Sizes.{IsEnough}
 abbrev pub cost_prices : Table → System → Prices
 cost_prices t s = record { of = price t s; low = neg_ℤ (pos (2 ^ 62)) }
 
+-- every loose flow has a value below so much for each unit
+abbrev pub LooseValuesUnder : ℕ → Table → System → Type 0
+LooseValuesUnder most t s = (unit : ℕ) (x : Amounts) → IsLoose s unit x → value t s x <ℤ (pos unit *ℤ pos most)
+
 -- every loose flow has a value below 2^60
 abbrev pub LooseValuesBelow : Table → System → Type 0
-LooseValuesBelow t s = (unit : ℕ) (x : Amounts) → IsLoose s unit x → value t s x <ℤ (pos unit *ℤ pos (2 ^ 60))
+LooseValuesBelow t s = LooseValuesUnder (2 ^ 60) t s
+
+-- no loose flow has a count of 2^49 or more at an address for each unit
+abbrev pub LooseCountsAreFew : System → Type 0
+LooseCountsAreFew s = (unit : ℕ) (x : Amounts) → IsLoose s unit x → (a : ℕ) → count x s.moves a <ℤ (pos unit *ℤ pos (2 ^ 49))
 
 -- a loop has to turn no more often than it may, or may not be visited
 abbrev pub IsLoopWithin : LoopClaim → Type 0

@@ -27,7 +27,7 @@ pub fn loose_counts_are_below(costs: &Costs, system: &System)
     ensures { LooseCountsBelow (table_of costs.now) system.now }
 {}
 
-/// A law: the terms of limits are narrow at counts below 2^60.
+/// A law: the terms of limits are narrow at counts below a bound of at most 2^93.
 pub fn limits_are_narrow(system: &System)
     ensures { LimitsAreNarrow system.now.claims }
 {}

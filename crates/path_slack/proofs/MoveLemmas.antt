@@ -1,7 +1,6 @@
 -- Each move that is made is tight, and so the total of the flow is the worth of the entry.
-use Rattle.std.proofs.Common.{◌≡◌, ◌≢◌, ℕ, zero, suc, ◌+◌, ◌*◌, ◌≤◌, ◌<◌, ℤ, pos, neg_ℤ, ◌+ℤ◌, ◌-ℤ◌, ◌*ℤ◌, ◌≤ℤ◌, arith, refl, sym, ap, ◌∙◌, subst, List, [], ◌∷◌, ◌++◌, length, Contains, All, inl, inr, ◌⊎◌, Bool, true, false, cond, Option, Some, None, length-append}
-use Rattle.std.specs.Prelude.{◌==◌, ◌||◌, ◌&&◌, not, slice_set}
-use Rattle.std.specs.Option.{option_to_list}
+use Rattle.std.proofs.Common.{◌≡◌, ◌≢◌, ℕ, zero, suc, ◌+◌, ◌≤◌, ◌<◌, ℤ, pos, ◌+ℤ◌, ◌-ℤ◌, ◌*ℤ◌, ◌≤ℤ◌, ◌<ℤ◌, arith, refl, sym, ap, ◌∙◌, subst, List, [], ◌∷◌, ◌++◌, length, Contains, All, inl, inr, ◌⊎◌, Bool, true, false, cond, Some, None, length-append}
+use Rattle.std.specs.Prelude.{◌==◌, ◌||◌, not, slice_set}
 use Rattle.std.proofs.lemmas.Int.{ints}
 use Rattle.std.proofs.Math.ListN.{replicate}
 use Rattle.std.proofs.lemmas.List.{length-replicate}
@@ -21,9 +20,9 @@ use Rattle.code_flow_system.specs.declared.shapes.Span.{Span}
 use Rattle.code_flow_system.specs.Claims.{is_listed}
 use Rattle.code_flow_system.specs.Moves.{destinations, way_of, moves_on}
 use Rattle.code_flow_system.specs.Systems.{System, has_moves, moves_from, AreOfInstruction, IsPlaced}
-use Rattle.code_flow_system.specs.Shapes.{IsInLoop, IsLoop, onward_by, onward, is_back, IsInSpan, AreAllApart, AreApart, IsInOne, StaysIn, CallsEarlier}
-use Rattle.code_flow_system.specs.Counts.{Amounts, amount, count, total}
-use Rattle.code_flow_system.specs.Certificates.{Limit, never_limits, loop_limits, held, fall, listed}
+use Rattle.code_flow_system.specs.Shapes.{IsInLoop, IsLoop, onward, is_back, IsInSpan, AreAllApart, IsInOne, StaysIn, CallsEarlier}
+use Rattle.code_flow_system.specs.Counts.{Amounts, amount, total}
+use Rattle.code_flow_system.specs.Certificates.{loop_limits, held, fall, listed}
 use Rattle.code_flow_system.specs.Bounds.{IsTight, IsSlackless}
 use Rattle.code_flow_system.proofs.DualityLemmas.{reaches_potential}
 use Rattle.loop_walks.specs.declared.step.Step.{Step}
@@ -32,25 +31,25 @@ use Rattle.loop_walks.specs.declared.step.Pair.{Pair}
 use Rattle.loop_walks.specs.Walks.{larger, worth_at}
 use Rattle.loop_walks.specs.Multipliers.{back_worth}
 use Rattle.loop_walks.specs.Levels.{Level, ground}
-use Rattle.loop_walks.proofs.LargerLemmas.{larger_least}
+use Rattle.loop_walks.proofs.LargerLemmas.{larger_left, larger_right, larger_least}
 use Rattle.loop_walks.proofs.WalkLemmas.{relaxed-long}
 use Rattle.loop_walks.proofs.LevelLemmas.{Held, weighed-long}
 use Rattle.loop_flows.specs.Passes.{amount_at, departed}
 use Rattle.loop_flows.specs.Flows.{Turning, backs_from, backs_to}
 use Rattle.loop_passes.specs.Opens.{EachMade}
+use Rattle.loop_passes.proofs.OpenLemmas.{larger_open}
 use Rattle.loop_counts.specs.Counts.{AreCounted}
 use Rattle.loop_slack.specs.Slack.{Tight, AreBacksTight}
-use Rattle.path_places.specs.Reached.{rank}
-use Rattle.path_places.specs.Places.{place_of, on_place, call_worth, step_of, is_never, is_shut, is_stop, is_walked, steps_of, dearest_from, loop_of, loops_of}
+use Rattle.path_places.specs.Places.{place_of, on_place, step_of, is_never, is_shut, is_stop, is_walked, steps_of, dearest_from, loop_of}
 use Rattle.path_places.specs.Laws.{function_steps, IsReachedWhole}
 use Rattle.path_places.proofs.RankLemmas.{rank_stays, rank_earlier, apart_one}
 use Rattle.path_places.proofs.HeaderLemmas.{reached_behind}
 use Rattle.path_places.proofs.PlaceLemmas.{place_below}
 use Rattle.path_places.proofs.LoopLemmas.{has_of, onward_arrives, first_or}
-use Rattle.path_places.proofs.FunctionLemmas.{move_of, differ, back_inside, walked_in, is_back_at, sound_ascend}
+use Rattle.path_places.proofs.FunctionLemmas.{differ, back_inside, walked_in, is_back_at}
 use Rattle.path_rows.specs.Driver.{Prices, blank, function_loops, function_level, function_pairs, functions_level}
 use Rattle.path_rows.proofs.DriverLemmas.{IsElsewhere, functions_leave, function_leaves, function_holds, elsewhere_all, elsewhere_end, elsewhere_before, IsFresh, Numbered, numbered, closed, same_call, zero_at}
-use Rattle.path_duals.specs.Duals.{potentials_of, both_of, never_bounds, loop_bounds, final_level, final_pairs, values_of, owe_of, dual_of}
+use Rattle.path_duals.specs.Duals.{potentials_of, both_of, final_level, final_pairs, values_of, owe_of, dual_of}
 use Rattle.path_duals.proofs.PotentialLemmas.{all_of}
 use Rattle.path_duals.proofs.HoldLemmas.{hold, hold_back, never_none, loops_same}
 use Rattle.path_duals.proofs.DealLemmas.{AreDealt, AreAll, Stands, dealt_stands, Found, IsDone as IsDealt, AllFunctions, all_dealt}
@@ -60,12 +59,12 @@ use Rattle.path_flows.specs.Flows.{Flowing, counted, turned_back, amounts_of, pa
 use Rattle.path_flows.specs.Opens.{AreOpenFunctions}
 use Rattle.path_flows.proofs.SumLemmas.{sum_if, begins_at, At, EachTurn, each_turn, AreAmounts}
 use Rattle.path_flows.proofs.AtLemmas.{target_reached, one_destination, IsBackMove, back_reached, back_moves, EachLoop, loops_each}
-use Rattle.path_flows.proofs.SystemLemmas.{IsDone, AreDone, IsGoing, ready, flow_goes}
+use Rattle.path_flows.proofs.SystemLemmas.{AreDone, IsGoing, ready, flow_goes}
 use Rattle.path_flows.proofs.ConservedLemmas.{listed_amounts, no_sum, all_conserved}
 use Rattle.path_counts.specs.Laws.{IsOpenSystem}
-use Rattle.path_counts.proofs.ClaimLemmas.{Any, IsClaimed, function_counted, back_count}
+use Rattle.path_counts.proofs.ClaimLemmas.{IsClaimed, function_counted, back_count}
 use Rattle.path_counts.proofs.KeepLemmas.{goes, up, stopped, covered, exact, counted as visits_are}
-use Rattle.path_slack.specs.Laws.{ArePrices, FlowsAreSlackless, ValuesAreReached}
+use Rattle.path_slack.specs.Laws.{FlowsAreSlackless, ValuesAreReached}
 use Rattle.path_slack.proofs.FunctionLemmas.{function_tight}
 
 -- ---- what holds of each move that is made
@@ -297,7 +296,7 @@ module _ (s : System) (ls : List LoopShape) (ps : List Span) (whole : IsReachedW
           (each_turn (λ x. IsBackMove s ls ps whole q r x.back x.header) (λ x. (m : Move) × At s.moves x.back m × IsTightMove (functions_level s ls q v (r ∷ rs)) m)
           (λ x b. (b.move, b.at, λ nb. absurd (differ (is_back ls b.move.at) (subst (λ a. is_back ls a ≡ true) b.shape_back (is_back_at ls b.shape b.is_shape)) nb))) (function_turnings s ls q v r) (back_moves s ls ps whole q r ir (function_steps s ls q.of v.worths r) v.weights))
 
-module _ (s : System) (ls : List LoopShape) (ps : List Span) (whole : IsReachedWhole s ls ps) (q : Prices) (least : ℤ) (is : IsOpenSystem s ls ps q least) (prices : ArePrices s q) where
+module _ (s : System) (ls : List LoopShape) (ps : List Span) (whole : IsReachedWhole s ls ps) (q : Prices) (least : ℤ) (is : IsOpenSystem s ls ps q least) (above : q.low <ℤ least) where
   abbrev us : List ℕ
   us = amounts_of s ls ps q
 
@@ -318,11 +317,11 @@ module _ (s : System) (ls : List LoopShape) (ps : List Span) (whole : IsReachedW
   -- where a loop's jump back is made, it is worth what the multipliers make it
   pub record IsSlackLoop (u : Level) (p : Span) (ms : List Step) (l : Loop) (k : Pair) : Type 0 where
     pub claimed : Claimed p ms l k
-    pub tight : 0 < backs_to claimed.turns claimed.backs l.header → (b : ℕ) × (l.back ≡ Some b) × (b ≢ l.header) × (worth_at u.worths b ≡ back_worth l (worth_at u.worths l.header) k)
+    pub tight : 0 < backs_to claimed.turns claimed.backs l.header → (b : ℕ) × (l.back ≡ Some b) × (b ≢ l.header) × (worth_at u.worths b ≡ back_worth l (worth_at u.worths l.header) k) × (least ≤ℤ l.price)
 
   slack_all : (u : Level) (p : Span) (ms : List Step) (counts : List ℕ) (turns : List Turning) (backs : List ℕ) → Contains ps p →
       ((a : ℕ) → has_moves s.moves a ≡ true → IsInSpan p a → sum_if (begins_at a) s.moves us ≡ departed ms counts (place_of s.moves a) + backs_from turns backs (place_of s.moves a)) →
-      EachTurn (λ y. IsBackMove s ls ps whole q p y.back y.header) turns → (los : List Loop) (ks : List Pair) → AreCounted ms counts turns backs los ks → AreBacksTight u turns backs los ks → AreAll (IsSlackLoop u p ms) los ks
+      EachTurn (λ y. IsBackMove s ls ps whole q p y.back y.header) turns → (los : List Loop) (ks : List Pair) → AreCounted ms counts turns backs los ks → AreBacksTight least u turns backs los ks → AreAll (IsSlackLoop u p ms) los ks
   slack_all u p ms counts turns backs ip sums back [] ks h t = tt
   slack_all u p ms counts turns backs ip sums back (l ∷ los) [] h t = absurd h
   slack_all u p ms counts turns backs ip sums back (l ∷ los) (k ∷ ks) h t = (
@@ -334,11 +333,11 @@ module _ (s : System) (ls : List LoopShape) (ps : List Span) (whole : IsReachedW
   abbrev IsLeft : Level → Level → Loop → Type 0
   IsLeft u v l = (worth_at u.worths l.header ≡ worth_at v.worths l.header) × ((b : ℕ) → l.back ≡ Some b → worth_at u.worths b ≡ worth_at v.worths b)
 
-  backs_later : (u v : Level) (ts : List Turning) (bs : List ℕ) (los : List Loop) (ks : List Pair) → EachLoop (IsLeft u v) los → AreBacksTight v ts bs los ks → AreBacksTight u ts bs los ks
+  backs_later : (u v : Level) (ts : List Turning) (bs : List ℕ) (los : List Loop) (ks : List Pair) → EachLoop (IsLeft u v) los → AreBacksTight least v ts bs los ks → AreBacksTight least u ts bs los ks
   backs_later u v ts bs [] ks e h = tt
   backs_later u v ts bs (l ∷ los) [] e h = absurd h
   backs_later u v ts bs (l ∷ los) (k ∷ ks) e h = (
-    (λ lt. let r = h.0 lt in (r.0, r.1, r.2, e.0.1 r.0 r.1 ∙ (r.3 ∙ ap (λ (z : ℤ). back_worth l z k) (sym e.0.0)))),
+    (λ lt. let r = h.0 lt in (r.0, r.1, r.2, e.0.1 r.0 r.1 ∙ (r.3 ∙ ap (λ (z : ℤ). back_worth l z k) (sym e.0.0)), r.4)),
     backs_later u v ts bs los ks e.1 h.1,
   )
 
@@ -375,7 +374,7 @@ module _ (s : System) (ls : List LoopShape) (ps : List Span) (whole : IsReachedW
       left a there inside = (functions_leave s ls ps whole q (function_level s ls q v r) rs (place_of s.moves a) rest (elsewhere_all s ls ps whole q r rs a there inside apart.0)).0
 
   abbrev IsSlackBack : LoopClaim → LoopShape → Pair → Type 0
-  IsSlackBack c l k = 0 < sum_if (begins_at l.back) s.moves us → (l.back ≢ l.header) × (worth_at w.worths (place_of s.moves l.back) ≡ (((dearest_from q.of s.moves l.back q.low +ℤ worth_at w.worths (place_of s.moves l.header)) +ℤ (k.least *ℤ pos c.min)) -ℤ (k.most *ℤ pos c.max)))
+  IsSlackBack c l k = 0 < sum_if (begins_at l.back) s.moves us → (l.back ≢ l.header) × (worth_at w.worths (place_of s.moves l.back) ≡ (((dearest_from q.of s.moves l.back q.low +ℤ worth_at w.worths (place_of s.moves l.header)) +ℤ (k.least *ℤ pos c.min)) -ℤ (k.most *ℤ pos c.max))) × (least ≤ℤ dearest_from q.of s.moves l.back q.low)
 
   not_reached : (a : ℕ) → has_moves s.moves a ≡ false → sum_if (begins_at a) s.moves us ≡ 0
   not_reached a h = no_sum (begins_at a) s.moves us (λ m im. not_equal m.at a (λ e. differ (has_moves s.moves a) (subst (λ b. has_moves s.moves b ≡ true) e (has_of s.moves m im)) h))
@@ -402,10 +401,10 @@ module _ (s : System) (ls : List LoopShape) (ps : List Span) (whole : IsReachedW
           let bc = back_count s ls ps whole q least us (up s ls ps whole q least is) is.bounds g.0 (function_steps s ls q.of g.1 g.0) l il h g.2 (loop_of q.of q.low s.moves s.claims g.0 (function_steps s ls q.of g.1 g.0) c l) k refl g.3.claimed g.1 refl in
           let t = g.3.tight (omega (arith, lt, bc)) in
           let r = back_reached s ls ps whole q l t.0 t.1 in
-          ((λ e. t.2 (sym r.1 ∙ ap (place_of s.moves) e)), ap (λ a. worth_at w.worths a) r.1 ∙ t.3)
+          ((λ e. t.2 (sym r.1 ∙ ap (place_of s.moves) e)), ap (λ a. worth_at w.worths a) r.1 ∙ t.3, t.4)
       by_has false h priced found lt = by_back (has_moves s.moves l.back) refl
         where
-          by_back : (t : Bool) → has_moves s.moves l.back ≡ t → (l.back ≢ l.header) × (worth_at w.worths (place_of s.moves l.back) ≡ (((dearest_from q.of s.moves l.back q.low +ℤ worth_at w.worths (place_of s.moves l.header)) +ℤ (k.least *ℤ pos c.min)) -ℤ (k.most *ℤ pos c.max)))
+          by_back : (t : Bool) → has_moves s.moves l.back ≡ t → (l.back ≢ l.header) × (worth_at w.worths (place_of s.moves l.back) ≡ (((dearest_from q.of s.moves l.back q.low +ℤ worth_at w.worths (place_of s.moves l.header)) +ℤ (k.least *ℤ pos c.min)) -ℤ (k.most *ℤ pos c.max))) × (least ≤ℤ dearest_from q.of s.moves l.back q.low)
           by_back true b = absurd (differ (has_moves s.moves l.header) (subst (λ a. has_moves s.moves a ≡ true) (sym priced.header) (leads s ls ps whole q c l il priced.back priced.header (subst (λ a. has_moves s.moves a ≡ true) priced.back b))) h)
           by_back false b = let z = not_reached l.back b in absurd (omega (arith, lt, z))
 
@@ -450,12 +449,13 @@ module _ (s : System) (ls : List LoopShape) (ps : List Span) (whole : IsReachedW
       let e = rank_stays ps m l.header whole.fits.apart (All-contains (λ (y : Move). IsInOne ps y.at) s.moves m whole.fits.covered im) (All-contains (λ (y : Move). All (StaysIn y) ps) s.moves m whole.fits.stays im) on in
       elim b [ inl k ↦ absurd (omega (arith, k, e)) | inr k ↦ let k1 = k.1 in omega (arith, k1, at) ]
 
-  -- all prices of a jump back are that of its move
-  one_price : (l : LoopShape) → Contains ls l → (m : Move) → Contains s.moves m → m.at ≡ l.back → dearest_from q.of s.moves l.back q.low ≡ q.of m
-  one_price l il m im at =
+  -- where the price of a jump back is open, it is that of its move
+  one_price : (l : LoopShape) → Contains ls l → (m : Move) → Contains s.moves m → m.at ≡ l.back → least ≤ℤ dearest_from q.of s.moves l.back q.low → dearest_from q.of s.moves l.back q.low ≡ q.of m
+  one_price l il m im at wide =
       let a = dearest_most q.of s.moves l.back q.low m im at in
-      let b = dearest_least q.of s.moves l.back q.low (q.of m) (prices m im) (λ k ik e. let f = ap q.of (same k ik e) in omega (arith, ints)) in
-      omega (arith, ints)
+      let b = dearest_least q.of s.moves l.back q.low (larger q.low (q.of m)) (larger_left q.low (q.of m)) (λ k ik e. let f = ap q.of (same k ik e) in let r = larger_right q.low (q.of m) in omega (arith, ints)) in
+      let c = larger_open q.low least (q.of m) above (omega (arith, ints)) in
+      let c0 = c.0 in omega (arith, ints)
     where
       here : has_moves s.moves l.back ≡ true
       here = subst (λ b. has_moves s.moves b ≡ true) at (has_of s.moves m im)
@@ -487,7 +487,7 @@ module _ (s : System) (ls : List LoopShape) (ps : List Span) (whole : IsReachedW
           let sum : int_sum_by p (destinations m) ≡ p l.header +ℤ pos 0 = ap (int_sum_by p) goes in
           let there : has_moves s.moves l.header ≡ true = subst (λ a. has_moves s.moves a ≡ true) (sym k.header) (leads s ls ps whole q c l il k.back k.header (subst (λ a. has_moves s.moves a ≡ true) (sym at) here)) in
           let y = hold_back c u m.at (λ g. t.0 (lb ∙ (sym g ∙ sym k.header))) at in
-          let z = one_price l il m im (sym lb) in
+          let z = one_price l il m im (sym lb) t.2 in
           let v : p m.at ≡ worth_at w.worths (place_of s.moves l.back) = potential_place s ls ps whole q m.at here ∙ ap (λ a. worth_at w.worths (place_of s.moves a)) (sym lb) in
           let j = potential_place s ls ps whole q l.header there in
           let h = held_same m.at free in
@@ -548,8 +548,14 @@ module _ (s : System) (ls : List LoopShape) (ps : List Span) (whole : IsReachedW
       one_times : (z : ℤ) → pos 1 *ℤ z ≡ z
       one_times z = omega (arith, ints)
 
+-- a block is below what is open
+low_below : (s : System) (ls : List LoopShape) (q : Prices) (least : ℤ) (v : Level) (ps : List Span) (a : ℕ) → AreOpenFunctions least s ls q v ps → IsInOne ps a → q.low <ℤ least
+low_below s ls q least v [] a code one = absurd one
+low_below s ls q least v (p ∷ ps) a code one = code.0.above
+
+-- at any prices
 pub all_slackless : (s : System) (ls : List LoopShape) (ps : List Span) → IsReachedWhole s ls ps → FlowsAreSlackless s ls ps
-all_slackless s ls ps whole q least is prices = slackless s ls ps whole q least is prices
+all_slackless s ls ps whole q least is = slackless s ls ps whole q least is (low_below s ls q least (blank (length s.moves) q.low) ps s.entry is.code (covered s ls ps whole q least is s.entry whole.system.entry))
 
 pub all_reached : (s : System) (ls : List LoopShape) (ps : List Span) → IsReachedWhole s ls ps → ValuesAreReached s ls ps
-all_reached s ls ps whole q least is prices = reached s ls ps whole q least is prices
+all_reached s ls ps whole q least is = reached s ls ps whole q least is (low_below s ls q least (blank (length s.moves) q.low) ps s.entry is.code (covered s ls ps whole q least is s.entry whole.system.entry))

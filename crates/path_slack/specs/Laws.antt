@@ -1,6 +1,5 @@
 -- The flow of a system by its worths is without slack, so that its total is the entry's potential.
-use Rattle.std.specs.Prelude.{◌≡◌, ℕ, ℤ, ◌≤ℤ◌, List, Contains}
-use Rattle.code_flow_system.specs.declared.moves.Move.{Move}
+use Rattle.std.specs.Prelude.{◌≡◌, ℤ, List}
 use Rattle.code_flow_system.specs.declared.shapes.LoopShape.{LoopShape}
 use Rattle.code_flow_system.specs.declared.shapes.Span.{Span}
 use Rattle.code_flow_system.specs.Systems.{System}
@@ -14,13 +13,10 @@ use Rattle.path_duals.specs.Duals.{values_of, dual_of, final_level}
 use Rattle.path_flows.specs.Flows.{amounts_of, parts_of}
 use Rattle.path_counts.specs.Laws.{IsOpenSystem}
 
--- no price is below that of a block
-abbrev pub ArePrices : System → Prices → Type 0
-ArePrices s q = (m : Move) → Contains s.moves m → q.low ≤ℤ q.of m
-
+-- at any prices
 abbrev pub FlowsAreSlackless : System → List LoopShape → List Span → Type 0
-FlowsAreSlackless s ls ps = (q : Prices) (least : ℤ) → IsOpenSystem s ls ps q least → ArePrices s q → IsSlackless s (dual_of s q.of (values_of s ls ps q)) 1 (listed (parts_of s.moves (amounts_of s ls ps q)))
+FlowsAreSlackless s ls ps = (q : Prices) (least : ℤ) → IsOpenSystem s ls ps q least → IsSlackless s (dual_of s q.of (values_of s ls ps q)) 1 (listed (parts_of s.moves (amounts_of s ls ps q)))
 
--- its total is the worth of the entry
+-- the total is the worth of the entry
 abbrev pub ValuesAreReached : System → List LoopShape → List Span → Type 0
-ValuesAreReached s ls ps = (q : Prices) (least : ℤ) → IsOpenSystem s ls ps q least → ArePrices s q → total q.of (listed (parts_of s.moves (amounts_of s ls ps q))) s.moves ≡ worth_at (final_level s ls ps q).worths (place_of s.moves s.entry)
+ValuesAreReached s ls ps = (q : Prices) (least : ℤ) → IsOpenSystem s ls ps q least → total q.of (listed (parts_of s.moves (amounts_of s ls ps q))) s.moves ≡ worth_at (final_level s ls ps q).worths (place_of s.moves s.entry)

@@ -4,7 +4,7 @@ ghost use Rattle.path_slack.specs.Laws.{FlowsAreSlackless, ValuesAreReached};
 
 use code_flow_system::{LoopShape, Span, System};
 
-/// A law: where worths are open, the listed flow is without slack.
+/// A law: where worths are open, the listed flow is without slack, at any prices.
 pub fn flows_are_slackless(system: &System, shapes: &[LoopShape], spans: &[Span])
     requires { IsReachedWhole system.now shapes.now spans.now }
     ensures { FlowsAreSlackless system.now shapes.now spans.now }

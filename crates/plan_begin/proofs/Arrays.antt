@@ -13,7 +13,7 @@ use Rattle.high_ir.specs.declared.object.Array.{Array}
 use Rattle.high_ir.specs.declared.object.Base.TheVariants.{Object}
 use Rattle.plan_definition.specs.declared.home.Home.TheVariants.{Memory}
 use Rattle.plan_definition.specs.Layouts.{Given, Next, ahead, begun, elements_of, first_given, given_object, givens_behind, home_by, homes_from, local_object, next_by, object_before, objects_from}
-use Rattle.plan_fit.specs.Growing.{static_count, statics}
+use Rattle.types_seen.specs.Growing.{static_count, statics}
 use Rattle.plan_layout.proofs.Homes.{array_here, base_in, begun_object, is_frame_home, is_object}
 
 -- the array of an object: its first values, or those of none

@@ -26,17 +26,18 @@ use Rattle.types_rules.specs.Typing.{and_external, and_object, filling_of, typed
 use Rattle.plan_definition.specs.Layouts.{Given, givens, givens_of, initial_words}
 use Rattle.plan_definition.specs.Layouts as plans
 use Rattle.plan_definition.specs.Operators.{kind_of}
-use Rattle.plan_fit.specs.Growing.{Grows, statics}
-use Rattle.plan_fit.proofs.Growing.{external_grows, grows_declared, grows_same, grows_then, slice_get-last}
-use Rattle.plan_fit.proofs.Objects.{keeps_at}
-use Rattle.plan_fit.proofs.Rules.{NoFault, faultless_first, faultless_second, parts_keep}
-use Rattle.plan_layout.specs.Fronts.{Definition, behind, ended_by, external_by}
+use Rattle.types_seen.specs.Growing.{Grows, statics}
+use Rattle.types_seen.proofs.Growing.{external_grows, grows_declared, grows_same, grows_then, slice_get-last}
+use Rattle.types_seen.proofs.ObjectRules.{keeps_at}
+use Rattle.types_seen.proofs.Rules.{NoFault, faultless_first, faultless_second, parts_keep}
+use Rattle.types_seen.specs.Fronts.{Definition, behind, ended_by, external_by}
 use Rattle.plan_layout.specs.Layouts.{layout_of, signatures_of}
-use Rattle.plan_layout.specs.Units.{IsUnit}
-use Rattle.plan_layout.proofs.Fronts.{file_level, inside_ended}
-use Rattle.plan_layout.proofs.Lists.{extended, slice_get-some}
-use Rattle.plan_layout.proofs.Placed.{own_automatic}
-use Rattle.plan_layout.proofs.Statics.{HaveGivens, added, added_duration, given_first, given_of, givens_later, object_variables, one_static, row_block}
+use Rattle.types_seen.specs.Units.{IsUnit}
+use Rattle.types_seen.proofs.Fronts.{file_level, inside_ended}
+use Rattle.types_seen.proofs.Lists.{extended, slice_get-some}
+use Rattle.types_seen.proofs.Objects.{own_automatic}
+use Rattle.plan_layout.proofs.Statics.{HaveGivens, given_first, given_of, givens_later, one_static}
+use Rattle.types_seen.proofs.Objects.{added, added_duration, object_variables, row_block}
 use Rattle.plan_begin.specs.Rows.{row_of}
 use Rattle.plan_begin.proofs.Objects.{InitialisesIf, initialises}
 use Rattle.plan_begin.proofs.Ranges.{WordsRanged, initial_constant, initial_ranged}

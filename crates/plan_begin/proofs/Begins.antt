@@ -21,23 +21,27 @@ use Rattle.plan_definition.specs.Programs.{end_of, function_planned, functions_p
 use Rattle.plan_runs.specs.Serves.{source_with}
 use Rattle.plan_runs.specs.Kept.{Begins, BeginsAlike}
 use Rattle.plan_fit.specs.Places.{IsHandedOver, IsHome, IsParameterBase}
-use Rattle.plan_fit.proofs.Rules.{no_rule, none_first, none_second}
-use Rattle.plan_layout.specs.Fronts.{Definition, IsFront, behind, external_by, function_by, functions_of}
+use Rattle.types_seen.proofs.Rules.{no_rule, none_first, none_second}
+use Rattle.types_seen.specs.Fronts.{Definition, IsFront, behind, external_by, function_by, functions_of}
 use Rattle.plan_layout.specs.Layouts.{constant_by, constant_in, first_in, owner_of, parameters_in, rest_of, signatures_of}
-use Rattle.plan_layout.specs.Units.{HasTree, IsUnit}
-use Rattle.plan_layout.proofs.Fronts.{among, front_faultless, front_less, part_faultless}
-use Rattle.plan_served.proofs.Known.{and3, keeps_head, named, none_listed}
-use Rattle.plan_layout.proofs.Lists.{slice_get-behind, slice_get-some}
-use Rattle.plan_layout.proofs.Placed.{is_passed_extent, memory_there, memory_within, placed, static_extent}
+use Rattle.types_seen.specs.Units.{HasTree, IsUnit}
+use Rattle.plan_layout.proofs.Fronts.{among}
+use Rattle.types_seen.proofs.Fronts.{front_faultless, front_less, part_faultless}
+use Rattle.plan_served.proofs.Known.{none_listed}
+use Rattle.types_seen.proofs.Known.{and3, keeps_head, named}
+use Rattle.types_seen.proofs.Lists.{slice_get-behind, slice_get-some}
+use Rattle.plan_layout.proofs.Placed.{memory_there, memory_within, placed}
+use Rattle.types_seen.proofs.Objects.{is_passed_extent, static_extent}
 use Rattle.plan_served.proofs.Served.{planned_at}
 use Rattle.plan_layout.proofs.Statics.{laid}
-use Rattle.plan_layout.proofs.Trees.{not_broken, of_tree}
+use Rattle.types_seen.proofs.Units.{not_broken, of_tree}
 use Rattle.std.specs.Prelude.{◌||◌, if◌then◌else◌, slice_get, slice_index_or, codes}
 use Rattle.std.specs.Cmp.Lexicographic.{pointwise}
 use Rattle.std.proofs.lemmas.Bool.{cases_lt, false≢true, or_parts, true≢false}
 use Rattle.std.proofs.lemmas.List.{length-replicate}
 use Rattle.std.proofs.lemmas.Option.{get_or_from_slice_get, none-some, same_Some, slice_get_within}
-use Rattle.facts_definitions.specs.FlowFacts.{AreFacts, function_name, id_in, index_of, main_of}
+use Rattle.facts_definitions.specs.FlowFacts.{AreFacts, id_in, index_of, main_of}
+use Rattle.types_tree.specs.Tree.{function_name}
 use Rattle.facts_definitions.specs.declared.facts.Facts.{Facts}
 use Rattle.meaning_semantics.specs.Runs as source_runs
 use Rattle.meaning_semantics.specs.State as source
@@ -60,7 +64,7 @@ use Rattle.plan_definition.specs.Layouts as plans
 use Rattle.plan_definition.specs.Operators.{kind_of}
 use Rattle.plan_expressions.specs.Cells.{cell, size}
 use Rattle.plan_expressions.specs.Meets.{Holds, Layout, MeetsWorld, home, kind_at, type_in}
-use Rattle.plan_fit.specs.Growing.{statics}
+use Rattle.types_seen.specs.Growing.{statics}
 use Rattle.plan_layout.specs.Layouts.{is_constant_given, layout_of}
 use Rattle.plan_begin.specs.Rows.{row_of}
 use Rattle.plan_begin.proofs.Arrays.{array_at, array_of}

@@ -22,10 +22,11 @@ use Rattle.plan_definition.specs.Layouts.{first_of, frame_scalars, homes_of}
 use Rattle.plan_definition.specs.Programs.{between, end_of, function_planned, plan_of, program_planned}
 use Rattle.plan_forms.specs.Programs.{body_of}
 use Rattle.plan_frames.specs.Framed.{ItemsFramed}
-use Rattle.plan_layout.specs.Fronts.{Definition, IsFront, begun_by, behind, external_by, function_by, functions_of}
+use Rattle.types_seen.specs.Fronts.{Definition, IsFront, begun_by, behind, external_by, function_by, functions_of}
 use Rattle.plan_layout.specs.Layouts.{layout_of, rest_of, signatures_of}
-use Rattle.plan_layout.specs.Units.{IsUnit}
-use Rattle.plan_layout.proofs.Fronts.{among, defined}
+use Rattle.types_seen.specs.Units.{IsUnit}
+use Rattle.plan_layout.proofs.Fronts.{among}
+use Rattle.types_seen.proofs.Fronts.{defined}
 use Rattle.plan_served.proofs.Served.{serves_own}
 use Rattle.plan_memory.specs.Memory.{FunctionsFramed}
 use Rattle.plan_memory.proofs.Memory.{local_most}

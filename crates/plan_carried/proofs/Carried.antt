@@ -16,12 +16,13 @@ use Rattle.high_ir.specs.Runs.{count_of, hrun}
 use Rattle.high_ir.specs.Standing.{Bounded, loops_in}
 use Rattle.plan_definition.specs.Programs.{functions_planned, plan_of, program_planned}
 use Rattle.plan_definition.specs.Statements.{Plan}
-use Rattle.high_pass.specs.Carries.{AreBy, Carries, RunsAlike, StartsFewer, bounds_of}
+use Rattle.high_pass.specs.Carries.{AreBy, Behaviour, Carries, RunsAlike, StartsFewer, bounds_of}
 use Rattle.high_pass.specs.Listing.{HasEachBelow, LoopEntry, MarkEntry, listed_loops, listed_marks, mark_copies}
 use Rattle.plan_numbers.specs.Numbers.{FunctionsNumbered, functions_loops as loops_count}
 use Rattle.plan_loops.specs.Loops.{Planned, functions_loops, in_plan, in_source}
 use Rattle.plan_loops.proofs.Numbers.{functions_order, number_of}
 use Rattle.plan_loops.proofs.Programs.{functions_stand}
+use Rattle.plan_loops.proofs.Sources.{functions_are}
 use Rattle.plan_runs.specs.Kept.{same_mark, same_marks}
 use Rattle.plan_carried.specs.Sources.{loop_entry, planned_listing, source_behaviour, source_marks, source_shown}
 use Rattle.plan_carried.proofs.Numbers.{bounds_found, loop_number, range_has_each}
@@ -47,9 +48,6 @@ old_loop e = e.old
 
 abbrev new_loops : LoopEntry → List ℕ
 new_loops e = map (λ l. l.id) e.new
-
-abbrev plan_number : Planned → ℕ
-plan_number l = l.id
 
 loops-old : (ls : List Planned) → map old_loop (map loop_entry ls) ≡ map loop_number (map in_source ls)
 loops-old [] = refl
@@ -120,8 +118,12 @@ module _ (program : Program) (names : List (List ℕ)) (facts : Facts) (is_high 
       here : (f : ℕ) → Contains (f ∷ []) f
       here f = Contains-get_or (f ∷ []) 0 f (omega arith)
 
-  pub carried : Carries (source_behaviour program names facts) (program_planned program facts (main_of program names)) (planned_listing program facts)
-  carried = record {
+  -- the source, where its loops are listed as those of the plan
+  abbrev behaves : List Bounded → Behaviour
+  behaves loops = record { runs = source_shown program names facts; functions = length program.functions; marks = source_marks program facts; loops = loops }
+
+  listed : Carries (behaves (map in_source ls)) (program_planned program facts (main_of program names)) (planned_listing program facts)
+  listed = record {
     runs = runs;
     marks = marks-same (range_with_len 0 (source_marks program facts));
     loops = loops-old ls;
@@ -131,3 +133,6 @@ module _ (program : Program) (names : List (List ℕ)) (facts : Facts) (is_high 
     openings = opening;
     nevers = All-nil (λ v. StartsFewer (bounds_of (map in_source ls) v.old) v.factor);
   }
+
+  pub carried : Carries (source_behaviour program names facts) (program_planned program facts (main_of program names)) (planned_listing program facts)
+  carried = subst (λ loops. Carries (behaves loops) (program_planned program facts (main_of program names)) (planned_listing program facts)) (functions_are facts.bounds program.functions) listed

@@ -1,3 +1,4 @@
 pub mod Numbers
 pub mod Meanings
 pub mod Carried
+pub mod Bounds

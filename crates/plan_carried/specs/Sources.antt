@@ -3,6 +3,7 @@ use Rattle.std.specs.Prelude.{◌≡◌, ℕ, ◌+◌, List, [], ◌∷◌, ◌+
 use Rattle.wcc_base.specs.Words.{signed_word}
 use Rattle.facts_definitions.specs.FlowFacts.{main_of}
 use Rattle.facts_definitions.specs.declared.facts.Facts.{Facts}
+use Rattle.facts_loops.specs.Loops.{source_loops}
 use Rattle.meaning_semantics.specs.Runs.{ran, start}
 use Rattle.meaning_semantics.specs.State.{Outcome}
 use Rattle.meaning_semantics.specs.declared.source_run.SourceRun.{SourceRun}
@@ -10,7 +11,7 @@ use Rattle.meaning_semantics.specs.declared.source_run.SourceRun.TheVariants.{Do
 use Rattle.types_tree.specs.Tree.{Program}
 use Rattle.high_pass.specs.Carries.{Behaviour, Shown}
 use Rattle.high_pass.specs.Listing.{Listing, LoopEntry}
-use Rattle.plan_loops.specs.Loops.{Planned, functions_loops, in_source}
+use Rattle.plan_loops.specs.Loops.{Planned, bounded, functions_loops}
 use Rattle.plan_runs.specs.Kept.{kept_run, same_marks}
 
 -- the marks of a source: its functions, and then its markers
@@ -31,7 +32,7 @@ source_behaviour program names facts = record {
   runs = source_shown program names facts;
   functions = length program.functions;
   marks = source_marks program facts;
-  loops = map in_source (functions_loops facts.bounds program.functions);
+  loops = map bounded (source_loops program facts);
 }
 
 -- each loop has one copy, and each start of it is one start

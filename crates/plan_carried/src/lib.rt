@@ -2,7 +2,8 @@
 //!
 //! `specs/Sources` says what a source shows, counts and bounds, as passes see programs in the high form, and what becomes of its marks
 //! and loops in its plan. Proved in `proofs/`: where the plan keeps to the form, its loops are numbered as the source's, and each kept
-//! run is a good run of it, the plan carries the source, with these copies; and what a source shows is what it means.
+//! run is a good run of it, the plan carries the source, with these copies (`Carried`); what a source shows is what it means
+//! (`Meanings`); and what passes say of the bounds of its loops is what its facts say of their starts (`Bounds`).
 //!
 //! This crate has no code.
 #![tactic(auto)]

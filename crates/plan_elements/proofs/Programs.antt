@@ -1,8 +1,6 @@
--- The arrays of a plan have elements, and so have those of a low program.
-use Rattle.std.proofs.Common.{◌≡◌, ℕ, zero, suc, ◌<◌, List, [], ◌∷◌, map, None, Some, refl, sym, subst, arith, All}
-use Rattle.std.specs.Prelude.{slice_get}
+-- The arrays of a plan have elements.
+use Rattle.std.proofs.Common.{◌≡◌, ℕ, ◌<◌, List, [], ◌∷◌, None, refl, sym, subst, arith, All}
 use Rattle.std.proofs.lemmas.List.Elements.{All-cons, All-head, All-nil, All-tail}
-use Rattle.std.proofs.lemmas.Option.{same_Some}
 use Rattle.facts_definitions.specs.FlowFacts.{main_of}
 use Rattle.facts_definitions.specs.declared.facts.Facts.{Facts}
 use Rattle.c_tree.specs.Tree.{TranslationUnit, Whole}
@@ -20,8 +18,6 @@ use Rattle.plan_memory.proofs.Memory.{rules_pass}
 use Rattle.plan_definition.specs.Layouts.{Given, elements_of, first_given, given_object, givens, givens_behind, local_object, object_before, objects_from}
 use Rattle.plan_definition.specs.Programs.{program_planned}
 use Rattle.plan_formed.specs.Checked.{IsChecked}
-use Rattle.low_ir.specs.Code.{Object}
-use Rattle.lower_definition.specs.Objects.{object_of}
 use Rattle.plan_elements.specs.Elements.{HasElements, HasSome, SomeBy}
 use Rattle.plan_elements.proofs.Sizes.{of_objects, of_parameters}
 use Rattle.plan_elements.proofs.Walk.{externals_keep}
@@ -50,9 +46,3 @@ unit_some names (Whole items at) passes = externals_keep HasSome of_objects of_p
 
 pub plan_some : (names : List (List ℕ)) (program : typed.Program) (facts : Facts) → IsChecked names program facts → HasElements (program_planned program facts (main_of program names))
 plan_some names program facts h = objects_some program.variables (givens program.items) (subst (λ (p : typed.Program). All HasSome p.variables) (sym h.program_is) (unit_some names h.unit h.passes))
-
--- over places, and over virtual registers, the arrays are those of the program
-pub lowered_some : (objects : List high.Object) → All Fills objects → (o : ℕ) (x : Object) → slice_get (map object_of objects) o ≡ Some x → 0 < x.size
-lowered_some [] h o x e = cc
-lowered_some (y ∷ ys) h zero x e = subst (λ (z : Object). 0 < z.size) (same_Some (object_of y) x e) (All-head Fills y ys h)
-lowered_some (y ∷ ys) h (suc o) x e = lowered_some ys (All-tail Fills y ys h) o x e

@@ -1,5 +1,5 @@
 -- Objects that have elements.
-use Rattle.std.specs.Prelude.{◌≡◌, ℕ, ◌<◌, List, All, Some, slice_get}
+use Rattle.std.specs.Prelude.{ℕ, ◌<◌, List, All}
 use Rattle.facts_definitions.specs.FlowFacts.{main_of}
 use Rattle.facts_definitions.specs.declared.facts.Facts.{Facts}
 use Rattle.types_tree.specs.Tree as typed
@@ -9,9 +9,6 @@ use Rattle.types_tree.specs.declared.variable.Variable.{Variable}
 use Rattle.high_ir.specs.Tree as high
 use Rattle.plan_definition.specs.Programs.{program_planned}
 use Rattle.plan_formed.specs.Checked.{IsChecked}
-use Rattle.low_ir.specs.Code.{Object}
-use Rattle.low_ir.specs.Places.{Assignment, placed}
-use Rattle.lower_definition.specs.Programs.{lowered}
 
 -- an array has at least one
 abbrev pub SomeBy : Extent → Type 0
@@ -27,6 +24,3 @@ HasElements p = All (λ (o : high.Object). 0 < o.size) p.objects
 
 abbrev pub PlansHaveElements : Type 0
 PlansHaveElements = (names : List (List ℕ)) (program : typed.Program) (facts : Facts) → IsChecked names program facts → HasElements (program_planned program facts (main_of program names))
-
-abbrev pub LoweredHaveElements : Type 0
-LoweredHaveElements = (a : Assignment) (p : high.Program) → HasElements p → (o : ℕ) (x : Object) → slice_get (placed a (lowered p)).objects o ≡ Some x → 0 < x.size

@@ -1,13 +1,12 @@
 //! The arrays of the plan of a source have elements (C11 6.7.6.2).
 //!
-//! `specs/Elements` says which objects have some. Proved, each by a call with an empty body: [`plans_have_elements`], that the
-//! arrays of the plan do, where the source fails no rule; and [`lowered_have_elements`], that those of a low program over
-//! places do where those of the program do that it comes from. What holds of each object that is declared, where no rule
-//! fails, and of each parameter, holds of all objects of a unit (`proofs/Walk`).
+//! `specs/Elements` says which objects have some. Proved, by a call with an empty body: [`plans_have_elements`], that the arrays of
+//! the plan do, where the source fails no rule. What holds of each object that is declared, where no rule fails, and of each
+//! parameter, holds of all objects of a unit (`proofs/Walk`).
 //!
 //! This crate knows no meaning, neither of the source nor of the high form.
 #![tactic(auto)]
 
 mod laws;
 
-pub use laws::{lowered_have_elements, plans_have_elements};
+pub use laws::plans_have_elements;

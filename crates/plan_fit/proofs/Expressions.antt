@@ -37,8 +37,9 @@ use Rattle.plan_definition.specs.Values.{array_named}
 use Rattle.plan_expressions.specs.Fits.{Fit, FitArguments, FitPlace, Formal, OfArray, Function, IsCallable, Signatures, Suits, call_kind, place_constant, place_kind, range_of}
 use Rattle.plan_expressions.specs.Meets.{Layout}
 use Rattle.plan_fit.specs.Seen.{Callable, IsKnown, IsSeen, Knows, Sees, formal_by, formals}
-use Rattle.plan_fit.proofs.Rules.{NoFault, faultless_first, faultless_second, keeps_rules, parts_keep}
-use Rattle.plan_fit.proofs.Widths.{conditional-Word, constant-Word, or_int-kind, same_types, sign-Word, value-Word}
+use Rattle.types_seen.proofs.Rules.{NoFault, faultless_first, faultless_second, keeps_rules, parts_keep}
+use Rattle.plan_fit.proofs.Widths.{conditional-Word, constant-Word, or_int-kind, sign-Word, value-Word}
+use Rattle.types_seen.proofs.KindNumbers.{same_types}
 use Rattle.plan_fit.proofs.Names.{IsArrayHere, among-second, type_by, IsScalarHere, array_argument, array_here, calls_first, calls_second, drop_at_item, scalar_here, seen_by}
 
 -- of a value of this type

@@ -1,8 +1,6 @@
-pub mod Rules
 pub mod Widths
 pub mod Names
 pub mod Expressions
-pub mod Growing
 pub mod Seeing
 pub mod Loops
 pub mod Objects

@@ -16,8 +16,10 @@ use Rattle.plan_definition.specs.Operators.{kind_of}
 use Rattle.plan_definition.specs.Values.{array_named}
 use Rattle.plan_expressions.specs.Fits.{Function, IsArgument, IsArrayHome, IsScalar}
 use Rattle.plan_expressions.specs.Meets.{Layout, home, kind_at}
-use Rattle.plan_fit.specs.Seen.{Callable, HasType, IsObjectSeen, IsSeen, Sees}
-use Rattle.plan_fit.proofs.Widths.{same_types}
+use Rattle.types_seen.specs.Seen.{HasType}
+use Rattle.types_seen.proofs.Scopes as scopes
+use Rattle.plan_fit.specs.Seen.{Callable, IsObjectSeen, IsSeen, Sees}
+use Rattle.types_seen.proofs.KindNumbers.{same_types}
 
 pub among-first : (g : ℕ) (xs ys : List ℕ) → Among g xs → Among g (xs ++ ys)
 among-first g [] ys h = absurd h
@@ -36,11 +38,7 @@ calls_second f xs ys c = λ g m. c g (among-second g xs ys m)
 module _ (layout : Layout) (f : Function) where
   -- what a name stands for is seen
   pub seen_by : (a : Around) → Sees layout f a → (name : ℕ) (binding : Binding) → found name a ≡ Some binding → IsSeen layout f binding
-  seen_by a sees name binding e = of (found_here name a) (found_outside name a.outer) refl refl e
-    where
-      of : (inner outer : Option Binding) → found_here name a ≡ inner → found_outside name a.outer ≡ outer → or_else inner outer ≡ Some binding → IsSeen layout f binding
-      of (Some b) outer i o e = sees.here name binding (i ∙ e)
-      of None outer i o e = sees.outside name binding (o ∙ e)
+  seen_by a sees name binding e = scopes.seen_by (IsSeen layout f) a sees name binding e
 
   -- what a name that is used as a value stands for
   pub record IsScalarHere (binding : Option Binding) : Type 0 where
@@ -80,11 +78,7 @@ module _ (layout : Layout) (f : Function) where
 
   -- a function's name has a type
   pub type_by : (a : Around) → Sees layout f a → (name : ℕ) → found name a ≡ Some Routine → HasType name a
-  type_by a sees name e = of (found_here name a) (found_outside name a.outer) refl refl e
-    where
-      of : (inner outer : Option Binding) → found_here name a ≡ inner → found_outside name a.outer ≡ outer → or_else inner outer ≡ Some Routine → HasType name a
-      of (Some b) outer i o e = sees.typed name (i ∙ e)
-      of None outer i o e = sees.typed_outside name (o ∙ e)
+  type_by a sees name e = scopes.type_by (IsSeen layout f) a sees name e
 
   -- a name that stands for an array parameter
   pub array_argument : (p : ParamType) (at : ℕ) (binding : Option Binding) → ((b : Binding) → binding ≡ Some b → IsSeen layout f b) → is_unknown binding ≡ false → is_array_for p binding ≡ true → IsArgument layout f (array_named (typed_name true binding at)) (kind_of p.kind) p.is_const

@@ -33,50 +33,21 @@ use Rattle.plan_definition.specs.Operators as plan
 use Rattle.plan_expressions.specs.Fits.{Function, IsArrayHome, IsNamed, IsScalar, Signatures, Suits, range_of}
 use Rattle.plan_expressions.specs.Meets.{Layout, home, kind_at, type_in}
 use Rattle.plan_statements.specs.Fits.{FillingFits, FitInitial, FitObjects, FitValue, FitValues, IsArrayObject, IsDeclared, among}
-use Rattle.plan_fit.specs.Growing.{Grows}
+use Rattle.types_seen.specs.Growing.{Grows}
 use Rattle.plan_fit.specs.Seen.{Callable, IsObjectSeen, Knows, LivesAs, Sees}
 use Rattle.plan_fit.specs.Places.{AreBounds, IsHandedOver, IsHome, IsInFrame, IsInMemory, IsLaid, IsObjectBase, IsParameterBase, IsPlan, IsStored}
-use Rattle.plan_fit.proofs.Rules.{NoFault, faultless_first, faultless_second, no_rule, none_first, none_second, not_when, parts_keep}
+use Rattle.types_seen.proofs.Rules.{NoFault, faultless_first, faultless_second, no_rule, none_first, none_second, not_when, parts_keep}
 use Rattle.plan_fit.proofs.Names.{calls_first, calls_second}
 use Rattle.plan_fit.proofs.Expressions.{calls_converted, fit_converted, fit_expr, range_converted, range_is}
-use Rattle.plan_fit.proofs.Growing.{grows_declared, grows_same, grows_then, in_same, inside_declared, slice_get-last}
+use Rattle.types_seen.proofs.Growing.{grows_declared, grows_same, grows_then, in_same, inside_declared, slice_get-last}
 use Rattle.plan_fit.proofs.Seeing.{knows_before, sees_object, sees_same}
 use Rattle.plan_fit.proofs.Loops.{bounds_first, bounds_row}
+use Rattle.types_seen.proofs.ObjectRules.{KeepsObject, keeps_at, size_ok, unsized_ok}
 
 abbrev is_passed_extent : Extent → Bool
 is_passed_extent Single = false
 is_passed_extent (Elements n) = false
 is_passed_extent Passed = true
-
--- no rule fails at an object by itself
-pub record KeepsObject (base : Base) (shape : Shape ℕ) (initial : Initial ℕ) (a : Around) : Type 0 where
-  pub constant : (has_no_constant_size shape || (not (in_block a) && has_no_constant_value initial)) ≡ false
-  pub size : has_bad_size shape initial ≡ false
-  pub given : has_wrong_initial shape initial base.const a ≡ false
-
-keeps_object : (base : Base) (name : ℕ) (shape : Shape ℕ) (initial : Initial ℕ) (at : ℕ) (a : Around) → object_rule base (Declared name shape initial at) a ≡ None → KeepsObject base shape initial a
-keeps_object base name shape initial at a h =
-    let constant = has_no_constant_size shape || (not (in_block a) && has_no_constant_value initial) in
-    let void = is_void base.kind || has_void_value initial (after_object base (Declared name shape initial at) a) in
-    let o5 = when (has_wrong_initial shape initial base.const a) rules.Initial in
-    let o4 = or_else (when void rules.Void) o5 in
-    let o3 = or_else (when (has_bad_size shape initial) rules.Size) o4 in
-    let o2 = or_else (when constant rules.Constant) o3 in
-    let h2 = none_second (when (is_some (found_here name a)) rules.Redeclared) o2 h in
-    let h3 = none_second (when constant rules.Constant) o3 h2 in
-    let h4 = none_second (when (has_bad_size shape initial) rules.Size) o4 h3 in
-    let h5 = none_second (when void rules.Void) o5 h4 in
-    record {
-      constant = not_when constant rules.Constant (none_first (when constant rules.Constant) o3 h2);
-      size = not_when (has_bad_size shape initial) rules.Size (none_first (when (has_bad_size shape initial) rules.Size) o4 h3);
-      given = not_when (has_wrong_initial shape initial base.const a) rules.Initial h5;
-    }
-
-pub keeps_at : (base : Base) (name : ℕ) (shape : Shape ℕ) (initial : Initial ℕ) (at : ℕ) (a : Around) → NoFault (object_nodes base (Declared name shape initial at) a) → KeepsObject base shape initial a
-keeps_at base name shape initial at a h =
-    let o = Declared name shape initial at in
-    let rest = shape_nodes shape a ++ initial_nodes initial (after_object base o a) in
-    keeps_object base name shape initial at a (no_rule (object_rule base o a) at (none_first (fault_at (object_rule base o a) at) (first_fault rest) h))
 
 count_values : (kind : CType) (es : Exprs ℕ) (a : Around) (rest : typed.Exprs) → count_exprs (values_at kind es a rest) ≡ count es + count_exprs rest
 count_values kind NoExpr a rest = omega arith
@@ -96,17 +67,6 @@ row_behind P step base (Then front last) a rest h =
 all_true : (b x : Bool) → b ≡ true → (b && true && x) ≡ x
 all_true true x e = refl
 all_true false x e = absurd (false≢true e)
-
--- an array's size, and whether its list leaves elements over
-size_ok : (o : Option ℕ) (least : ℕ) → is_none o ≡ false → is_bad_size o least ≡ false → (least ≤ or_zero o) × (or_zero o ≤ 262144)
-size_ok None least some good = absurd (true≢false some)
-size_ok (Some n) least some good =
-    let parts = and_parts (is_size n) (nat_le least n) (not-false (is_size n && nat_le least n) good) in
-    let size = and_parts (nat_le 1 n) (nat_le n 262144) parts.0 in
-    (leb-true least n parts.1, leb-true n 262144 size.1)
-
-unsized_ok : (n : ℕ) → not (is_size n) ≡ false → n ≤ 262144
-unsized_ok n good = let size = and_parts (nat_le 1 n) (nat_le n 262144) (not-false (is_size n) good) in leb-true n 262144 size.1
 
 same_place : (n : ℕ) → n + 1 - 1 ≡ n + 0
 same_place n = omega arith

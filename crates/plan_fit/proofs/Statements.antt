@@ -20,13 +20,13 @@ use Rattle.plan_definition.specs.Operators as plan
 use Rattle.plan_expressions.specs.Fits.{Fit, Function, Signatures}
 use Rattle.plan_expressions.specs.Meets.{Layout}
 use Rattle.plan_statements.specs.Fits.{FitDeclaration, FitItems, FitOption, FitReturn, FitStart, FitStatement, block_declares, declares, start_declares, with_live}
-use Rattle.plan_fit.specs.Growing.{Beside, Grows}
+use Rattle.types_seen.specs.Growing.{Beside, Grows}
 use Rattle.plan_fit.specs.Seen.{Callable}
 use Rattle.plan_fit.specs.Places.{AreBounds, IsPlan}
-use Rattle.plan_fit.proofs.Rules.{NoFault, faultless_first, faultless_second, parts_keep}
+use Rattle.types_seen.proofs.Rules.{NoFault, faultless_first, faultless_second, parts_keep}
 use Rattle.plan_fit.proofs.Names.{calls_first, calls_second}
 use Rattle.plan_fit.proofs.Expressions.{calls_converted, fit_converted, fit_expr}
-use Rattle.plan_fit.proofs.Growing.{beside, declaration_grows, grows_same, grows_then, in_entered, in_same, inside_items, inside_start}
+use Rattle.types_seen.proofs.Growing.{beside, declaration_grows, grows_same, grows_then, in_entered, in_same, inside_items, inside_start}
 use Rattle.plan_fit.proofs.Seeing.{knows_before, sees_entered, sees_routine, sees_same, sees_wider}
 use Rattle.plan_fit.proofs.Loops.{bounds_behind, bounds_first, bounds_items, bounds_second, loops_start, loops_statement}
 use Rattle.plan_fit.proofs.Objects.{At, at_later, at_row, fit_objects, fit_value}

@@ -18,27 +18,6 @@ use Rattle.high_ir.specs.declared.object.Kind.TheVariants.{Word}
 use Rattle.plan_definition.specs.Operators.{kind_of}
 use Rattle.plan_expressions.specs.Fits.{Suits}
 
--- a type by its number
-abbrev type_of_number : ℕ → CType
-type_of_number n =
-    if n == 0 then Void else if n == 1 then Char else if n == 2 then SignedChar else if n == 3 then UnsignedChar else if n == 4 then Short
-    else if n == 5 then UnsignedShort else if n == 6 then Int else if n == 7 then Unsigned else if n == 8 then Long else UnsignedLong
-
-of_its_number : (k : CType) → type_of_number (kind_number k) ≡ k
-of_its_number Void = refl
-of_its_number Char = refl
-of_its_number SignedChar = refl
-of_its_number UnsignedChar = refl
-of_its_number Short = refl
-of_its_number UnsignedShort = refl
-of_its_number Int = refl
-of_its_number Unsigned = refl
-of_its_number Long = refl
-of_its_number UnsignedLong = refl
-
-pub same_types : (a b : CType) → same_kind a b ≡ true → a ≡ b
-same_types a b e = sym (of_its_number a) ∙ ap type_of_number (eqb-true (kind_number a) (kind_number b) e) ∙ of_its_number b
-
 promoted_cases : (P : CType → Type 0) → P Int → P Unsigned → P Long → P UnsignedLong → (k : CType) → P (promoted k)
 promoted_cases P i u l ul Void = i
 promoted_cases P i u l ul Char = i

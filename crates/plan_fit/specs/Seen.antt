@@ -1,8 +1,9 @@
 -- What the layout of a program says of the names that are seen at a place of its source.
 use Rattle.std.specs.Prelude.{◌≡◌, ℕ, Bool, true, false, List, map, Some}
 use Rattle.types_calls.specs.Chains.{Among}
-use Rattle.types_rules.specs.Scope.{Around, Outline, found_here, found_outside, routine_of}
-use Rattle.types_rules.specs.Types.{has_definition}
+use Rattle.types_rules.specs.Scope.{Around, Outline}
+use Rattle.types_tree.specs.declared.expression.Callee.{Callee}
+use Rattle.types_seen.specs.Seen as seen
 use Rattle.types_rules.specs.Typing.{callee_of}
 use Rattle.types_rules.specs.declared.scope.Binding.{Binding}
 use Rattle.types_rules.specs.declared.scope.Binding.TheVariants.{Object as Thing, Function as Routine}
@@ -43,22 +44,18 @@ abbrev pub IsSeen : Layout → Function → Binding → Type 0
 IsSeen layout f (Thing number kind const array) = IsObjectSeen layout f number.0 kind const array
 IsSeen layout f Routine = Unit {0}
 
--- a name with the type of a function
-abbrev pub HasType : (name : ℕ) → Around → Type 0
-HasType name a = (r : Signature) × (routine_of name a ≡ Some r)
-
 -- what each name stands for, in the innermost scope and in those around it
-pub record Sees (layout : Layout) (f : Function) (a : Around) : Type 0 where
-  pub here : (name : ℕ) (binding : Binding) → found_here name a ≡ Some binding → IsSeen layout f binding
-  pub outside : (name : ℕ) (binding : Binding) → found_outside name a.outer ≡ Some binding → IsSeen layout f binding
-  pub typed : (name : ℕ) → found_here name a ≡ Some Routine → HasType name a
-  pub typed_outside : (name : ℕ) → found_outside name a.outer ≡ Some Routine → HasType name a
+abbrev pub Sees : Layout → Function → Around → Type 0
+Sees layout f a = seen.Sees (IsSeen layout f) a
 
--- a function of this type, as it is called by its name
-pub record IsKnown (signatures : Signatures) (outline : Outline) (name : ℕ) (r : Signature) : Type 0 where
-  pub parameters_are : parameters_of signatures (callee_of name outline) ≡ formals r.params
-  pub result_is : Suits (call_kind signatures (callee_of name outline)) (kind_of r.result)
+-- a function of this type, as it is called
+pub record IsKnownAs (signatures : Signatures) (callee : Callee) (r : Signature) : Type 0 where
+  pub parameters_are : parameters_of signatures callee ≡ formals r.params
+  pub result_is : Suits (call_kind signatures callee) (kind_of r.result)
+
+abbrev pub IsKnown : Signatures → Outline → (name : ℕ) → Signature → Type 0
+IsKnown signatures outline name r = IsKnownAs signatures (callee_of name outline) r
 
 -- each function that was declared so far and is defined somewhere
-pub record Knows (signatures : Signatures) (a : Around) : Type 0 where
-  pub by : (name : ℕ) (r : Signature) → routine_of name a ≡ Some r → has_definition name a.outline ≡ true → IsKnown signatures a.outline name r
+abbrev pub Knows : Signatures → Around → Type 0
+Knows signatures a = seen.Knows (IsKnown signatures) a

@@ -4,7 +4,8 @@ use Rattle.std.specs.Prelude.{◌&&◌, ◌||◌, if◌then◌else◌, nat_eq}
 use Rattle.std.specs.Cmp.Lexicographic.{pointwise}
 use Rattle.std.proofs.lemmas.Bool.{and_parts, eqb-false, eqb-true, false≢true}
 use Rattle.c_tree.specs.Tree.{Row, Nothing, Then, External, Restriction, Declaring, Function}
-use Rattle.facts_definitions.specs.FlowFacts.{function_name, id_in, index_of}
+use Rattle.facts_definitions.specs.FlowFacts.{id_in, index_of}
+use Rattle.types_tree.specs.Tree.{function_name}
 use Rattle.types_tree.specs.Tree as typed
 use Rattle.types_value.specs.Kinds.{same_kind}
 use Rattle.types_value.specs.declared.kind.Kind.TheVariants.{Int}

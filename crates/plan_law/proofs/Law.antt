@@ -31,7 +31,7 @@ use Rattle.plan_loops.specs.Loops.{Planned, functions_loops}
 use Rattle.plan_runs.specs.Kept.{same_mark}
 use Rattle.plan_runs.proofs.Main.{kept_runs}
 use Rattle.plan_layout.specs.Layouts.{layout_of, rest_of, signatures_of}
-use Rattle.plan_layout.specs.Units.{HasTree}
+use Rattle.types_seen.specs.Units.{HasTree}
 use Rattle.plan_layout.proofs.Trees.{is_layout}
 use Rattle.plan_served.proofs.Programs.{serves}
 use Rattle.plan_begin.proofs.Begins.{begins}

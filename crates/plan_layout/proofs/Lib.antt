@@ -1,4 +1,3 @@
-pub mod Lists
 pub mod Homes
 pub mod Fronts
 pub mod Statics

@@ -26,16 +26,19 @@ use Rattle.plan_definition.specs.declared.home.Home.TheVariants.{Frame, Memory}
 use Rattle.plan_definition.specs.Layouts.{Next, ahead, begun, firsts_of, home_by, homes_from, homes_of, next_by}
 use Rattle.plan_definition.specs.Operators.{kind_of}
 use Rattle.plan_expressions.specs.Meets.{IsLayout, Layout, home, type_in}
-use Rattle.plan_fit.specs.Growing.{statics, static_count}
+use Rattle.types_seen.specs.Growing.{statics, static_count}
 use Rattle.plan_fit.specs.Places.{IsHome}
-use Rattle.plan_fit.proofs.Growing.{external_grows, statics-append}
-use Rattle.plan_layout.specs.Fronts.{Definition, IsFront, behind, ended_by, external_by, function_by, functions_of}
+use Rattle.types_seen.proofs.Growing.{external_grows, statics-append}
+use Rattle.types_seen.specs.Fronts.{Definition, IsFront, behind, ended_by, external_by, function_by, functions_of}
 use Rattle.plan_layout.specs.Layouts.{layout_of, owner_of}
-use Rattle.plan_layout.specs.Units.{IsUnit}
-use Rattle.plan_layout.proofs.Fronts.{among, continued, firsts_of-append, functions_then, inside_ended}
+use Rattle.types_seen.specs.Units.{IsUnit}
+use Rattle.plan_layout.proofs.Fronts.{among, continued, firsts_of-append}
+use Rattle.types_seen.proofs.Fronts.{functions_then, inside_ended}
 use Rattle.plan_layout.proofs.Homes.{AreOwn, AtLeast, AtMost, arrays_apart, base_in, frames_apart, homes_by, is_frame_home, is_object, own_homes}
-use Rattle.plan_layout.proofs.Lists.{extended, slice_get-cases, slice_get-one, slice_get-some}
-use Rattle.plan_layout.proofs.Statics.{IsHeld, added, held, home_at, laid, not_automatic, object_variables}
+use Rattle.types_seen.proofs.Lists.{extended, slice_get-cases, slice_get-one, slice_get-some}
+use Rattle.plan_layout.proofs.Statics.{home_at, laid}
+use Rattle.types_seen.proofs.Objects.{IsHeld, added, held, not_automatic, object_variables}
+use Rattle.types_seen.proofs.Objects.{is_passed_extent, static_extent}
 
 -- how many functions begin up to an object
 abbrev begins : ℕ → ℕ → Bool
@@ -103,11 +106,6 @@ memory_kind Automatic Scalar v here a is = absurd (true≢false (ap is_frame_hom
 memory_kind Automatic (Elements n) v here a is = sym (ap kind_in is)
 memory_kind Automatic Passed v here a is = sym (ap kind_in is)
 
-abbrev pub is_passed_extent : Extent → Bool
-is_passed_extent Scalar = false
-is_passed_extent (Elements n) = false
-is_passed_extent Passed = true
-
 named_by : (d : Duration) (e : Extent) (v : Variable) (here : Next) (a : Array) (n o at : ℕ) (st : source.State) → home_by d e v here ≡ Memory a → a.base ≡ Own n → (d ≡ Static → is_passed_extent e ≡ false) → source.number_held e o at st ≡ source.Fine o st
 named_by Static Scalar v here a n o at st is base free = refl
 named_by Static (Elements m) v here a n o at st is base free = refl
@@ -121,64 +119,6 @@ handed_by Static e v here a j o at st is base = absurd (false≢true (ap is_obje
 handed_by Automatic Scalar v here a j o at st is base = absurd (true≢false (ap is_frame_home is))
 handed_by Automatic (Elements m) v here a j o at st is base = absurd (false≢true (ap is_object (sym base ∙ sym (ap base_in is))))
 handed_by Automatic Passed v here a j o at st is base = refl
-
--- no object of file level is an array that is passed
-added_extent : (base : Base) (o : Object ℕ) (a : Around) → is_passed_extent (added base o a).extent ≡ false
-added_extent base (Declared name Single initial at) a = refl
-added_extent base (Declared name Unsized initial at) a = refl
-added_extent base (Declared name (Sized size) initial at) a = refl
-
-row_extent : (base : Base) (objects : Row (Object ℕ)) (a : Around) (o : ℕ) (v : Variable) → length a.variables ≤ o → slice_get (after_row (after_object base) objects a).variables o ≡ Some v → is_passed_extent v.extent ≡ false
-row_extent base Nothing a o v from e = let lt = slice_get_within a.variables o v e in absurd (omega (arith, from, lt))
-row_extent base (Then front last) a o v from e =
-    let now = after_row (after_object base) front a in
-    ⊎_elim
-    (λ (h : slice_get now.variables o ≡ Some v). row_extent base front a o v from h)
-    (λ (h : (j : ℕ) × (o ≡ length now.variables + j) × (slice_get (added base last now ∷ []) j ≡ Some v)). ap (λ x. is_passed_extent x.extent) (sym (slice_get-one (added base last now) h.0 v h.2).1) ∙ added_extent base last now)
-    (slice_get-cases now.variables (added base last now ∷ []) o v (sym (ap (λ l. slice_get l o) (object_variables base last now)) ∙ e))
-
-automatic_all : (vs : List Variable) (i : ℕ) (v : Variable) → statics vs ≡ 0 → slice_get vs i ≡ Some v → v.duration ≡ Automatic
-automatic_all [] i v none e = absurd (none-some v e)
-automatic_all (w ∷ vs) zero v none e = ap (λ x. x.duration) (sym (same_Some w v e)) ∙ no_static w.duration (omega (arith, none))
-  where
-    no_static : (d : Duration) → static_count d ≡ 0 → d ≡ Automatic
-    no_static Static e = absurd (omega (arith, e))
-    no_static Automatic e = refl
-automatic_all (w ∷ vs) (suc i) v none e = automatic_all vs i v (omega (arith, none)) e
-
--- what a function declares lives in it
-pub own_automatic : (outline : Outline) (front : Row (External ℕ)) (d : Definition) (own : List Variable) (o : ℕ) (v : Variable) → (ended_by d (behind outline front)).variables ≡ (behind outline front).variables ++ own → length (behind outline front).variables ≤ o →
-    slice_get (ended_by d (behind outline front)).variables o ≡ Some v → v.duration ≡ Automatic
-own_automatic outline front d own o v is from e =
-    let now = behind outline front in
-    let same : statics (now.variables ++ own) ≡ statics now.variables = ap statics (sym is) ∙ (inside_ended d now).statics_are in
-    let sum = statics-append now.variables own in
-    ⊎_elim
-    (λ (h : slice_get now.variables o ≡ Some v). let lt = slice_get_within now.variables o v h in absurd (omega (arith, from, lt)))
-    (λ (h : (j : ℕ) × (o ≡ length now.variables + j) × (slice_get own j ≡ Some v)). automatic_all own h.0 v (omega (arith, same, sum)) h.2)
-    (slice_get-cases now.variables own o v (sym (ap (λ l. slice_get l o) is) ∙ e))
-
-pub static_extent : (outline : Outline) (items : Row (External ℕ)) (o : ℕ) (v : Variable) → slice_get (behind outline items).variables o ≡ Some v → v.duration ≡ Static → is_passed_extent v.extent ≡ false
-static_extent outline Nothing o v e static = absurd (none-some v e)
-static_extent outline (Then front last) o v e static = of (nat_lt o (length (behind outline front).variables)) refl (λ w f g. static_extent outline front o w f g)
-  where
-    of_last : (x : External ℕ) → length (behind outline front).variables ≤ o → slice_get (after_external x (behind outline front)).variables o ≡ Some v → is_passed_extent v.extent ≡ false
-    of_last (Restriction pragma) from f = let lt = slice_get_within (behind outline front).variables o v f in absurd (omega (arith, from, lt))
-    of_last (Declaring (Prototype specifiers name params at)) from f = let lt = slice_get_within (behind outline front).variables o v f in absurd (omega (arith, from, lt))
-    of_last (Declaring (Objects specifiers objects at)) from f = row_extent (base_of specifiers) objects (behind outline front) o v from f
-    of_last (Function specifiers name name_at params body body_at at) from f =
-        let d : Definition = record { specifiers = specifiers; name = name; name_at = name_at; params = params; body = body; body_at = body_at; at = at } in
-        let now = behind outline front in
-        let own = drop (length now.variables) (ended_by d now).variables in
-        let is = extended now.variables (ended_by d now).variables (external_grows (external_by d) now).variables_are in
-        absurd (not_automatic v static (own_automatic outline front d own o v is from f))
-
-    of : (b : Bool) → nat_lt o (length (behind outline front).variables) ≡ b → ((w : Variable) → slice_get (behind outline front).variables o ≡ Some w → w.duration ≡ Static → is_passed_extent w.extent ≡ false) → is_passed_extent v.extent ≡ false
-    of true lt more =
-        let w = slice_get-some (behind outline front).variables o (ltb-true o (length (behind outline front).variables) lt) in
-        let same : w.0 ≡ v = same_Some w.0 v (sym ((external_grows last (behind outline front)).variables_are o w.0 w.1) ∙ e) in
-        ap (λ x. is_passed_extent x.extent) (sym same) ∙ more w.0 w.1 (ap (λ x. x.duration) same ∙ static)
-    of false ge more = of_last last (ltb-false o (length (behind outline front).variables) ge) e
 
 module _ (outline : Outline) (items : Row (External ℕ)) (program : typed.Program) (facts : Facts) (unit : IsUnit outline items program) where
   abbrev layout : Layout

@@ -27,82 +27,18 @@ use Rattle.plan_definition.specs.declared.home.Home.{Home}
 use Rattle.plan_definition.specs.declared.home.Home.TheVariants.{Frame}
 use Rattle.plan_expressions.specs.Fits.{Formal, Function as Place}
 use Rattle.plan_expressions.specs.Meets.{Layout, home}
-use Rattle.plan_fit.specs.Growing.{Grows, statics, static_count}
+use Rattle.types_seen.specs.Growing.{Grows, statics, static_count}
 use Rattle.plan_fit.specs.Seen.{IsObjectSeen, LivesAs, Sees}
 use Rattle.plan_fit.specs.Places.{IsHome, IsInMemory, IsLaid, IsStored}
-use Rattle.plan_fit.proofs.Growing.{external_grows, grows_declared, grows_same, grows_then, innermost-push, slice_get-last, statics-append}
+use Rattle.types_seen.proofs.Growing.{external_grows, grows_declared, grows_same, grows_then, innermost-push, slice_get-last, statics-append}
 use Rattle.plan_fit.proofs.Objects.{laid_kind, static_array, static_scalar}
 use Rattle.plan_fit.proofs.Seeing.{sees_object, sees_routine, sees_same}
-use Rattle.plan_layout.specs.Fronts.{Definition, IsFront, behind, ended_by, external_by}
+use Rattle.types_seen.specs.Fronts.{Definition, IsFront, behind, ended_by, external_by}
 use Rattle.plan_layout.specs.Layouts.{constant_by, constant_in, constant_of, first_in, layout_of, owner_of, parameters_in}
-use Rattle.plan_layout.proofs.Fronts.{defined_outer, file_level, inside_ended, object_outer, row_outer}
+use Rattle.types_seen.proofs.Fronts.{defined_outer, file_level, inside_ended, object_outer, row_outer}
 use Rattle.plan_layout.proofs.Homes.{home_is, homes_by}
-use Rattle.plan_layout.proofs.Lists.{extended, slice_get-cases, slice_get-one, slice_get-some}
-
-filled_variables : (b : Bool) (a : Around) → (with_filling b a).variables ≡ a.variables
-filled_variables true a = refl
-filled_variables false a = refl
-
--- the object that a declaration adds
-abbrev pub added : Base → Object ℕ → Around → Variable
-added base (Declared name shape initial at) a = record { name = record { 0 = name }; kind = base.kind; extent = extent_of shape initial; duration = duration_in (in_block a) }
-
-pub object_variables : (base : Base) (o : Object ℕ) (a : Around) → (after_object base o a).variables ≡ a.variables ++ added base o a ∷ []
-object_variables base (Declared name shape initial at) a = filled_variables (is_filled shape initial a) (with_object name base.kind base.const (extent_of shape initial) a)
-
-pub added_duration : (base : Base) (o : Object ℕ) (a : Around) → (added base o a).duration ≡ duration_in (in_block a)
-added_duration base (Declared name shape initial at) a = refl
-
-pub row_block : (base : Base) (objects : Row (Object ℕ)) (a : Around) → in_block a ≡ false → in_block (after_row (after_object base) objects a) ≡ false
-row_block base objects a file = ap has_scope (row_outer (after_object base) (object_outer base) objects a) ∙ file
-
-static_row : (base : Base) (objects : Row (Object ℕ)) (a : Around) → in_block a ≡ false → (o : ℕ) (v : Variable) → length a.variables ≤ o → slice_get (after_row (after_object base) objects a).variables o ≡ Some v → v.duration ≡ Static
-static_row base Nothing a file o v from e = let lt = slice_get_within a.variables o v e in absurd (omega (arith, from, lt))
-static_row base (Then front last) a file o v from e =
-    let now = after_row (after_object base) front a in
-    ⊎_elim
-    (λ (h : slice_get now.variables o ≡ Some v). static_row base front a file o v from h)
-    (λ (h : (j : ℕ) × (o ≡ length now.variables + j) × (slice_get (added base last now ∷ []) j ≡ Some v)).
-    sym (ap (λ x. x.duration) (slice_get-one (added base last now) h.0 v h.2).1) ∙ added_duration base last now ∙ ap duration_in (row_block base front a file))
-    (slice_get-cases now.variables (added base last now ∷ []) o v (sym (ap (λ l. slice_get l o) (object_variables base last now)) ∙ e))
-
-pub not_automatic : (v : Variable) → v.duration ≡ Static → v.duration ≡ Automatic → ⊥
-not_automatic v s a = false≢true (ap is_automatic (sym s ∙ a))
-  where
-    is_automatic : Duration → Bool
-    is_automatic Static = false
-    is_automatic Automatic = true
-
--- an object that lives in a frame or is a function's own is declared within the function
-pub record IsHeld (outline : Outline) (items : Row (External ℕ)) (object : ℕ) : Type 0 where
-  pub front : Row (External ℕ)
-  pub definition : Definition
-  pub part : IsFront (Then front (external_by definition)) items
-  pub from : length (behind outline front).variables ≤ object
-  pub below : object < length (ended_by definition (behind outline front)).variables
-
-pub held : (outline : Outline) (items : Row (External ℕ)) (o : ℕ) (v : Variable) → slice_get (behind outline items).variables o ≡ Some v → v.duration ≡ Automatic → IsHeld outline items o
-held outline Nothing o v e auto = absurd (none-some v e)
-held outline (Then front last) o v e auto = of (nat_lt o (length (behind outline front).variables)) refl (λ w f. held outline front o w f)
-  where
-    now : Around
-    now = behind outline front
-
-    of_last : (x : External ℕ) → length (behind outline front).variables ≤ o → slice_get (after_external x (behind outline front)).variables o ≡ Some v → IsHeld outline (Then front x) o
-    of_last (Restriction pragma) from f = let lt = slice_get_within (behind outline front).variables o v f in absurd (omega (arith, from, lt))
-    of_last (Declaring (Prototype specifiers name params at)) from f = let lt = slice_get_within (behind outline front).variables o v f in absurd (omega (arith, from, lt))
-    of_last (Declaring (Objects specifiers objects at)) from f = absurd (not_automatic v (static_row (base_of specifiers) objects (behind outline front) (file_level outline front) o v from f) auto)
-    of_last (Function specifiers name name_at params body body_at at) from f =
-        let d : Definition = record { specifiers = specifiers; name = name; name_at = name_at; params = params; body = body; body_at = body_at; at = at } in
-        record { front = front; definition = d; part = inl refl; from = from; below = slice_get_within (ended_by d (behind outline front)).variables o v f }
-
-    of : (b : Bool) → nat_lt o (length (behind outline front).variables) ≡ b → ((w : Variable) → slice_get (behind outline front).variables o ≡ Some w → w.duration ≡ Automatic → IsHeld outline front o) → IsHeld outline (Then front last) o
-    of true lt more =
-        let w = slice_get-some (behind outline front).variables o (ltb-true o (length (behind outline front).variables) lt) in
-        let same : w.0 ≡ v = same_Some w.0 v (sym ((external_grows last (behind outline front)).variables_are o w.0 w.1) ∙ e) in
-        let h = more w.0 w.1 (ap (λ x. x.duration) same ∙ auto) in
-        record { front = h.front; definition = h.definition; part = inr h.part; from = h.from; below = h.below }
-    of false ge more = of_last last (ltb-false o (length (behind outline front).variables) ge) e
+use Rattle.types_seen.proofs.Lists.{extended, slice_get-cases, slice_get-one, slice_get-some}
+use Rattle.types_seen.proofs.Objects.{added, added_duration, object_variables, row_block}
 
 -- what a program's layout says of an object
 stored_by : (d : Duration) (e : Extent) (given : Option Given) (formal : Option Formal) → IsStored (constant_by d e given formal) d e

@@ -17,7 +17,7 @@ use Rattle.plan_definition.specs.Operators.{kind_of}
 use Rattle.plan_expressions.specs.Fits.{Formal, OfWord, OfArray, Signatures}
 use Rattle.plan_expressions.specs.Meets.{Layout}
 use Rattle.plan_statements.specs.Flows.{Rest}
-use Rattle.plan_fit.specs.Growing.{statics}
+use Rattle.types_seen.specs.Growing.{statics}
 
 -- what a call hands over for a parameter of a definition
 abbrev pub formal_of : List Specifier → c.Shape → Formal

@@ -2,3 +2,4 @@ pub mod Pieces
 pub mod Statements
 pub mod Programs
 pub mod Numbers
+pub mod Sources

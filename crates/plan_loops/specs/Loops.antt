@@ -4,9 +4,18 @@ use Rattle.facts_definitions.specs.Most.{bounds_at}
 use Rattle.facts_definitions.specs.Starts.{starts}
 use Rattle.facts_definitions.specs.declared.facts.Bounds.{Bounds as BodyStarts}
 use Rattle.facts_definitions.specs.declared.facts.Starts.{Starts}
+use Rattle.facts_loops.specs.Loops.{SourceLoop}
 use Rattle.types_tree.specs.Tree as c
 use Rattle.high_ir.specs.Standing.{Bounded, Bounds}
 use Rattle.plan_definition.specs.Statements.{loops_before}
+
+-- the starts of a loop as the high form has them
+abbrev pub as_bounds : Starts → Bounds
+as_bounds s = record { least = s.least; most = s.most }
+
+-- a loop of a source as passes see loops
+abbrev pub bounded : SourceLoop → Bounded
+bounded l = record { id = l.number; bounds = as_bounds l.starts }
 
 -- a loop of the source, by its number from 0 on; its number in the plan, and how often each entry of it starts its body
 pub record Planned : Type 0 where
@@ -21,7 +30,7 @@ abbrev pub in_source : Planned → Bounded
 in_source l = record { id = l.old; bounds = l.bounds }
 
 abbrev pub planned_loop : (old id : ℕ) → Starts → Planned
-planned_loop old id s = record { old = old; id = id; bounds = record { least = s.least; most = s.most } }
+planned_loop old id s = record { old = old; id = id; bounds = as_bounds s }
 
 -- where loops have these bounds of body starts
 module _ (bounds : List BodyStarts) where

@@ -108,7 +108,7 @@ frames_most plan variables ranks (f ∷ rest) number may =
     omega (arith, this, frames_most plan variables ranks rest (number + 1) may.1, sum_by-cons frame_bytes (function_planned plan variables behind (slice_index_or ranks number 0) f) (functions_planned plan variables ranks (number + 1) rest))
 
 -- local arrays
-same_bytes : (kind : Kind) → is_void kind ≡ false → kind_bytes (kind_of kind) ≡ bytes kind
+pub same_bytes : (kind : Kind) → is_void kind ≡ false → kind_bytes (kind_of kind) ≡ bytes kind
 same_bytes types.Void h = absurd (true≢false h)
 same_bytes types.Char h = refl
 same_bytes types.SignedChar h = refl

@@ -7,7 +7,7 @@ use Rattle.std.proofs.lemmas.Bool.{and_parts, false≢true, not-false, or_parts,
 use Rattle.std.proofs.lemmas.Option.{none-some, same_Some}
 use Rattle.c_tree.specs.Tree.{Row, Nothing, Then, Param, Parameter, Shape, Scalar, Unsized, Sized, Object, Declared, Declaration, Objects, Prototype, External, Restriction, Declaring, Function}
 use Rattle.c_tree.specs.declared.expression.Specifier.{Specifier}
-use Rattle.facts_definitions.specs.FlowFacts.{function_name}
+use Rattle.types_tree.specs.Tree.{function_name}
 use Rattle.types_tree.specs.Tree as typed
 use Rattle.types_tree.specs.declared.expression.Callee.TheVariants.{Getchar, Putchar, Function as Own}
 use Rattle.types_value.specs.Kinds.{is_void, same_kind}
@@ -26,188 +26,22 @@ use Rattle.types_rules.specs.declared.scope.Routine.{Routine}
 use Rattle.high_ir.specs.declared.object.Kind.TheVariants.{Word}
 use Rattle.plan_definition.specs.Operators.{kind_of}
 use Rattle.plan_expressions.specs.Fits.{OfWord, OfArray, Signatures, Suits, call_kind, parameters_of}
-use Rattle.plan_fit.specs.Growing.{Grows}
-use Rattle.plan_fit.specs.Seen.{IsKnown, Knows, formal, formals}
-use Rattle.plan_fit.proofs.Growing.{grows_routine, grows_same, grows_then}
-use Rattle.plan_fit.proofs.Rules.{NoFault, faultless_first, faultless_second, no_rule, none_first, none_second, not_when, parts_keep}
-use Rattle.plan_fit.proofs.Seeing.{lookup-new}
-use Rattle.plan_fit.proofs.Widths.{or_int-kind, same_types}
-use Rattle.plan_layout.specs.Fronts.{Definition, IsFront, begun_by, behind, ended_by, external_by, function_by, functions_of}
+use Rattle.types_seen.specs.Growing.{Grows}
+use Rattle.plan_fit.specs.Seen.{IsKnownAs, Knows, formal, formals}
+use Rattle.types_seen.proofs.Growing.{grows_routine, grows_same, grows_then}
+use Rattle.types_seen.proofs.Rules.{NoFault, faultless_first, faultless_second, no_rule, none_first, none_second, not_when, parts_keep}
+use Rattle.types_seen.proofs.Known.{OfName, head_faultless, known_by, no_nameless}
+use Rattle.plan_fit.proofs.Widths.{or_int-kind}
+use Rattle.types_seen.specs.Fronts.{Definition, IsFront, begun_by, behind, ended_by, external_by, function_by, functions_of}
 use Rattle.plan_layout.specs.Layouts.{formal_of, formals_of, parameters_in, result_in, signatures_of}
-use Rattle.plan_layout.proofs.Fronts.{among, defined, front_grows, functions_then, inside_ended, part_faultless}
-
--- the place of a name among others
-position_at : (name : ℕ) (ns : List ℕ) → list_any (nat_eq name) ns ≡ true → (slice_get ns (position_or_len (nat_eq name) ns) ≡ Some name) × (position_or_len (nat_eq name) ns < length ns)
-position_at name [] h = absurd (false≢true h)
-position_at name (n ∷ ns) h = of (nat_eq name n) refl (λ g. position_at name ns g) h
-  where
-    of : (b : Bool) → nat_eq name n ≡ b → (list_any (nat_eq name) ns ≡ true → (slice_get ns (position_or_len (nat_eq name) ns) ≡ Some name) × (position_or_len (nat_eq name) ns < length ns)) → (b || list_any (nat_eq name) ns) ≡ true →
-        (slice_get (n ∷ ns) (cond (not b) (1 + position_or_len (nat_eq name) ns) 0) ≡ Some name) × (cond (not b) (1 + position_or_len (nat_eq name) ns) 0 < length (n ∷ ns))
-    of true e more h = (ap Some (sym (eqb-true name n e)), omega arith)
-    of false e more h =
-        let m = more h in
-        let lt = m.1 in
-        (ap (slice_get (n ∷ ns)) (one-add (position_or_len (nat_eq name) ns)) ∙ m.0, omega (arith, lt))
-
-index_there : (name : ℕ) (ns : List ℕ) → is_among name ns ≡ true → slice_get ns (index_of name ns) ≡ Some name
-index_there name ns h =
-    let p = position_at name ns h in
-    let i = position_or_len (nat_eq name) ns in
-    ap (λ b. slice_get ns (or_zero (cond b (Some i) None))) (lt-ltb i (length ns) p.1) ∙ p.0
-
--- no rule fails at the head of a definition
-pub record KeepsHead (d : Definition) (a : Around) : Type 0 where
-  pub same_type : has_other_type (routine_of d.name a) (routine d.specifiers d.params) ≡ false
-  pub new : is_among d.name a.defined ≡ false
-
-pub keeps_head : (d : Definition) (a : Around) → NoFault (external_nodes (external_by d) a) → KeepsHead d a
-keeps_head d a h =
-    let words = are_wrong true false d.specifiers in
-    let t = routine d.specifiers d.params in
-    let redeclared = redeclares d.name t a || redefines d.name a in
-    let rest = (if is_no_list d.params then [] else params_nodes d.params (within_function d.specifiers d.name d.params a)) ++ items_nodes d.body (body_around d.specifiers d.name d.params a) (in_function (kind_spelled d.specifiers)) in
-    let rule = no_rule (function_rule d.specifiers d.name d.params a) d.at (none_first (fault_at (function_rule d.specifiers d.name d.params a) d.at) (first_fault rest) h) in
-    let parts = or_parts (redeclares d.name t a) (redefines d.name a) (not_when redeclared rules.Redeclared (none_second (when words rules.Specifiers) (when redeclared rules.Redeclared) rule)) in
-    let others = (d.name == a.outline.getchar) || (d.name == a.outline.putchar) in
-    record {
-      same_type = (or_parts (is_object (found_here d.name a)) (has_other_type (routine_of d.name a) t) parts.0).1;
-      new = defined_new (is_among d.name a.defined) (d.name == a.outline.getchar) (d.name == a.outline.putchar) parts.1;
-    }
-  where
-    defined_new : (x y z : Bool) → (x || y || z) ≡ false → x ≡ false
-    defined_new true y z h = h
-    defined_new false y z h = refl
-
--- names of functions are those of the definitions, each once
-filled_defined : (b : Bool) (a : Around) → (with_filling b a).defined ≡ a.defined
-filled_defined true a = refl
-filled_defined false a = refl
-
-object_defined : (base : Base) (o : Object ℕ) (a : Around) → (after_object base o a).defined ≡ a.defined
-object_defined base (Declared name shape initial at) a = filled_defined (is_filled shape initial a) (with_object name base.kind base.const (extent_of shape initial) a)
-
-row_defined : (base : Base) (objects : Row (Object ℕ)) (a : Around) → (after_row (after_object base) objects a).defined ≡ a.defined
-row_defined base Nothing a = refl
-row_defined base (Then front last) a = object_defined base last (after_row (after_object base) front a) ∙ row_defined base front a
-
-declaration_defined : (d : Declaration ℕ) (a : Around) → (after_declaration d a).defined ≡ a.defined
-declaration_defined (Objects specifiers objects at) a = row_defined (base_of specifiers) objects a
-declaration_defined (Prototype specifiers name params at) a = refl
-
-map-then : (xs : List typed.Function) (f : typed.Function) → map function_name (xs ++ f ∷ []) ≡ map function_name xs ++ function_name f ∷ []
-map-then [] f = refl
-map-then (x ∷ xs) f = ap (λ l. function_name x ∷ l) (map-then xs f)
-
--- the names of functions, and those that are defined so far
-pub record AreNamed (outline : Outline) (items : Row (External ℕ)) : Type 0 where
-  pub names : map function_name (functions_of items (started outline)) ≡ definitions items
-  pub defined : (behind outline items).defined ≡ definitions items
-
-pub named : (outline : Outline) (items : Row (External ℕ)) → NoFault (externals_nodes items (started outline)) → AreNamed outline items
-named outline Nothing h = record { names = refl; defined = refl }
-named outline (Then front (Restriction pragma)) h =
-    let n = named outline front (faultless_first (externals_nodes front (started outline)) (external_nodes (Restriction pragma) (behind outline front)) h) in
-    record { names = n.names; defined = n.defined }
-named outline (Then front (Declaring d)) h =
-    let n = named outline front (faultless_first (externals_nodes front (started outline)) (external_nodes (Declaring d) (behind outline front)) h) in
-    record { names = n.names; defined = declaration_defined d (behind outline front) ∙ n.defined }
-named outline (Then front (Function specifiers name name_at params body body_at at)) h =
-    let d : Definition = record { specifiers = specifiers; name = name; name_at = name_at; params = params; body = body; body_at = body_at; at = at } in
-    let now = behind outline front in
-    let n = named outline front (faultless_first (externals_nodes front (started outline)) (external_nodes (external_by d) now) h) in
-    let k = keeps_head d now (faultless_second (externals_nodes front (started outline)) (external_nodes (external_by d) now) h) in
-    let is_new : list_any (nat_eq name) (definitions front) ≡ false = ap (is_among name) (sym n.defined) ∙ k.new in
-    record {
-      names =
-          ap (map function_name) (functions_then front (external_by d) (started outline))
-          ∙ map-then (functions_of front (started outline)) (function_by d now)
-          ∙ ap (λ l. l ++ name ∷ []) n.names
-          ∙ sym (ap (λ b. if b then definitions front else definitions front ++ name ∷ []) is_new);
-      defined = (inside_ended d now).defined_is ∙ ap (λ l. with_number l name) n.defined;
-    }
-
-map_at : (fs : List typed.Function) (i name : ℕ) → slice_get (map function_name fs) i ≡ Some name → (f : typed.Function) × (slice_get fs i ≡ Some f) × (function_name f ≡ name)
-map_at [] i name e = absurd (none-some name e)
-map_at (f ∷ fs) zero name e = (f, refl, same_Some (function_name f) name e)
-map_at (f ∷ fs) (suc i) name e = map_at fs i name e
-
--- types of functions that are one type
-pub and3 : (a b c : Bool) → (a && b && c) ≡ true → (a ≡ true) × (b ≡ true) × (c ≡ true)
-and3 true true true h = (refl, refl, refl)
-and3 true true false h = absurd (false≢true h)
-and3 true false c h = absurd (false≢true h)
-and3 false b c h = absurd (false≢true h)
-
-same_bools : (a b : Bool) → same_bool a b ≡ true → a ≡ b
-same_bools true b h = sym h
-same_bools false true h = absurd (false≢true h)
-same_bools false false h = refl
-
-param_is : (k l : CType) (a b c d : Bool) → k ≡ l → a ≡ b → c ≡ d → ◌≡◌ {A = ParamType} (record { kind = k; is_array = a; is_const = c }) (record { kind = l; is_array = b; is_const = d })
-param_is k l a b c d e f g =
-    ap (λ x. record { kind = x; is_array = a; is_const = c }) e
-    ∙ ap (λ x. record { kind = l; is_array = x; is_const = c }) f
-    ∙ ap (λ x. record { kind = l; is_array = b; is_const = x }) g
-
-same_formal : (p q : ParamType) → same_param p q ≡ true → formal p ≡ formal q
-same_formal p q h =
-    let parts = and3 (same_kind p.kind q.kind) (same_bool p.is_array q.is_array) (same_bool p.is_const q.is_const) h in
-    ap formal (param_is p.kind q.kind p.is_array q.is_array p.is_const q.is_const (same_types p.kind q.kind parts.0) (same_bools p.is_array q.is_array parts.1) (same_bools p.is_const q.is_const parts.2))
-
-same_formals : (ps qs : List ParamType) → same_params ps qs ≡ true → formals ps ≡ formals qs
-same_formals [] [] h = refl
-same_formals [] (q ∷ qs) h = absurd (false≢true h)
-same_formals (p ∷ ps) [] h = absurd (false≢true h)
-same_formals (p ∷ ps) (q ∷ qs) h =
-    let parts = and_parts (same_param p q) (same_params ps qs) h in
-    ap (λ f. f ∷ formals ps) (same_formal p q parts.0) ∙ ap (λ l. formal q ∷ l) (same_formals ps qs parts.1)
-
--- the type with which a function is known is that of its definition
-record Agrees (name : ℕ) (t : Routine) (a : Around) : Type 0 where
-  type : Routine
-  type_is : routine_of name a ≡ Some type
-  params_are : formals type.params ≡ formals t.params
-  result_is : kind_of type.result ≡ kind_of t.result
-
-agreed : (d : Definition) (a : Around) → KeepsHead d a → Agrees d.name (routine d.specifiers d.params) (with_routine d.name (routine d.specifiers d.params) a)
-agreed d a k = of (routine_of d.name a) refl k.same_type
-  where
-    of : (o : Option Routine) → routine_of d.name a ≡ o → has_other_type o (routine d.specifiers d.params) ≡ false → Agrees d.name (routine d.specifiers d.params) (with_routine d.name (routine d.specifiers d.params) a)
-    of None e same = record {
-      type = routine d.specifiers d.params;
-      type_is = ap (λ o. lookup (nat_eq d.name) (with_type o d.name (routine d.specifiers d.params) a.routines)) e ∙ lookup-new d.name (routine d.specifiers d.params) a.routines e;
-      params_are = refl;
-      result_is = refl;
-    }
-    of (Some known) e same =
-        let t = routine d.specifiers d.params in
-        let parts = and_parts (same_kind known.result t.result) (same_params known.params t.params) (not-false (same_type known t) same) in
-        record {
-          type = known;
-          type_is = ap (λ o. lookup (nat_eq d.name) (with_type o d.name t a.routines)) e ∙ e;
-          params_are = same_formals known.params t.params parts.1;
-          result_is = ap kind_of (same_types known.result t.result parts.0);
-        }
+use Rattle.plan_layout.proofs.Fronts.{among}
+use Rattle.types_seen.proofs.Fronts.{defined, front_grows, functions_then, inside_ended, part_faultless}
 
 -- parameters of a definition
 formal_same : (specifiers : List Specifier) (name : ℕ) (shape : Shape ℕ) (at : ℕ) (a : Around) → formal (param_type (Parameter specifiers (Some name) shape at)) ≡ formal_of specifiers (typed_shape shape a)
 formal_same specifiers name Scalar at a = ap OfWord (or_int-kind (kind_spelled specifiers))
 formal_same specifiers name Unsized at a = ap (λ k. OfArray k (is_const specifiers)) (or_int-kind (kind_spelled specifiers))
 formal_same specifiers name (Sized size) at a = ap (λ k. OfArray k (is_const specifiers)) (or_int-kind (kind_spelled specifiers))
-
-no_nameless : (specifiers : List Specifier) (shape : Shape ℕ) (at : ℕ) (a : Around) → NoFault (param_nodes (Parameter specifiers None shape at) a) → ⊥
-no_nameless specifiers shape at a h =
-    let o5 = when true rules.Parameter in
-    let o4 = or_else (when (is_void (kind_spelled specifiers)) rules.Void) o5 in
-    let o3 = or_else (when (has_bad_param_size shape) rules.Size) o4 in
-    let o2 = or_else (when (has_no_constant_size shape) rules.Constant) o3 in
-    let o1 = or_else (when (are_wrong false false specifiers) rules.Specifiers) o2 in
-    let rule : o1 ≡ None = no_rule o1 at (none_first (fault_at o1 at) (first_fault (shape_nodes shape a)) h) in
-    let r2 = none_second (when (are_wrong false false specifiers) rules.Specifiers) o2 rule in
-    let r3 = none_second (when (has_no_constant_size shape) rules.Constant) o3 r2 in
-    let r4 = none_second (when (has_bad_param_size shape) rules.Size) o4 r3 in
-    let r5 = none_second (when (is_void (kind_spelled specifiers)) rules.Void) o5 r4 in
-    true≢false (not_when true rules.Parameter r5)
 
 row_formals : (ps : Row (Param ℕ)) (w a : Around) (rest : List typed.Param) (types : List ParamType) → NoFault (params_nodes ps a) → formals types ≡ formals_of rest → formals (param_types ps types) ≡ formals_of (typed_row unseen and_param ps w rest)
 row_formals Nothing w a rest types h e = e
@@ -234,98 +68,26 @@ types_formals ps w h = of (is_no_list ps) refl h
     of true e h = none_listed ps w e
     of false e h = sym (row_formals ps w w [] [] h refl)
 
-pub head_faultless : (d : Definition) (a : Around) → NoFault (external_nodes (external_by d) a) → NoFault (if is_no_list d.params then [] else params_nodes d.params (within_function d.specifiers d.name d.params a))
-head_faultless d a h =
-    let listed = if is_no_list d.params then [] else params_nodes d.params (within_function d.specifiers d.name d.params a) in
-    let body = items_nodes d.body (begun_by d a) (in_function (kind_spelled d.specifiers)) in
-    faultless_first listed body (parts_keep (SeenFunction d.specifiers d.name d.params d.at a) (listed ++ body) h)
-
-pub body_faultless : (d : Definition) (a : Around) → NoFault (external_nodes (external_by d) a) → NoFault (items_nodes d.body (begun_by d a) (in_function (kind_spelled d.specifiers)))
-body_faultless d a h =
-    let listed = if is_no_list d.params then [] else params_nodes d.params (within_function d.specifiers d.name d.params a) in
-    let body = items_nodes d.body (begun_by d a) (in_function (kind_spelled d.specifiers)) in
-    faultless_second listed body (parts_keep (SeenFunction d.specifiers d.name d.params d.at a) (listed ++ body) h)
-
--- a function by its name
+-- each function is known by the parameters and the result of its definition
 module _ (outline : Outline) (items : Row (External ℕ)) (faultless : NoFault (externals_nodes items (started outline))) (listed : outline.definitions ≡ definitions items) (program : typed.Program) (functions_are : program.functions ≡ functions_of items (started outline)) where
-  abbrev all : Around
-  all = behind outline items
-
   abbrev signatures : Signatures
   signatures = signatures_of program
 
-  known_own : (name : ℕ) (r : Routine) → routine_of name all ≡ Some r → is_among name outline.definitions ≡ true →
-      (parameters_in (slice_get program.functions (index_of name outline.definitions)) ≡ formals r.params) × (result_in (slice_get program.functions (index_of name outline.definitions)) ≡ kind_of r.result)
-  known_own name r e h =
+  known_own : (name : ℕ) (r : Routine) → OfName outline items name r → IsKnownAs signatures (Own (record { 0 = index_of name outline.definitions })) r
+  known_own name r x =
       let i = index_of name outline.definitions in
-      let there : slice_get (map function_name (functions_of items (started outline))) i ≡ Some name =
-      ap (λ l. slice_get l i) ((named outline items faultless).names ∙ sym listed) ∙ index_there name outline.definitions h in
-      let f = map_at (functions_of items (started outline)) i name there in
-      let x = defined outline items i f.0 f.1 in
       let d = x.definition in
       let now = behind outline x.front in
-      let t = routine d.specifiers d.params in
       let own = part_faultless outline items x.front (external_by d) x.part faultless in
-      let agree = agreed d now (keeps_head d now own) in
-      let a = among outline items x.front d x.part in
-      let begun = with_routine d.name t now in
-      let within = within_function d.specifiers d.name d.params now in
-      let grows : Grows begun all = grows_then begun within all (grows_same begun within refl refl refl) (grows_then within (ended_by d now) all (inside_ended d now).grows a.grows) in
-      let name_is : d.name ≡ name = sym (ap function_name x.function_is) ∙ f.2 in
-      let same : agree.type ≡ r = same_Some agree.type r (sym (grows.routines_are d.name agree.type agree.type_is) ∙ ap (λ n. routine_of n all) name_is ∙ e) in
-      let found : slice_get program.functions i ≡ Some (function_by d now) = ap (λ l. slice_get l i) functions_are ∙ f.1 ∙ ap Some x.function_is in (
-        ap parameters_in found ∙ types_formals d.params within (head_faultless d now own) ∙ sym agree.params_are ∙ ap (λ y. formals y.params) same,
-        ap result_in found ∙ sym agree.result_is ∙ ap (λ y. kind_of y.result) same,
-      )
+      let found : slice_get program.functions i ≡ Some (function_by d now) = ap (λ l. slice_get l i) functions_are ∙ x.there in
+      record {
+        parameters_are = ap parameters_in found ∙ types_formals d.params (within_function d.specifiers d.name d.params now) (head_faultless d now own) ∙ ap (λ y. formals y.params) x.type_is;
+        result_is = inr (sym (ap result_in found ∙ ap (λ y. kind_of y.result) x.type_is));
+      }
 
-  getchar_typed : routine_of outline.getchar (started outline) ≡ Some getchar_type
-  getchar_typed =
-      let one = with_routine outline.getchar getchar_type (nothing_yet outline) in
-      (grows_routine outline.putchar putchar_type one).routines_are outline.getchar getchar_type (ap (λ b. cond b (Some getchar_type) None) (eq-eqb outline.getchar outline.getchar refl))
-
-  putchar_typed : nat_eq outline.putchar outline.getchar ≡ false → routine_of outline.putchar (started outline) ≡ Some putchar_type
-  putchar_typed other =
-      let one = with_routine outline.getchar getchar_type (nothing_yet outline) in
-      let none : routine_of outline.putchar one ≡ None = ap (λ b. cond b (Some getchar_type) None) other in
-      ap (λ o. lookup (nat_eq outline.putchar) (with_type o outline.putchar putchar_type one.routines)) none ∙ lookup-new outline.putchar putchar_type one.routines none
-
-  since_start : Grows (started outline) all
-  since_start = front_grows outline items Nothing (nothing_first items)
-    where
-      nothing_first : (items : Row (External ℕ)) → IsFront Nothing items
-      nothing_first Nothing = refl
-      nothing_first (Then front last) = inr (nothing_first front)
-
-  pub knows : Knows signatures all
-  knows = record { by = λ name r e h. subst (λ o. IsKnown signatures o name r) (sym outline_same) (of name r e (nat_eq name outline.getchar) (nat_eq name outline.putchar) refl refl (ap (has_definition name) (sym outline_same) ∙ h)) }
-    where
-      outline_same : all.outline ≡ outline
-      outline_same = since_start.outline_is
-
-      of : (name : ℕ) (r : Routine) → routine_of name all ≡ Some r → (get put : Bool) → nat_eq name outline.getchar ≡ get → nat_eq name outline.putchar ≡ put → has_definition name outline ≡ true → IsKnown signatures outline name r
-      of name r e true put g p h =
-          let is : getchar_type ≡ r = same_Some getchar_type r (sym (since_start.routines_are outline.getchar getchar_type getchar_typed) ∙ ap (λ n. routine_of n all) (sym (eqb-true name outline.getchar g)) ∙ e) in
-          let callee_is = ap (λ b. if b then Getchar else (if nat_eq name outline.putchar then Putchar else Own (record { 0 = index_of name outline.definitions }))) g in
-          record {
-            parameters_are = ap (parameters_of signatures) callee_is ∙ ap (λ y. formals y.params) is;
-            result_is = subst (λ c. Suits (call_kind signatures c) (kind_of r.result)) (sym callee_is) (subst (λ y. Suits Word (kind_of y.result)) is (inl refl));
-          }
-      of name r e false true g p h =
-          let name_is = eqb-true name outline.putchar p in
-          let is : putchar_type ≡ r = same_Some putchar_type r (sym (since_start.routines_are outline.putchar putchar_type (putchar_typed (ap (λ n. nat_eq n outline.getchar) (sym name_is) ∙ g))) ∙ ap (λ n. routine_of n all) (sym name_is) ∙ e) in
-          let callee_is =
-          ap (λ b. if b then Getchar else (if nat_eq name outline.putchar then Putchar else Own (record { 0 = index_of name outline.definitions }))) g
-          ∙ ap (λ b. if b then Putchar else Own (record { 0 = index_of name outline.definitions })) p in
-          record {
-            parameters_are = ap (parameters_of signatures) callee_is ∙ ap (λ y. formals y.params) is;
-            result_is = subst (λ c. Suits (call_kind signatures c) (kind_of r.result)) (sym callee_is) (subst (λ y. Suits Word (kind_of y.result)) is (inl refl));
-          }
-      of name r e false false g p h =
-          let k = known_own name r e (sym (ap (λ b. b || nat_eq name outline.putchar || is_among name outline.definitions) g ∙ ap (λ b. b || is_among name outline.definitions) p) ∙ h) in
-          let callee_is =
-          ap (λ b. if b then Getchar else (if nat_eq name outline.putchar then Putchar else Own (record { 0 = index_of name outline.definitions }))) g
-          ∙ ap (λ b. if b then Putchar else Own (record { 0 = index_of name outline.definitions })) p in
-          record {
-            parameters_are = ap (parameters_of signatures) callee_is ∙ k.0;
-            result_is = subst (λ c. Suits (call_kind signatures c) (kind_of r.result)) (sym callee_is) (inr (sym k.1));
-          }
+  pub knows : Knows signatures (behind outline items)
+  knows =
+      known_by outline items faultless listed (λ name. IsKnownAs signatures)
+      (λ name. record { parameters_are = refl; result_is = inl refl })
+      (λ name. record { parameters_are = refl; result_is = inl refl })
+      known_own

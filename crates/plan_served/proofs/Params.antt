@@ -21,7 +21,7 @@ use Rattle.plan_definition.specs.Programs.{named_params}
 use Rattle.plan_expressions.specs.Fits.{Formal, OfWord, OfArray}
 use Rattle.plan_expressions.specs.Meets.{Layout, home, kind_at}
 use Rattle.plan_runs.specs.Serves.{AreParameters, arrays_in, words_in}
-use Rattle.plan_fit.proofs.Growing.{in_same, inside_param, row_inside}
+use Rattle.types_seen.proofs.Growing.{in_same, inside_param, row_inside}
 use Rattle.plan_layout.specs.Layouts.{formal_of, formals_of}
 use Rattle.plan_layout.proofs.Homes.{plain_homes}
 use Rattle.plan_served.proofs.Known.{none_listed}

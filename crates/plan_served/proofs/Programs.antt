@@ -9,8 +9,8 @@ use Rattle.types_tree.specs.Tree as typed
 use Rattle.plan_definition.specs.Programs.{program_planned}
 use Rattle.plan_runs.specs.Serves.{AllServe}
 use Rattle.plan_layout.specs.Layouts.{layout_of, rest_of, signatures_of}
-use Rattle.plan_layout.specs.Units.{HasTree}
-use Rattle.plan_layout.proofs.Trees.{of_tree}
+use Rattle.types_seen.specs.Units.{HasTree}
+use Rattle.types_seen.proofs.Units.{of_tree}
 use Rattle.plan_served.proofs.Served.{all_serve}
 
 -- each function of a well-typed program is served by its plan

@@ -4,7 +4,8 @@ use Rattle.std.specs.Prelude.{if◌then◌else◌, nat_lt, ◌^◌, slice_get}
 use Rattle.std.proofs.lemmas.Bool.{false≢true}
 use Rattle.std.proofs.lemmas.List.{length-map}
 use Rattle.c_tree.specs.Tree.{Row, Nothing, Then, Param, Parameter, External, Restriction, Declaring, Function}
-use Rattle.facts_definitions.specs.FlowFacts.{AreFacts, bounds_in, function_name, facts_of, first_fault, known_of, most_main, unless_faulty, unless_too_often}
+use Rattle.facts_definitions.specs.FlowFacts.{AreFacts, bounds_in, facts_of, first_fault, known_of, most_main, unless_faulty, unless_too_often}
+use Rattle.types_tree.specs.Tree.{function_name}
 use Rattle.facts_definitions.specs.Most.{cut}
 use Rattle.facts_definitions.specs.declared.facts.FlowFault.TheVariants.{TooOften}
 use Rattle.facts_definitions.specs.Sites.{external_sites, externals_sites, function_sites, items_sites, sites_of}
@@ -20,11 +21,12 @@ use Rattle.types_rules.specs.Specifiers.{kind_spelled}
 use Rattle.types_rules.specs.Typing.{and_external, typed_external, typed_items, typed_row}
 use Rattle.plan_fit.specs.Places.{AreBounds}
 use Rattle.plan_fit.proofs.Loops.{bounds_first, bounds_second, loops_declaration, loops_items, loops_of}
-use Rattle.plan_layout.specs.Fronts.{Definition, IsFront, begun_by, behind, ended_by, external_by, function_by, functions_of}
-use Rattle.plan_layout.specs.Units.{IsUnit}
-use Rattle.plan_layout.proofs.Fronts.{among, front_faultless, front_itself, front_less, is_nothing}
-use Rattle.plan_served.proofs.Known.{named}
-use Rattle.plan_layout.proofs.Lists.{slice_get-behind}
+use Rattle.types_seen.specs.Fronts.{Definition, IsFront, begun_by, behind, ended_by, external_by, function_by, functions_of}
+use Rattle.types_seen.specs.Units.{IsUnit}
+use Rattle.plan_layout.proofs.Fronts.{among}
+use Rattle.types_seen.proofs.Fronts.{front_faultless, front_itself, front_less, is_nothing}
+use Rattle.types_seen.proofs.Known.{named}
+use Rattle.types_seen.proofs.Lists.{slice_get-behind}
 
 -- facts of a program have the bounds that its sites give
 abbrev is_fine : Result Facts FlowFault → Bool

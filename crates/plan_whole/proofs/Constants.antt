@@ -19,8 +19,8 @@ use Rattle.types_value.specs.declared.operator.Undefined.{Undefined}
 use Rattle.types_value.specs.declared.operator.Undefined.TheVariants.{Overflow}
 use Rattle.high_ir.specs.declared.expression.BinaryOperator.TheVariants as binary
 use Rattle.high_ir.specs.Words.{binary_word}
+use Rattle.high_ir.proofs.Words.{binary_below, truth_below, wrapped_below}
 use Rattle.plan_definition.specs.Layouts.{initial_words, word_or_zero, words_of}
-use Rattle.lower_values.proofs.Words.{binary_below, truth_below, wrapped_below}
 use Rattle.plan_whole.specs.Words.{ExprWords, ExprsWords, InitialWords}
 
 -- a value, where there is one, is a word

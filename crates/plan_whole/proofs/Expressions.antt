@@ -17,6 +17,7 @@ use Rattle.high_ir.specs.declared.object.Array.{Array}
 use Rattle.high_ir.specs.declared.object.Kind.{Kind}
 use Rattle.high_ir.specs.declared.object.Kind.TheVariants.{Unsigned8, Signed8, Unsigned16, Signed16, Word}
 use Rattle.high_ir.specs.Tree.{Expr, Constant, Variable, Element, Set, Put, Get, Keep, Seq, If, Leave, Call, Statements, End, Then}
+use Rattle.high_ir.specs.Whole.{AllHaveWords, AreWordy, IsWordy}
 use Rattle.high_code.specs.Code.{joined, alone, nothing, is_empty}
 use Rattle.plan_definition.specs.declared.home.Home.{Home}
 use Rattle.plan_definition.specs.declared.home.Home.TheVariants.{Frame, Memory}
@@ -25,9 +26,6 @@ use Rattle.plan_definition.specs.declared.purpose.Purpose.TheVariants.{Value, Ef
 use Rattle.plan_definition.specs.Homes.{Target, InFrame, InMemory, home_of, loaded, scalar_at}
 use Rattle.plan_definition.specs.Operators.{convert, convert_to, kind_of, operated, signed}
 use Rattle.plan_definition.specs.Values.{Aimed, Valued, Passing, aimed, argument, array_named, assigned, called, changed_by, changed_in, choice, finished, firm, first_value, for_operand, held, is_changed, is_joint, is_leaf, is_variable, kept, kept_in, known, leaf, leaf_for, made, noted, operated_on, passing, placed, plain, put, set_to, signed_for, step_operator, stepped, stepped_behind, updated}
-use Rattle.lower_flow.specs.Claims.{AreWordy}
-use Rattle.lower_program.specs.Kept.{AllHaveWords}
-use Rattle.lower_values.specs.Meeting.{IsWordy}
 use Rattle.plan_whole.specs.Words.{ExprWords, ExprsWords, PlaceWords}
 
 pub zero_small : 0 < 2 ^ 32
@@ -67,12 +65,6 @@ convert_to_wordy Word e h = h
 
 convert_wordy : (to : CType) (e : Expr) → IsWordy e → IsWordy (convert to e)
 convert_wordy to e h = convert_to_wordy (kind_of to) e h
-
-signed_wordy : (operator : Sign) (e : Expr) → IsWordy e → IsWordy (signed operator e)
-signed_wordy Negate e h = h
-signed_wordy Plus e h = h
-signed_wordy Complement e h = h
-signed_wordy Not e h = h
 
 operated_wordy : (operator : Operator) (s : Bool) (x y : Expr) → IsWordy x → IsWordy y → IsWordy (operated operator s x y)
 operated_wordy operators.Multiply s x y h k = (h, k)

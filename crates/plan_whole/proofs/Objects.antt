@@ -1,7 +1,6 @@
 -- The arrays of a plan have addresses, and first values that are words.
 use Rattle.std.proofs.Common.{◌≡◌, ℕ, ◌+◌, ◌*◌, ◌/◌, ◌^◌, ◌<◌, ◌≤◌, Bool, false, List, [], ◌∷◌, refl, sym, subst, arith, All}
 use Rattle.std.specs.List.{list_any}
-use Rattle.std.proofs.lemmas.Bool.{true≢false}
 use Rattle.std.proofs.lemmas.List.Elements.{All-cons, All-nil}
 use Rattle.types_rules.specs.Limits.{global_bytes, global_bytes_of, local_bytes, local_bytes_of, object_bytes}
 use Rattle.types_tree.specs.Tree as c
@@ -16,11 +15,12 @@ use Rattle.types_value.specs.declared.kind.Kind.TheVariants as types
 use Rattle.high_ir.specs.declared.object.Kind.{Kind as HighKind}
 use Rattle.high_ir.specs.declared.object.Kind.TheVariants as kinds
 use Rattle.high_ir.specs.Tree.{Object}
+use Rattle.high_ir.specs.Whole.{IsSmall}
+use Rattle.high_ir.specs.Words.{kind_bytes}
 use Rattle.plan_memory.specs.Memory.{AllSolid, SolidBy}
+use Rattle.plan_memory.proofs.Sums.{same_bytes}
 use Rattle.plan_definition.specs.Layouts.{Given, elements_of, first_given, given_object, givens, givens_before, givens_behind, givens_of, is_const, local_object, object_before, objects_from}
 use Rattle.plan_definition.specs.Operators.{kind_of}
-use Rattle.lower_definition.specs.Objects.{scale_of}
-use Rattle.lower_program.specs.Kept.{IsSmall}
 use Rattle.plan_whole.specs.Words.{DeclarationWords, ExternalsWords, ObjectsWords}
 use Rattle.plan_whole.proofs.Constants.{initial_below}
 
@@ -53,32 +53,20 @@ behind_words Static [] h = tt
 behind_words Static (given ∷ rest) h = h.1
 
 -- sizes
-scale_bytes : (kind : Kind) → is_void kind ≡ false → 2 ^ scale_of (kind_of kind) ≡ bytes kind
-scale_bytes types.Void h = absurd (true≢false h)
-scale_bytes types.Char h = refl
-scale_bytes types.SignedChar h = refl
-scale_bytes types.UnsignedChar h = refl
-scale_bytes types.Short h = refl
-scale_bytes types.UnsignedShort h = refl
-scale_bytes types.Int h = refl
-scale_bytes types.Unsigned h = refl
-scale_bytes types.Long h = refl
-scale_bytes types.UnsignedLong h = refl
-
-one_small : (kind : HighKind) → 2 ^ scale_of kind * 1 ≤ 2 ^ 32
+one_small : (kind : HighKind) → kind_bytes kind * 1 ≤ 2 ^ 32
 one_small kinds.Unsigned8 = omega arith
 one_small kinds.Signed8 = omega arith
 one_small kinds.Unsigned16 = omega arith
 one_small kinds.Signed16 = omega arith
 one_small kinds.Word = omega arith
 
-array_small : (kind : Kind) (count : ℕ) → is_void kind ≡ false → object_bytes kind (Array count) ≤ 262144 → 2 ^ scale_of (kind_of kind) * count ≤ 2 ^ 32
-array_small kind count solid le = subst (λ w. w * count ≤ 2 ^ 32) (sym (scale_bytes kind solid)) (few (bytes kind) count le)
+array_small : (kind : Kind) (count : ℕ) → is_void kind ≡ false → object_bytes kind (Array count) ≤ 262144 → kind_bytes (kind_of kind) * count ≤ 2 ^ 32
+array_small kind count solid le = subst (λ w. w * count ≤ 2 ^ 32) (sym (same_bytes kind solid)) (few (bytes kind) count le)
   where
     few : (w n : ℕ) → (n * w + 3) / 4 * 4 ≤ 262144 → w * n ≤ 2 ^ 32
     few w n le = let e : w * n ≡ n * w = omega arith in omega (arith, e, le)
 
-extent_small : (kind : Kind) (e : Extent) → SolidBy e kind → object_bytes kind e ≤ 262144 → 2 ^ scale_of (kind_of kind) * elements_of e ≤ 2 ^ 32
+extent_small : (kind : Kind) (e : Extent) → SolidBy e kind → object_bytes kind e ≤ 262144 → kind_bytes (kind_of kind) * elements_of e ≤ 2 ^ 32
 extent_small kind Scalar solid le = one_small (kind_of kind)
 extent_small kind (Array count) solid le = array_small kind count solid le
 extent_small kind Parameter solid le = one_small (kind_of kind)
@@ -86,7 +74,7 @@ extent_small kind Parameter solid le = one_small (kind_of kind)
 object_small : (d : Duration) (e : Extent) (v : Variable) (given : Given) (behind : List Object) → e ≡ v.extent → SolidBy e v.kind → global_bytes_of d (object_bytes v.kind e) ≤ 262144 → local_bytes_of d (object_bytes v.kind e) ≤ 262144 → All (λ w. w < 2 ^ 32) given.values → All IsSmall behind →
     All IsSmall (object_before d e v given behind)
 object_small Static e v given behind is solid g l words rest =
-    All-cons IsSmall (given_object v given) behind (record { size = subst (λ x. 2 ^ scale_of (kind_of v.kind) * elements_of x ≤ 2 ^ 32) is (extent_small v.kind e solid g); values = words }) rest
+    All-cons IsSmall (given_object v given) behind (record { size = subst (λ x. kind_bytes (kind_of v.kind) * elements_of x ≤ 2 ^ 32) is (extent_small v.kind e solid g); values = words }) rest
 object_small Automatic Scalar v given behind is solid g l words rest = rest
 object_small Automatic (Array count) v given behind is solid g l words rest =
     All-cons IsSmall (local_object v count) behind (record { size = array_small v.kind count solid l; values = All-nil (λ w. w < 2 ^ 32) }) rest

@@ -7,6 +7,7 @@ use Rattle.c_tree.specs.declared.pragma.Pragma.{Pragma}
 use Rattle.types_tree.specs.Tree as c
 use Rattle.high_ir.specs.declared.expression.BinaryOperator.TheVariants as binary
 use Rattle.high_ir.specs.Tree.{Expr, Constant, Variable, Binary, Set, Seq, If, Block, Leave, Return, Statements, End, Then}
+use Rattle.high_ir.specs.Whole.{AllHaveWords, HasWords, IsWordy}
 use Rattle.high_code.specs.Code.{joined, alone, nothing}
 use Rattle.plan_definition.specs.declared.home.Home.{Home}
 use Rattle.plan_definition.specs.declared.home.Home.TheVariants.{Frame, Memory}
@@ -14,8 +15,6 @@ use Rattle.plan_definition.specs.declared.purpose.Purpose.TheVariants.{Value, Ef
 use Rattle.plan_definition.specs.Homes.{home_of}
 use Rattle.plan_definition.specs.Statements.{Exits, Parts, Plan, all_declared, all_planned, and_before, body_planned, chosen_else, chosen_if, continues, declared, deeper, default_number, ends_in_block, filled, filling, guarded, in_loop, in_switch, initialised, label_count, label_tests, last_in_block, leaving_unless, listed, loops_before, looped, parts_planned, planned, returned, round_of, rounded, started, stepped, stored_at, switched, tested}
 use Rattle.plan_definition.specs.Values.{Valued, firm, is_joint, made}
-use Rattle.lower_program.specs.Kept.{AllHaveWords, HasWords}
-use Rattle.lower_values.specs.Meeting.{IsWordy}
 use Rattle.plan_whole.specs.Counts.{DeclarationCounted, FillingCounted, InitialCounted, ItemsCounted, ObjectsCounted, StartCounted, StatementCounted}
 use Rattle.plan_whole.specs.Words.{DeclarationWords, ExprsWords, InitialWords, ItemsWords, ObjectsWords, OptionWords, StartWords, StatementWords}
 use Rattle.plan_whole.proofs.Expressions.{Worded, firm_words, joined_words, made_words, one_small, zero_small}

@@ -20,10 +20,11 @@ use Rattle.plan_runs.specs.Serves.{at_entry}
 use Rattle.plan_statements.specs.Fits.{block_declares, with_live}
 use Rattle.plan_forms.specs.Programs.{body_of}
 use Rattle.high_ir.specs.Tree.{Function}
-use Rattle.plan_layout.specs.Fronts.{begun_by, behind, functions_of}
+use Rattle.high_ir.specs.Whole.{HasWords, IsSmall, IsWhole}
+use Rattle.types_seen.specs.Fronts.{begun_by, behind, functions_of}
 use Rattle.plan_layout.specs.Layouts.{layout_of, signatures_of}
-use Rattle.plan_layout.specs.Units.{IsUnit}
-use Rattle.plan_layout.proofs.Fronts.{defined}
+use Rattle.types_seen.specs.Units.{IsUnit}
+use Rattle.types_seen.proofs.Fronts.{defined}
 use Rattle.plan_memory.specs.Memory.{AllSolid}
 use Rattle.plan_memory.proofs.Growing.{externals_grow}
 use Rattle.plan_memory.proofs.Memory.{few_globals, few_locals, rules_pass}
@@ -31,11 +32,10 @@ use Rattle.plan_definition.specs.Layouts.{frame_scalars, givens, objects_from}
 use Rattle.plan_definition.specs.Programs.{between, end_of, function_planned, functions_planned, plan_of, program_planned}
 use Rattle.plan_definition.specs.Statements.{Plan}
 use Rattle.plan_formed.specs.Checked.{IsChecked}
-use Rattle.plan_formed.proofs.Planned.{few_nodes, planned_is_high}
+use Rattle.plan_formed.proofs.Planned.{few_nodes}
 use Rattle.plan_served.proofs.Served.{serves_own}
 use Rattle.plan_sizes.specs.Programs.{functions_nodes}
 use Rattle.plan_source.proofs.Units.{functions_few}
-use Rattle.lower_program.specs.Kept.{HasWords, IsSmall, IsWhole}
 use Rattle.plan_whole.specs.Counts.{ItemsCounted}
 use Rattle.plan_whole.specs.Words.{FunctionsWords, ProgramWords}
 use Rattle.plan_whole.proofs.Counting.{items_counted}
@@ -103,7 +103,6 @@ unit_arrays names (Whole items at) passes p is words = arrays_small names items 
 -- the plan of a source that fails no rule, is within the limits and has facts, and whose constants are words
 pub planned_is_whole : (names : List (List ℕ)) (program : typed.Program) (facts : Facts) → IsChecked names program facts → ProgramWords program → IsWhole (program_planned program facts (main_of program names))
 planned_is_whole names program facts h words = record {
-  high = planned_is_high names program facts h;
   words = unit_code names h.unit h.passes program h.program_is words facts h.facts_are;
   objects = unit_arrays names h.unit h.passes program h.program_is words;
 }

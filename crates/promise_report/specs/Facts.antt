@@ -2,6 +2,8 @@
 use Rattle.std.specs.Prelude.{◌≡◌, ◌≢◌, ℕ, suc, ◌<◌, ◌≤◌, List, [], ◌∷◌, ◌++◌, length, map, take, drop, Some, All, Contains, MatchOption, slice_get}
 use Rattle.facts_definitions.specs.declared.facts.Facts.{Facts}
 use Rattle.facts_definitions.specs.declared.facts.Restriction.{Restriction}
+use Rattle.facts_loops.specs.Factors.{AreBy, StartsFewer}
+use Rattle.facts_loops.specs.Loops.{SourceLoop, source_loops, starts_of}
 use Rattle.c_tree.specs.Names.{name_of}
 use Rattle.c_tree.specs.declared.expression.NameId.{NameId}
 use Rattle.types_tree.specs.Tree.{Program}
@@ -11,9 +13,6 @@ use Rattle.code_flow_system.specs.declared.claims.FactClaim.{FactClaim}
 use Rattle.code_flow_system.specs.declared.claims.LoopClaim.{LoopClaim}
 use Rattle.code_flow_system.specs.declared.claims.Never.{Never}
 use Rattle.frac128.specs.Terms.{coefficient}
-use Rattle.high_ir.specs.Standing.{Bounded}
-use Rattle.plan_loops.specs.Loops.{functions_loops, in_source}
-use Rattle.high_pass.specs.Carries.{AreBy, StartsFewer, bounds_of}
 use Rattle.report_text.specs.declared.entries.CopyLine.{CopyLine}
 use Rattle.report_text.specs.declared.entries.Share.{Share}
 use Rattle.report_text.specs.Reports.{Report}
@@ -22,22 +21,18 @@ use Rattle.report_text.specs.Reports.{Report}
 abbrev pub counted_names : (names : List (List ℕ)) → Facts → List (List ℕ)
 counted_names names facts = map (λ (n : NameId). name_of names n.0) (facts.functions ++ facts.markers)
 
--- how often each entry of a loop of the source starts its body, the last test among its starts; loops have numbers from 0 on
-abbrev pub source_bounds : Program → Facts → List Bounded
-source_bounds program facts = map in_source (functions_loops facts.bounds program.functions)
-
--- a line of a loop, which lines number from 1 on, has its bounds, or, where several of its starts are one, those that they leave
-pub record IsLoopLine (bounds : List Bounded) (c : LoopClaim) : Type 0 where
+-- a line of a loop, which lines number from 1 on, has its starts, or, where several of its starts are one, those that they leave
+pub record IsLoopLine (loops : List SourceLoop) (c : LoopClaim) : Type 0 where
   pub number : ℕ
   pub source : c.source ≡ suc number
   pub factor : 1 ≤ c.factor
-  pub bounded : AreBy (bounds_of bounds number) c.factor (Some (record { least = c.min; most = c.max }))
+  pub starts : AreBy (starts_of loops number) c.factor (record { least = c.min; most = c.max })
 
 -- an address that no kept run visits stands behind more starts than its loop makes
-pub record IsNeverLine (bounds : List Bounded) (c : Never) : Type 0 where
+pub record IsNeverLine (loops : List SourceLoop) (c : Never) : Type 0 where
   pub number : ℕ
   pub source : c.source ≡ suc number
-  pub fewer : StartsFewer (bounds_of bounds number) c.factor
+  pub fewer : StartsFewer (starts_of loops number) c.factor
 
 -- where functions and markers stand, as the copy lines tell
 abbrev pub places_in : List CopyLine → List (List ℕ)
@@ -80,7 +75,7 @@ AreNamedOnce shares = (i j : ℕ) (s t : Share) → i < j → slice_get shares i
 pub record TellsFacts (program : Program) (names : List (List ℕ)) (facts : Facts) (r : Report) : Type 0 where
   pub copies : map (λ (c : CopyLine). c.name) r.names ≡ counted_names names facts
   pub facts_told : AreFactLines facts (places_told facts r) facts.restrictions r.claims.facts
-  pub loops : All (IsLoopLine (source_bounds program facts)) r.claims.loops
-  pub nevers : All (IsNeverLine (source_bounds program facts)) r.claims.nevers
+  pub loops : All (IsLoopLine (source_loops program facts)) r.claims.loops
+  pub nevers : All (IsNeverLine (source_loops program facts)) r.claims.nevers
   pub shares : All (IsShareLine (function_lines facts r)) r.shares
   pub shares_apart : AreNamedOnce r.shares

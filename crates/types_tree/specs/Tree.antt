@@ -96,6 +96,10 @@ mutual
 pub data Function : Type 0 where
   Defined : (specifiers : List Specifier) (name name_at : ℕ) (params : List Param) (first : ℕ) (body : Items) (body_at at : ℕ) → Function
 
+-- the name of a function
+abbrev pub function_name : Function → ℕ
+function_name (Defined specifiers name name_at params first body body_at at) = name
+
 pub data External : Type 0 where
   Restriction : (pragma : Pragma) → External
   Declaring : (declaration : Declaration) → External

@@ -3,7 +3,8 @@ use Rattle.std.proofs.Common.{◌≡◌, ℕ, ◌++◌, List, length, map, sym, 
 use Rattle.std.specs.List.{range_with_len}
 use Rattle.std.proofs.lemmas.List.{length-map}
 use Rattle.std.proofs.lemmas.List.FromFn.{length-range_with_len}
-use Rattle.facts_definitions.specs.FlowFacts.{function_name, name_id}
+use Rattle.facts_definitions.specs.FlowFacts.{name_id}
+use Rattle.types_tree.specs.Tree.{function_name}
 use Rattle.facts_definitions.specs.declared.facts.Facts.{Facts}
 use Rattle.facts_front.specs.Fronts.{IsSource}
 use Rattle.types_tree.specs.Tree.{Program}

@@ -1,4 +1,4 @@
-use Rattle.path_dual_ranges.proofs.RowSizes.{duals_narrow}
+use Rattle.path_dual_ranges.proofs.FineSizes.{duals_narrow}
 use Rattle.path_dual_ranges.proofs.duals_are_narrow.Goals as goal
 
 pub returns : goal.returns

@@ -1,5 +1,6 @@
 use Rattle.std.proofs.Common.{◌≡◌, ◌+◌, drop, map}
-use Rattle.facts_definitions.specs.FlowFacts.{function_name, index_of}
+use Rattle.facts_definitions.specs.FlowFacts.{index_of}
+use Rattle.types_tree.specs.Tree.{function_name}
 use Rattle.types_tree.specs.View.{function_of}
 use Rattle.c_meaning.proofs.entry.index_of.Given as goal
 

@@ -1,5 +1,5 @@
 use Rattle.std.proofs.Common.{◌≡◌, ◌++◌, drop, map}
-use Rattle.facts_definitions.specs.FlowFacts.{function_name}
+use Rattle.types_tree.specs.Tree.{function_name}
 use Rattle.types_tree.specs.View.{function_of}
 use Rattle.flow_facts.proofs.gathering.defined_ids.Given as goal
 

@@ -1,4 +1,0 @@
-pub mod Displaced
-pub mod Values
-pub mod Statements
-pub mod Programs

@@ -1,0 +1,10 @@
+pub mod Lists
+pub mod KindNumbers
+pub mod Rules
+pub mod ObjectRules
+pub mod Growing
+pub mod Scopes
+pub mod Fronts
+pub mod Objects
+pub mod Units
+pub mod Known

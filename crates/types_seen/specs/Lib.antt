@@ -1,0 +1,4 @@
+pub mod Growing
+pub mod Seen
+pub mod Fronts
+pub mod Units
