@@ -1,17 +1,67 @@
 -- What a source does on an input is one thing, or it is refused in one way.
-use Rattle.std.proofs.Common.{◌≡◌, ◌≤◌, ℕ, List, [], ◌∷◌, length, Option, Some, None, sym, ap, ◌∙◌}
-use Rattle.std.specs.Prelude.{IsSomeAnd}
+use Rattle.std.proofs.Common.{◌≡◌, ◌≤◌, ℕ, List, [], ◌∷◌, length, Option, Some, None, sym, subst, ap, ◌∙◌}
+use Rattle.std.specs.Prelude.{◌^◌, Bool, true, false, if◌then◌else◌, nat_lt, IsSomeAnd, Result, Ok, Err}
 use Rattle.wcc_base.specs.Outside.{Files, StoreState, bytes_of}
 use Rattle.wcc_base.specs.declared.status.Status.{Status}
 use Rattle.meaning_semantics.specs.declared.source_run.SourceRun.{SourceRun}
 use Rattle.meaning_semantics.specs.Runs.{meaning}
 use Rattle.facts_laws.proofs.Sources as laws
+use Rattle.facts_definitions.specs.FlowFacts.{bounds_in, facts_of, first_fault, flow_facts, known_of, most_main, unless_faulty, unless_too_often}
+use Rattle.facts_definitions.specs.Most.{cut}
+use Rattle.facts_definitions.specs.Sites.{sites_of}
+use Rattle.facts_definitions.specs.declared.facts.Facts.{Facts}
+use Rattle.facts_definitions.specs.declared.facts.FlowFault.{FlowFault}
+use Rattle.facts_definitions.specs.declared.facts.FlowFault.TheVariants.{TooOften}
+use Rattle.types_calls.specs.Calls.{graph_of}
+use Rattle.types_calls.specs.Chains.{AreRanks}
+use Rattle.types_calls.specs.declared.ranks.Ranks.{Ranks}
+use Rattle.types_tree.specs.Tree.{Program}
+use Rattle.meaning_laws.specs.Told.{IsTold}
+use Rattle.meaning_laws.proofs.Sources.{runs_are_told}
 use Rattle.command_words.specs.Requests.{EvalRequest}
 use Rattle.command_perform.specs.Words.{Eval}
 use Rattle.command_perform.specs.Outputs.{Outputs}
 use Rattle.command_perform.specs.Sources.{refusal_status, RefusesProgram}
 use Rattle.command_perform.specs.Evaluating.{run_outputs, IsRun, MakesRun, Evaluates, IsRejected}
 use Rattle.command_perform.specs.Promises.{CanOnly, CanEnd}
+
+abbrev Outcome : Type 0
+Outcome = Result Facts FlowFault
+
+abbrev ok : Facts → Outcome
+ok x = Ok x
+
+abbrev err : FlowFault → Outcome
+err f = Err f
+
+ok_is : (x y : Facts) → ok x ≡ ok y → y ≡ x
+ok_is x y e = cc e
+
+ok_err : (f : FlowFault) (x : Facts) → err f ≡ ok x → ⊥
+ok_err f x e = cc e
+
+-- the facts of a program are those that are made of it
+facts_made : (program : Program) (names : List (List ℕ)) (ranks : Ranks) (facts : Facts) → flow_facts program names ranks [] ≡ Ok facts → facts ≡ facts_of program names ranks []
+facts_made program names ranks facts h = of (first_fault (known_of program names []) (sites_of program)) h
+  where
+    most : ℕ
+    most = most_main program names (bounds_in program []) ranks
+
+    within : (b : Bool) → (if b then ok (facts_of program names ranks []) else err (TooOften (cut most))) ≡ ok facts → facts ≡ facts_of program names ranks []
+    within true e = ok_is (facts_of program names ranks []) facts e
+    within false e = absurd (ok_err (TooOften (cut most)) facts e)
+
+    of : (o : Option FlowFault) → unless_faulty o (unless_too_often most (facts_of program names ranks [])) ≡ ok facts → facts ≡ facts_of program names ranks []
+    of None e = within (nat_lt most (2 ^ 40)) e
+    of (Some fault) e = absurd (ok_err fault facts e)
+
+pub run_told : (source input : List ℕ) (run : SourceRun) → IsRun source input run → IsTold run
+run_told source input run h =
+    let p = h.is_source.has_program in
+    let f = h.is_source.has_facts in
+    subst IsTold (sym h.run_is)
+    (runs_are_told h.spelled h.program h.facts input (record { unit = p.unit; passes = p.passes; program_is = p.program_is })
+    (subst (λ r. AreRanks (graph_of h.program) r.of_functions) (sym (ap (λ x. x.ranks) (facts_made h.program h.spelled f.ranks h.facts f.facts_are))) f.are_ranks))
 
 one_run : (source input : List ℕ) (run other : SourceRun) → IsRun source input run → IsRun source input other → run ≡ other
 one_run source input run other h k =

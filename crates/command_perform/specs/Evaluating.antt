@@ -11,6 +11,7 @@ use Rattle.meaning_semantics.specs.declared.source_run.SourceRun.TheVariants.{Do
 use Rattle.meaning_semantics.specs.declared.source_run.Unkept.{Unkept}
 use Rattle.meaning_semantics.specs.declared.source_run.Unkept.TheVariants as unkept
 use Rattle.meaning_semantics.specs.Runs.{meaning}
+use Rattle.meaning_laws.specs.Told.{IsTold}
 use Rattle.facts_front.specs.Fronts.{IsSource}
 use Rattle.command_words.specs.Requests.{EvalRequest}
 use Rattle.command_perform.specs.Lines.{value_line, undefined_line, broken_line}
@@ -40,9 +41,11 @@ pub record IsRun (source input : List ℕ) (run : SourceRun) : Type 0 where
   pub is_source : IsSource source spelled program facts
   pub run_is : run ≡ meaning program spelled facts input
 
+-- what is made of a run, which is undefined, if at all, by one of the events that the language names
 pub record MakesRun (asked : EvalRequest) (source input : List ℕ) (made : Outputs) : Type 0 where
   pub run : SourceRun
   pub is_run : IsRun source input run
+  pub told : IsTold run
   pub made_is : made ≡ run_outputs asked run
 
 -- both files are within their limits, and the source does this on the input

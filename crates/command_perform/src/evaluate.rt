@@ -119,6 +119,7 @@ fn run_source(alloc: Global, source: &[u8], input: &[u8]) -> Result<SourceRun, S
 }
 
 /// Does on the input what the source says.
+#[tactic(auto, using(crate::proofs::Evaluations::run_told))]
 pub fn make_evaluated<'a>(
     alloc: Global,
     asked: EvalRequest<'a>,

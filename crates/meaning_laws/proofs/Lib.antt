@@ -1,0 +1,10 @@
+pub mod Storing
+pub mod Values
+pub mod Runs
+pub mod Calls
+pub mod Constants
+pub mod Expressions
+pub mod Statements
+pub mod Functions
+pub mod Scoping
+pub mod Sources
