@@ -55,4 +55,5 @@ laid_can_bound c l image s ls has shaped h =
       facts = ap (λ (d : Claims). d.facts) claims;
       bounds = subst (λ (d : Claims). All HasBounds d.loops) (sym claims) (bounds l image s has h);
       loose = λ unit x loose. (flows_keep_bounds c l image s has unit x loose).below h.light;
+      counts = λ unit x loose. (flows_keep_bounds c l image s has unit x loose).few (let light = h.light in omega (arith, light));
     }

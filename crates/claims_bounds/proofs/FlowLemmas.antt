@@ -1,17 +1,23 @@
 -- A settled program with its claims is a laid program, whose loose flows have bounds.
-use Rattle.std.proofs.Common.{◌≢◌, ℕ, zero, suc, ◌+◌, ◌<◌, ◌≤◌, Bool, true, false, List, [], ◌∷◌, map, All, Contains, ap, arith}
+use Rattle.std.proofs.Common.{◌≢◌, ℕ, zero, suc, ◌+◌, ◌^◌, ◌<◌, ◌≤◌, ℤ, pos, ◌+ℤ◌, ◌*ℤ◌, ◌≤ℤ◌, ◌<ℤ◌, Bool, true, false, List, [], ◌∷◌, map, All, Contains, ap, arith}
+use lib.IntN.{*ℤ_comm}
 use Rattle.std.specs.Prelude.{◌==◌, max, AllPairs, if◌then◌else◌}
 use Rattle.std.proofs.lemmas.List.Elements.{All-nil, All-cons, All-weaker}
 use Rattle.std.proofs.lemmas.List.Kept.{AllPairs-cons}
+use Rattle.std.proofs.lemmas.Int.{ints}
+use Rattle.frac128.proofs.SignedLemmas.{mul-lt}
 use Rattle.rv_core.specs.declared.costs.Costs.{Costs}
 use Rattle.rv_core.specs.Images.{Image}
 use Rattle.rv_core.specs.Table.{table_of}
 use Rattle.code_flow_system.specs.declared.claims.LoopClaim.{LoopClaim}
+use Rattle.code_flow_system.specs.declared.moves.Move.{Move}
+use Rattle.code_flow_system.specs.Counts.{Amounts, amount, count, total}
 use Rattle.code_flow_system.specs.Systems.{System}
 use Rattle.code_flow_system.specs.Loose.{most_turns}
 use Rattle.asm_items.specs.Placings.{start_of}
 use Rattle.asm_prices.specs.Worths.{LoopBound, BoundsLoop, AreBounds}
 use Rattle.low_ir.specs.Code.{Loop}
+use Rattle.low_ir.specs.Room.{weight}
 use Rattle.asm_program.specs.Functions.{function_in, graph_of}
 use Rattle.asm_program.proofs.GraphLemmas.{in_map, with_loops}
 use Rattle.claims_definition.specs.Listed.{Laid, placing, loop_claim, loops_of, claims_of, places_of}
@@ -96,12 +102,29 @@ is_laid l image s h = record {
   bounds = bounded l h.settled;
 }
 
+-- the count of an address is a part of all counts
+count_part : (x : Amounts) (ms : List Move) (a : ℕ) → count x ms a ≤ℤ total (λ k. pos 1) x ms
+count_part x [] a = omega (arith, ints)
+count_part x (m ∷ ms) a = by_test (m.at == a) (count_part x ms a)
+  where
+    by_test : (t : Bool) → count x ms a ≤ℤ total (λ k. pos 1) x ms → ((if t then amount x m else pos 0) +ℤ count x ms a) ≤ℤ ((amount x m *ℤ pos 1) +ℤ total (λ k. pos 1) x ms)
+    by_test true r = omega (arith, ints)
+    by_test false r = omega (arith, ints)
+
+below : (unit w most : ℕ) (z sum : ℤ) → 0 < unit → w < most → z ≤ℤ sum → sum ≤ℤ (pos unit *ℤ pos w) → z <ℤ (pos unit *ℤ pos most)
+below unit w most z sum some less part all =
+    let a = mul-lt (pos w) (pos most) (pos unit) (omega (arith, ints, some)) (omega (arith, ints, less)) in
+    let b = *ℤ_comm (pos w) (pos unit) in
+    let c = *ℤ_comm (pos most) (pos unit) in omega (arith, ints, a, b, c, part, all)
+
 pub flows_keep_bounds : (c : Costs) → FlowsKeepBounds (table_of c)
 flows_keep_bounds c l image s h unit x loose =
     let laid = is_laid l image s h in
+    let counts = counts_below_weight l.memory l.program (placing l) image (claims_of l) s laid unit x loose in
     let values = values_below_weight (table_of c) (moves_cost_few c) l.memory l.program (placing l) image (claims_of l) s laid unit x loose in
     record {
-      counts = counts_below_weight l.memory l.program (placing l) image (claims_of l) s laid unit x loose;
+      counts = counts;
+      few = λ light a. below unit (weight l.program) (2 ^ 49) (count x s.moves a) (total (λ k. pos 1) x s.moves) loose.positive light (count_part x s.moves a) counts;
       marks = λ mark. counts_below_reach l.memory l.program (placing l) image (claims_of l) s laid unit x loose mark (places_of l mark) (marked l h.settled mark);
       cycles = values.0;
       below = values.1;

@@ -7,8 +7,8 @@
 //! weight; and [`laid_can_bound`], that the system is one that a search takes.
 //!
 //! `specs/Bounds` says what a program keeps for that besides its form: no loop has to start more often than it may, and its
-//! weight leaves room for the numbers of a search. That no loop's jump back is the header of another one comes from how
-//! loops nest, and that no function is empty from how code is laid.
+//! weight leaves room for the numbers of a search: values are below 2^60 then, and counts below 2^49. That no loop's jump
+//! back is the header of another one comes from how loops nest, and that no function is empty from how code is laid.
 //!
 //! The crate joins `claims_shapes` and `asm_program_prices` with what `path_search` asks for, and knows no runs.
 #![tactic(auto)]

@@ -73,6 +73,7 @@ module _ (es : List LoopEntry) where
       facts = h.facts;
       bounds = All-map HasBounds (by_entries es) c.loops h.bounds;
       loose = λ unit x loose. h.loose unit x (loose_plain unit x loose);
+      counts = λ unit x loose. h.counts unit x (loose_plain unit x loose);
     }
 
   pub bound_same : (t : Table) (c : Claims) (s : System) (ls : List LoopShape) (ps : List Span) → s.claims ≡ named es c → CanBound t (under c s) ls ps → CanBound t s ls ps

@@ -9,11 +9,12 @@ use Rattle.frac128.specs.Terms.{Terms, int_sum_by, coefficient}
 use Rattle.rv_core.specs.Table.{Table}
 use Rattle.code_flow_system.specs.declared.claims.LoopClaim.{LoopClaim}
 use Rattle.code_flow_system.specs.declared.moves.Move.{Move}
-use Rattle.code_flow_system.specs.Systems.{System}
+use Rattle.code_flow_system.specs.Systems.{System, IsSystem}
 use Rattle.code_flow_system.specs.Certificates.{AddressesAscend}
 use Rattle.code_flow_system.specs.Flows.{price}
 use Rattle.loop_prices.specs.LoopPrices.{Worths, turns_at, starts, starts_from, IsPaid, BoundsLooseFlows}
-use Rattle.path_limits.specs.Limits.{LooseValuesBelow}
+use Rattle.path_limits.specs.Limits.{LooseCountsAreFew, LooseValuesUnder}
+use Rattle.path_limits.specs.Narrow.{FetchesCost, LooseCountsBelow}
 use Rattle.path_loose_fit.specs.Rows.{worths_of, brought, IsWorth}
 
 -- what arrives is what both ways bring
@@ -73,11 +74,16 @@ below_times unit n v (pos k) h le lt =
     less u k n h l = grind (arith)
 below_times unit n v (negsuc k) h le lt = omega (arith, ints)
 
-pub same_below : (a b x y : ℤ) → a ≡ x → b ≡ y → (a +ℤ b) <ℤ pos (2 ^ 60) → (x +ℤ y) <ℤ pos (2 ^ 60)
-same_below a b x y e f lt = omega (arith, ints)
+pub same_below : (most : ℕ) (a b x y : ℤ) → a ≡ x → b ≡ y → (a +ℤ b) <ℤ pos most → (x +ℤ y) <ℤ pos most
+same_below most a b x y e f lt = omega (arith, ints)
 
-pub values_below : (t : Table) (s : System) (places : Terms) (turns : List ℕ) → BoundsLooseFlows s → All (λ u. IsWorth u.1) places → All (IsPaid (price t s) s.claims.loops (worths_of places turns)) s.moves →
-    (coefficient places s.entry +ℤ starts s.claims.loops turns s.entry) <ℤ pos (2 ^ 60) → LooseValuesBelow t s
-values_below t s places turns law worths paid lt unit x loose =
-    below_times unit (2 ^ 60) _ (coefficient places s.entry +ℤ starts s.claims.loops turns s.entry) loose.positive
+pub values_below : (most : ℕ) (t : Table) (s : System) (places : Terms) (turns : List ℕ) → BoundsLooseFlows s → All (λ u. IsWorth u.1) places → All (IsPaid (price t s) s.claims.loops (worths_of places turns)) s.moves →
+    (coefficient places s.entry +ℤ starts s.claims.loops turns s.entry) <ℤ pos most → LooseValuesUnder most t s
+values_below most t s places turns law worths paid lt unit x loose =
+    below_times unit most _ (coefficient places s.entry +ℤ starts s.claims.loops turns s.entry) loose.positive
     (law (price t s) (worths_of places turns) (record { positive = All-weaker (λ u. IsWorth u.1) (λ u. pos 0 ≤ℤ u.1) (λ u k. k.0) places worths; moves = paid }) unit x loose) lt
+
+-- ---- counts
+
+pub counts_few : (t : Table) (s : System) → LooseCountsBelow t s → FetchesCost t → IsSystem s → LooseValuesUnder (2 ^ 49) t s → LooseCountsAreFew s
+counts_few t s law fetches is values unit x loose a = (law fetches is (2 ^ 49) values unit x loose).0 a

@@ -8,7 +8,7 @@ ghost use Rattle.path_search.specs.Conditions.{CanBound, SharedHeadersNeverTurn}
 
 use code_flow_system::{LoopClaim, LoopShape, Span, System};
 use path_fit::loops_fit;
-use path_loose_fit::values_fit;
+use path_loose_fit::{counts_fit, values_fit};
 use rv_core::Costs;
 use std::alloc::Global;
 use wcc_base::Memory;
@@ -32,7 +32,8 @@ fn have_bounds(loops: &[LoopClaim]) -> bool
 }
 
 /// Whether a search can be made: whether loops and functions fit the system, and are such that `bound` can go by them. A
-/// yes is right. Where all else holds, a no says that the sum of all code in place of its longest path comes to 2^60.
+/// yes is right. Where all else holds, a no says that the sum of all code in place of its longest path comes to 2^60
+/// cycles, or to 2^49 moves.
 pub fn can_bound(
     alloc: Global,
     system: &System,
@@ -51,7 +52,10 @@ pub fn can_bound(
     if !have_bounds(system.claims().loops()) {
         return Ok(false);
     }
-    values_fit(alloc, system, costs, spans)
+    if !values_fit(alloc, system, costs, spans)? {
+        return Ok(false);
+    }
+    counts_fit(alloc, system, spans)
 }
 
 /// A law: a loop whose header is the jump back of another one can't turn, since its own jump back is never reached. So no

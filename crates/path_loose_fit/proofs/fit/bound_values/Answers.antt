@@ -20,5 +20,5 @@ returns c so =
     let f2 : FitsSigned w128 c.starts.result = search rules in
     let worth = to_z-of_z w128 c.worth_of.result f1 ∙ (c.worth_of.ensures.value ∙ ap (λ a. coefficient c.args.places.now a) c.entry-entry.ensures) in
     let from = to_z-of_z w128 c.starts.result f2 ∙ (c.starts.ensures.value ∙ (ap (λ a. starts c.loops-loops.result.now c.args.turns.now a) c.entry-entry.ensures ∙ ap (λ cs. starts cs c.args.turns.now c.args.system.now.entry) (c.loops-loops.ensures.value ∙ ap (λ (x : Claims). x.loops) c.claims.ensures))) in
-    values_below (table_of c.args.costs.now) c.args.system.now c.args.places.now c.args.turns.now c.loose_flows_are_bounded.ensures (c.are_worths.ensures.0 (search rules)) (c.are_paid.ensures.0 (search rules))
-    (same_below _ _ _ _ worth from (c.is_below.ensures.0 so))
+    values_below c.args.most (table_of c.args.costs.now) c.args.system.now c.args.places.now c.args.turns.now c.loose_flows_are_bounded.ensures (c.are_worths.ensures.0 (search rules)) (c.are_paid.ensures.0 (search rules))
+    (same_below c.args.most _ _ _ _ worth from (c.is_below.ensures.0 so))
