@@ -15,6 +15,14 @@ use crate::pass::make_if;
 use loop_walks::{Loop, Step};
 use loop_worths::{further, way_at};
 
+/// The steps of a function, where a block is worth `low` and these weights are those of the places.
+#[derive(Clone, Copy)]
+pub(crate) struct Weighed<'a> {
+    pub(crate) low: i128,
+    pub(crate) weights: &'a [i128],
+    pub(crate) steps: &'a [Step],
+}
+
 /// How often a loop turns again for each start: as often as it may where a turn gains, and else as often as it has to.
 pub(crate) fn further_turns(ring: Loop, gain: i128) -> u32
     ensures { result ≡ further_turns ring gain }
@@ -74,53 +82,50 @@ fn begin(amounts: &mut [u128], ring: Loop, turns: u128)
 
 /// Adds how often each step of a loop's range is made, of what is at the places.
 fn pass(
-    low: i128,
-    weights: &[i128],
+    weighed: Weighed,
     ring: Loop,
     ways: &[Option<i128>],
     amounts: &mut [u128],
     counts: &mut [u128],
-    steps: &[Step],
 )
-    requires order { (ring.head ≤ ring.rest) × (ring.rest ≤ length steps.now) }
-    requires steps { All (IsWalkStep (length weights.now)) steps.now }
-    requires amounts { length amounts.now ≡ length weights.now }
-    requires counts { length counts.now ≡ length steps.now }
-    requires prices { HaveSmallPrices steps.now }
-    requires weights { AreSmall weights.now }
+    requires order { (ring.head ≤ ring.rest) × (ring.rest ≤ length weighed.steps.now) }
+    requires steps { All (IsWalkStep (length weighed.weights.now)) weighed.steps.now }
+    requires amounts { length amounts.now ≡ length weighed.weights.now }
+    requires counts { length counts.now ≡ length weighed.steps.now }
+    requires prices { HaveSmallPrices weighed.steps.now }
+    requires weights { AreSmall weighed.weights.now }
     requires ways { AreSmallWays ways.now }
-    requires before { Each (NotChosen (is_turn low weights.now ring ways.now)) (take ring.head steps.now) }
-    requires behind { Each (NotChosen (is_turn low weights.now ring ways.now)) (drop ring.rest steps.now) }
-    ensures { SameCounts counts.new (together counts.old (spread (is_turn low weights.now ring ways.now) amounts.old steps.now)) }
+    requires before { Each (NotChosen (is_turn weighed.low weighed.weights.now ring ways.now)) (take ring.head weighed.steps.now) }
+    requires behind { Each (NotChosen (is_turn weighed.low weighed.weights.now ring ways.now)) (drop ring.rest weighed.steps.now) }
+    ensures { SameCounts counts.new (together counts.old (spread (is_turn weighed.entry.low weighed.entry.weights.now ring ways.now) amounts.old weighed.entry.steps.now)) }
 {
     for k in ring.head..ring.rest {
-        let chosen = is_turn(low, weights, ring, ways, steps[k]);
-        add(counts, k, make_if(chosen, amounts, steps[k]));
+        let step = weighed.steps[k];
+        let chosen = is_turn(weighed.low, weighed.weights, ring, ways, step);
+        add(counts, k, make_if(chosen, amounts, step));
     }
 }
 
 /// Adds how often the further turns of a loop make each step, where so many of them start at the header.
 pub(crate) fn turn_pass(
-    low: i128,
-    weights: &[i128],
+    weighed: Weighed,
     ring: Loop,
     ways: &[Option<i128>],
     turns: u128,
     amounts: &mut [u128],
     counts: &mut [u128],
-    steps: &[Step],
 )
-    requires some { 0 < length weights.now }
-    requires steps { AreSteps (length weights.now - 1) steps.now }
-    requires ring { IsLoopOf (length weights.now - 1) steps.now ring }
-    requires amounts { length amounts.now ≡ length weights.now }
-    requires counts { length counts.now ≡ length steps.now }
-    requires prices { HaveSmallPrices steps.now }
-    requires weights { AreSmall weights.now }
+    requires some { 0 < length weighed.weights.now }
+    requires steps { AreSteps (length weighed.weights.now - 1) weighed.steps.now }
+    requires ring { IsLoopOf (length weighed.weights.now - 1) weighed.steps.now ring }
+    requires amounts { length amounts.now ≡ length weighed.weights.now }
+    requires counts { length counts.now ≡ length weighed.steps.now }
+    requires prices { HaveSmallPrices weighed.steps.now }
+    requires weights { AreSmall weighed.weights.now }
     requires ways { AreSmallWays ways.now }
-    requires all { ways.now ≡ turn_ways low weights.now ring steps.now }
-    ensures { SameCounts counts.new (together counts.old (spread (is_turn low weights.now ring ways.now) (only_at (length weights.now - 1) ring.header turns) steps.now)) }
+    requires all { ways.now ≡ turn_ways weighed.low weighed.weights.now ring weighed.steps.now }
+    ensures { SameCounts counts.new (together counts.old (spread (is_turn weighed.entry.low weighed.entry.weights.now ring ways.now) (only_at (length weighed.entry.weights.now - 1) ring.header turns) weighed.entry.steps.now)) }
 {
     begin(amounts, ring, turns);
-    pass(low, weights, ring, ways, amounts, counts, steps);
+    pass(weighed, ring, ways, amounts, counts);
 }

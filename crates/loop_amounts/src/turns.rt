@@ -10,83 +10,77 @@ ghost use Rattle.loop_amounts.specs.Made.{HasTurned, bared};
 
 use crate::back::Back;
 use crate::count::times;
-use crate::turn::{further_turns, turn_pass};
-use loop_walks::{Code, Loop, Step};
+use crate::turn::{Weighed, further_turns, turn_pass};
+use loop_walks::{Code, Loop};
 use loop_worths::{gain_by, turn_ways, way_at};
 use std::alloc::{AllocError, Global};
 
 /// Makes the further turns of a loop whose ways to the jump back are these.
 fn turn_along(
-    low: i128,
-    weights: &[i128],
+    weighed: Weighed,
     ring: Loop,
     back: usize,
     ways: &[Option<i128>],
     amounts: &mut [u128],
     counts: &mut [u128],
-    steps: &[Step],
 ) -> Back
-    requires some { 0 < length weights.now }
-    requires steps { AreSteps (length weights.now - 1) steps.now }
-    requires ring { IsLoopOf (length weights.now - 1) steps.now ring }
-    requires amounts { length amounts.now ≡ length weights.now }
-    requires counts { length counts.now ≡ length steps.now }
-    requires prices { HaveSmallPrices steps.now }
-    requires small { IsSmallTurn low weights.now steps.now ring }
-    requires all { ways.now ≡ turn_ways low weights.now ring steps.now }
-    ensures { HasTurned (length weights.now - 1) steps.now counts.old (turning_of low weights.now ring steps.now (turn_ways low weights.now ring steps.now) back ∷ []) counts.new (result ∷ []) }
+    requires some { 0 < length weighed.weights.now }
+    requires steps { AreSteps (length weighed.weights.now - 1) weighed.steps.now }
+    requires ring { IsLoopOf (length weighed.weights.now - 1) weighed.steps.now ring }
+    requires amounts { length amounts.now ≡ length weighed.weights.now }
+    requires counts { length counts.now ≡ length weighed.steps.now }
+    requires prices { HaveSmallPrices weighed.steps.now }
+    requires small { IsSmallTurn weighed.low weighed.weights.now weighed.steps.now ring }
+    requires all { ways.now ≡ turn_ways weighed.low weighed.weights.now ring weighed.steps.now }
+    ensures { HasTurned (length weighed.entry.weights.now - 1) weighed.entry.steps.now counts.old (turning_of weighed.entry.low weighed.entry.weights.now ring weighed.entry.steps.now (turn_ways weighed.entry.low weighed.entry.weights.now ring weighed.entry.steps.now) back ∷ []) counts.new (result ∷ []) }
 {
-    let gain = gain_by(low, ring.price, way_at(ways, 0));
+    let gain = gain_by(weighed.low, ring.price, way_at(ways, 0));
     let count = times(further_turns(ring, gain), &counts[ring.head..ring.body]);
-    turn_pass(low, weights, ring, ways, count, amounts, counts, steps);
+    turn_pass(weighed, ring, ways, count, amounts, counts);
     Back { place: back, count }
 }
 
 /// Makes the further turns of a loop, if there is a way from its header to its jump back.
 fn turn_loop(
     alloc: Global,
-    low: i128,
-    weights: &[i128],
+    weighed: Weighed,
     ring: Loop,
     back: usize,
     amounts: &mut [u128],
     counts: &mut [u128],
-    steps: &[Step],
 ) -> Result<Option<Back>, AllocError>
-    requires some { 0 < length weights.now }
-    requires steps { AreSteps (length weights.now - 1) steps.now }
-    requires ring { IsLoopOf (length weights.now - 1) steps.now ring }
-    requires amounts { length amounts.now ≡ length weights.now }
-    requires counts { length counts.now ≡ length steps.now }
-    requires prices { HaveSmallPrices steps.now }
-    requires small { IsSmallTurn low weights.now steps.now ring }
-    ensures { IfOk result (λ o. HasTurned (length weights.now - 1) steps.now counts.old (with_way (way_at (turn_ways low weights.now ring steps.now) 0) (turning_of low weights.now ring steps.now (turn_ways low weights.now ring steps.now) back) []) counts.new (option_to_list o)) }
+    requires some { 0 < length weighed.weights.now }
+    requires steps { AreSteps (length weighed.weights.now - 1) weighed.steps.now }
+    requires ring { IsLoopOf (length weighed.weights.now - 1) weighed.steps.now ring }
+    requires amounts { length amounts.now ≡ length weighed.weights.now }
+    requires counts { length counts.now ≡ length weighed.steps.now }
+    requires prices { HaveSmallPrices weighed.steps.now }
+    requires small { IsSmallTurn weighed.low weighed.weights.now weighed.steps.now ring }
+    ensures { IfOk result (λ o. HasTurned (length weighed.entry.weights.now - 1) weighed.entry.steps.now counts.old (with_way (way_at (turn_ways weighed.entry.low weighed.entry.weights.now ring weighed.entry.steps.now) 0) (turning_of weighed.entry.low weighed.entry.weights.now ring weighed.entry.steps.now (turn_ways weighed.entry.low weighed.entry.weights.now ring weighed.entry.steps.now) back) []) counts.new (option_to_list o)) }
 {
-    let ways = turn_ways(alloc, low, weights, ring, steps)?;
+    let ways = turn_ways(alloc, weighed.low, weighed.weights, ring, weighed.steps)?;
     match way_at(&ways, 0) {
         None => Ok(None),
-        Some(_) => Ok(Some(turn_along(low, weights, ring, back, &ways, amounts, counts, steps))),
+        Some(_) => Ok(Some(turn_along(weighed, ring, back, &ways, amounts, counts))),
     }
 }
 
 /// Makes the further turns of a loop, if it has a jump back that isn't its header.
 fn turn_ring(
     alloc: Global,
-    low: i128,
-    weights: &[i128],
+    weighed: Weighed,
     ring: Loop,
     amounts: &mut [u128],
     counts: &mut [u128],
-    steps: &[Step],
 ) -> Result<Option<Back>, AllocError>
-    requires some { 0 < length weights.now }
-    requires steps { AreSteps (length weights.now - 1) steps.now }
-    requires ring { IsLoopOf (length weights.now - 1) steps.now ring }
-    requires amounts { length amounts.now ≡ length weights.now }
-    requires counts { length counts.now ≡ length steps.now }
-    requires prices { HaveSmallPrices steps.now }
-    requires small { IsSmallTurn low weights.now steps.now ring }
-    ensures { IfOk result (λ o. HasTurned (length weights.now - 1) steps.now counts.old (with_back low weights.now ring steps.now ring.back []) counts.new (option_to_list o)) }
+    requires some { 0 < length weighed.weights.now }
+    requires steps { AreSteps (length weighed.weights.now - 1) weighed.steps.now }
+    requires ring { IsLoopOf (length weighed.weights.now - 1) weighed.steps.now ring }
+    requires amounts { length amounts.now ≡ length weighed.weights.now }
+    requires counts { length counts.now ≡ length weighed.steps.now }
+    requires prices { HaveSmallPrices weighed.steps.now }
+    requires small { IsSmallTurn weighed.low weighed.weights.now weighed.steps.now ring }
+    ensures { IfOk result (λ o. HasTurned (length weighed.entry.weights.now - 1) weighed.entry.steps.now counts.old (with_back weighed.entry.low weighed.entry.weights.now ring weighed.entry.steps.now ring.back []) counts.new (option_to_list o)) }
 {
     match ring.back {
         None => Ok(None),
@@ -94,7 +88,7 @@ fn turn_ring(
             if back == ring.header {
                 return Ok(None);
             }
-            turn_loop(alloc, low, weights, ring, back, amounts, counts, steps)
+            turn_loop(alloc, weighed, ring, back, amounts, counts)
         }
     }
 }
@@ -134,7 +128,12 @@ pub(crate) fn turn_all(
     for i in 0..code.loops.len() {
         let ring = code.loops[i];
         weights[ring.header] = 0;
-        let back = turn_ring(alloc, low, weights, ring, amounts, counts, code.steps)?;
+        let weighed = Weighed {
+            low,
+            weights,
+            steps: code.steps,
+        };
+        let back = turn_ring(alloc, weighed, ring, amounts, counts)?;
         push(&mut backs, back)?;
     }
     Ok(backs)

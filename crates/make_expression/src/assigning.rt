@@ -38,14 +38,21 @@ pub fn set_to(x: u32, code: Code, right: Valued) -> Result<Valued, Memory>
     }
 }
 
+/// An array with an element that is assigned, and the first temporary that is free for this.
+#[derive(Clone, Copy)]
+struct Slot {
+    array: Array,
+    free: u32,
+}
+
 /// A constant or a variable that is stored in an element.
-fn kept_leaf(array: Array, k: u32, index: Valued, right: Steady) -> Result<Valued, Memory>
-    ensures { IfOk result (λ v. valued_of v ≡ kept_in array k (valued_of index) (steady_of right)) }
+fn kept_leaf(slot: Slot, index: Valued, right: Steady) -> Result<Valued, Memory>
+    ensures { IfOk result (λ v. valued_of v ≡ kept_in slot.array slot.free (valued_of index) (steady_of right)) }
 {
     let Steady { code, value } = right;
-    let Valued { code, value: index } = index.kept(k, code)?;
+    let Valued { code, value: index } = index.kept(slot.free, code)?;
     let code = code.then(Statement::Keep {
-        array,
+        array: slot.array,
         index,
         value: value.expr(),
     })?;
@@ -56,13 +63,13 @@ fn kept_leaf(array: Array, k: u32, index: Valued, right: Steady) -> Result<Value
 }
 
 /// A value that is stored in an element, and not used again.
-fn kept_only(array: Array, k: u32, index: Valued, right: Valued) -> Result<Code, Memory>
-    ensures { IfOk result (λ c. code_of c ≡ (kept_in array k (valued_of index) (valued_of right)).code) }
+fn kept_only(slot: Slot, index: Valued, right: Valued) -> Result<Code, Memory>
+    ensures { IfOk result (λ c. code_of c ≡ (kept_in slot.array slot.free (valued_of index) (valued_of right)).code) }
 {
     let Valued { code, value } = right;
-    match index.kept(k, code) {
+    match index.kept(slot.free, code) {
         Ok(Valued { code, value: index }) => code.then(Statement::Keep {
-            array,
+            array: slot.array,
             index,
             value,
         }),
@@ -74,12 +81,12 @@ fn kept_only(array: Array, k: u32, index: Valued, right: Valued) -> Result<Code,
 }
 
 /// A value that is stored in an element, and used again.
-fn kept_again(array: Array, k: u32, index: Valued, right: Valued) -> Result<Valued, Memory>
-    ensures { IfOk result (λ v. valued_of v ≡ assigned Value k (homes.InMemory array (expr_of index.value)) (code_of index.code) (valued_of right)) }
+fn kept_again(slot: Slot, index: Valued, right: Valued) -> Result<Valued, Memory>
+    ensures { IfOk result (λ v. valued_of v ≡ assigned Value slot.free (homes.InMemory slot.array (expr_of index.value)) (code_of index.code) (valued_of right)) }
 {
-    match sum(k, 1) {
+    match sum(slot.free, 1) {
         Ok(next) => match right.leaf(next) {
-            Ok(right) => kept_leaf(array, k, index, right),
+            Ok(right) => kept_leaf(slot, index, right),
             Err(memory) => {
                 index.let_go();
                 Err(memory)
@@ -93,20 +100,14 @@ fn kept_again(array: Array, k: u32, index: Valued, right: Valued) -> Result<Valu
     }
 }
 
-fn kept_in(
-    purpose: Purpose,
-    array: Array,
-    k: u32,
-    index: Valued,
-    right: Valued,
-) -> Result<Valued, Memory>
-    ensures { IfOk result (λ v. Makes purpose v (assigned purpose k (homes.InMemory array (expr_of index.value)) (code_of index.code) (valued_of right))) }
+fn kept_in(purpose: Purpose, slot: Slot, index: Valued, right: Valued) -> Result<Valued, Memory>
+    ensures { IfOk result (λ v. Makes purpose v (assigned purpose slot.free (homes.InMemory slot.array (expr_of index.value)) (code_of index.code) (valued_of right))) }
 {
     match purpose {
-        Purpose::Effect => Ok(Valued::only_code(kept_only(array, k, index, right)?)),
-        Purpose::Value => kept_again(array, k, index, right),
-        Purpose::Unless { .. } => kept_again(array, k, index, right),
-        Purpose::When { .. } => kept_again(array, k, index, right),
+        Purpose::Effect => Ok(Valued::only_code(kept_only(slot, index, right)?)),
+        Purpose::Value => kept_again(slot, index, right),
+        Purpose::Unless { .. } => kept_again(slot, index, right),
+        Purpose::When { .. } => kept_again(slot, index, right),
     }
 }
 
@@ -118,7 +119,8 @@ pub fn assigned(purpose: Purpose, k: u32, aimed: Aimed, right: Valued) -> Result
     match target {
         Target::InFrame(x) => set_to(x, code, right),
         Target::InMemory { array, index } => {
-            kept_in(purpose, array, k, Valued { code, value: index }, right)
+            let slot = Slot { array, free: k };
+            kept_in(purpose, slot, Valued { code, value: index }, right)
         }
     }
 }
@@ -193,20 +195,19 @@ fn converted_element(
     )
 }
 
-/// An element with a new value, which is used again from the temporary behind k.
+/// An element with a new value, which is used again from the temporary behind the first free one.
 fn changed_again(
     alloc: Global,
     change: Change,
-    array: Array,
-    k: u32,
+    slot: Slot,
     index: Steady,
     right: Expr,
 ) -> Result<Valued, Memory>
-    ensures { IfOk result (λ v. valued_of v ≡ changed_in Value array k (steady_of index) (updated_word change (expr_of right)) (convert change.to)) }
+    ensures { IfOk result (λ v. valued_of v ≡ changed_in Value slot.array slot.free (steady_of index) (updated_word change (expr_of right)) (convert change.to)) }
 {
     let Steady { code, value: index } = index;
-    match converted_element(alloc, change, array, index, right) {
-        Ok(value) => kept_from_next(code, array, k, index, value),
+    match converted_element(alloc, change, slot.array, index, right) {
+        Ok(value) => kept_from_next(code, slot, index, value),
         Err(memory) => {
             code.let_go();
             Err(memory)
@@ -214,17 +215,11 @@ fn changed_again(
     }
 }
 
-/// A value that is stored from the temporary behind k.
-fn kept_from_next(
-    code: Code,
-    array: Array,
-    k: u32,
-    index: Leaf,
-    value: Expr,
-) -> Result<Valued, Memory>
-    ensures { IfOk result (λ v. valued_of v ≡ from_next (code_of code) array k (leaf_expr index) (expr_of value)) }
+/// A value that is stored from the temporary behind the first free one.
+fn kept_from_next(code: Code, slot: Slot, index: Leaf, value: Expr) -> Result<Valued, Memory>
+    ensures { IfOk result (λ v. valued_of v ≡ from_next (code_of code) slot.array slot.free (leaf_expr index) (expr_of value)) }
 {
-    match sum(k, 1) {
+    match sum(slot.free, 1) {
         Ok(next) => Ok(Valued {
             code: code.then_both(
                 Statement::Set {
@@ -232,7 +227,7 @@ fn kept_from_next(
                     value,
                 },
                 Statement::Keep {
-                    array,
+                    array: slot.array,
                     index: index.expr(),
                     value: Expr::Variable(next),
                 },
@@ -252,18 +247,19 @@ fn changed_in(
     alloc: Global,
     purpose: Purpose,
     change: Change,
-    array: Array,
-    k: u32,
+    slot: Slot,
     index: Steady,
     right: Expr,
 ) -> Result<Valued, Memory>
-    ensures { IfOk result (λ v. valued_of v ≡ changed_in purpose array k (steady_of index) (updated_word change (expr_of right)) (convert change.to)) }
+    ensures { IfOk result (λ v. valued_of v ≡ changed_in purpose slot.array slot.free (steady_of index) (updated_word change (expr_of right)) (convert change.to)) }
 {
     match purpose {
-        Purpose::Effect => Ok(Valued::only_code(changed_only(alloc, change, array, index, right)?)),
-        Purpose::Value => changed_again(alloc, change, array, k, index, right),
-        Purpose::Unless { .. } => changed_again(alloc, change, array, k, index, right),
-        Purpose::When { .. } => changed_again(alloc, change, array, k, index, right),
+        Purpose::Effect => Ok(Valued::only_code(changed_only(
+            alloc, change, slot.array, index, right,
+        )?)),
+        Purpose::Value => changed_again(alloc, change, slot, index, right),
+        Purpose::Unless { .. } => changed_again(alloc, change, slot, index, right),
+        Purpose::When { .. } => changed_again(alloc, change, slot, index, right),
     }
 }
 
@@ -317,16 +313,15 @@ fn updated_element(
     alloc: Global,
     purpose: Purpose,
     change: Change,
-    array: Array,
-    k: u32,
+    slot: Slot,
     index: Valued,
     right: Valued,
 ) -> Result<Valued, Memory>
-    ensures { IfOk result (λ v. valued_of v ≡ updated purpose change.operator change.kind change.to k (homes.InMemory array (expr_of index.value)) (code_of index.code) (valued_of right)) }
+    ensures { IfOk result (λ v. valued_of v ≡ updated purpose change.operator change.kind change.to slot.free (homes.InMemory slot.array (expr_of index.value)) (code_of index.code) (valued_of right)) }
 {
     let Valued { code, value: right } = right;
-    match index.firm(k, code) {
-        Ok(index) => changed_in(alloc, purpose, change, array, k, index, right),
+    match index.firm(slot.free, code) {
+        Ok(index) => changed_in(alloc, purpose, change, slot, index, right),
         Err(memory) => {
             let_go(right);
             Err(memory)
@@ -349,8 +344,9 @@ pub fn updated(
     match target {
         Target::InFrame(x) => updated_variable(alloc, change, x, code, right),
         Target::InMemory { array, index } => {
+            let slot = Slot { array, free: k };
             let index = Valued { code, value: index };
-            updated_element(alloc, purpose, change, array, k, index, right)
+            updated_element(alloc, purpose, change, slot, index, right)
         }
     }
 }

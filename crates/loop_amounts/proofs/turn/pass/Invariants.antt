@@ -7,5 +7,5 @@ use Rattle.loop_amounts.proofs.turn.pass.Given as goal
 
 abbrev pub invariant-loop-k : goal.invariant-loop-k
 invariant-loop-k l =
-    let chosen = is_turn l.low l.weights l.ring l.ways in
-    (l.k ≤ l.ring.rest) × SameCounts (take l.k l.counts ++ together (drop l.k l.counts) (spread chosen l.amounts (drop l.k l.steps))) (together l.fn.counts (spread chosen l.fn.amounts l.steps))
+    let chosen = is_turn l.weighed.low l.weighed.weights.now l.ring l.ways in
+    (l.k ≤ l.ring.rest) × SameCounts (take l.k l.counts ++ together (drop l.k l.counts) (spread chosen l.amounts (drop l.k l.weighed.steps.now))) (together l.fn.counts (spread chosen l.fn.amounts l.weighed.steps.now))

@@ -14,19 +14,19 @@ use Rattle.loop_amounts.proofs.TurnLemmas.{departed_header, has_turned}
 use Rattle.loop_amounts.proofs.turns.turn_along.Goals as goal
 
 pub gain_by-gain-requires-clause-way : goal.gain_by-gain-requires-clause-way
-gain_by-gain-requires-clause-way c = subst (λ (o : Option ℤ). IfSome o IsSmall) (sym c.way_at.ensures) (small_way c.args.low c.args.weights.now c.args.ring c.args.steps.now c.args.ways.now c.requires.all c.requires.small)
+gain_by-gain-requires-clause-way c = subst (λ (o : Option ℤ). IfSome o IsSmall) (sym c.way_at.ensures) (small_way c.args.weighed.low c.args.weighed.weights.now c.args.ring c.args.weighed.steps.now c.args.ways.now c.requires.all c.requires.small)
 
 pub turn_pass-requires-clause-ways : goal.turn_pass-requires-clause-ways
 turn_pass-requires-clause-ways c = λ a. subst (λ (ts : List (Option ℤ)). IfSome (way_at ts a) IsSmall) (sym c.requires.all) (c.requires.small.turns.ways 0 a)
 
 pub returns : goal.returns
 returns c =
-    let low = c.args.low in
-    let low' = to_z w128 (of_z w128 c.args.low) in
-    let e = to_z-of_z w128 c.args.low c.ranges.low in
-    let weights = c.args.weights.now in
+    let low = c.args.weighed.low in
+    let low' = to_z w128 (of_z w128 c.args.weighed.low) in
+    let e = to_z-of_z w128 c.args.weighed.low (search rules) in
+    let weights = c.args.weighed.weights.now in
     let ring = c.args.ring in
-    let ms = c.args.steps.now in
+    let ms = c.args.weighed.steps.now in
     let old = c.args.counts.now in
     let new = c.turn_pass.new.counts in
     let n = length weights - 1 in
@@ -42,5 +42,4 @@ returns c =
     ∙ (ap (λ (k : ℕ). wrapped (k * heads)) (c.further_turns.ensures ∙ ap (λ (z : ℤ). further_turns ring z) gains)
     ∙ ap (λ (k : ℕ). wrapped (further_turns ring (gain low weights ring ms) * k)) (sym (departed_header n ms ring old c.requires.ring c.requires.counts))) in
     has_turned n ms old new (turning_of low weights ring ms (turn_ways low weights ring ms) c.args.back) count counted
-    (subst (λ (ts : List (Option ℤ)). SameCounts new (together old (spread (is_turn low weights ring ts) (only_at n ring.header count) ms))) c.requires.all
-    (subst (λ (z : ℤ). SameCounts new (together old (spread (is_turn z weights ring c.args.ways.now) (only_at n ring.header count) ms))) e c.turn_pass.ensures))
+    (subst (λ (ts : List (Option ℤ)). SameCounts new (together old (spread (is_turn low weights ring ts) (only_at n ring.header count) ms))) c.requires.all c.turn_pass.ensures)

@@ -6,6 +6,6 @@ use Rattle.loop_amounts.proofs.turns.turn_loop.Goals as goal
 
 pub turn_ways-requires-clause-fits : goal.turn_ways-requires-clause-fits
 turn_ways-requires-clause-fits c =
-    let long = length c.args.weights.now in
+    let long = length c.args.weighed.weights.now in
     let some = c.requires.some in
-    All-head (IsRing long c.args.steps.now) c.args.ring [] (rings (long - 1) long c.args.steps.now (c.args.ring ∷ []) (omega (arith, some)) c.requires.steps (c.requires.ring, tt, tt))
+    All-head (IsRing long c.args.weighed.steps.now) c.args.ring [] (rings (long - 1) long c.args.weighed.steps.now (c.args.ring ∷ []) (omega (arith, some)) c.requires.steps (c.requires.ring, tt, tt))
