@@ -1,6 +1,7 @@
 -- The code of functions takes no more than their room.
-use Rattle.std.proofs.Common.{◌≡◌, ℕ, suc, ◌+◌, ◌*◌, ◌<◌, ◌≤◌, Bool, true, false, List, [], ◌∷◌, ◌++◌, length, refl, sym, ap, ◌∙◌, subst, arith, if◌then◌else◌}
+use Rattle.std.proofs.Common.{◌≡◌, ℕ, suc, ◌+◌, ◌*◌, ◌<◌, ◌≤◌, Bool, true, false, List, [], ◌∷◌, ◌++◌, length, map, refl, sym, ap, ◌∙◌, subst, arith, if◌then◌else◌}
 use Rattle.std.specs.Prelude.{All, sum_by, slice_index_or}
+use Rattle.std.specs.List.{range_with_len}
 use Rattle.std.proofs.lemmas.List.Sums.{sum_by-cons}
 use Rattle.std.proofs.lemmas.List.Elements.{All-head, All-tail}
 use Rattle.asm_items.specs.declared.item.Item.{Item}
@@ -17,7 +18,7 @@ use Rattle.asm_program.specs.Laws.{AreWords}
 use Rattle.asm_program_prices.proofs.LongLemmas.{IsLong, AreLong}
 use Rattle.asm_program_prices.proofs.EmissionLemmas.{beside, block_long, leaving_long, leaving_total, block_total}
 use Rattle.image_definition.specs.Images.{row_size}
-use Rattle.image_sizes.specs.Sizes.{functions_placed}
+use Rattle.image_sizes.specs.Sizes.{code_size, sizes_placed}
 
 long_size : (x : Item) → IsLong x → size (longest x) ≡ size x
 long_size (Single i) h = refl
@@ -106,9 +107,9 @@ module _ (m : Memory) (p : Placed) (saved : (f : ℕ) → length (frame_of m f).
       omega (arith, one, rest, sum)
 
   -- those that are placed
-  pub placed_few : (placed : List Bool) (k main : ℕ) (fns : List PlacedFunction) → Rest k fns → Words fns → slice_index_or placed (k + length fns) false ≡ false
-      → row_size (λ f. slice_index_or placed f false) k (functions_longest (functions_from m p k fns ++ start_items main ∷ [])) ≤ functions_placed placed k fns
-  placed_few placed k main [] r words start = last (slice_index_or placed k false) (ap (λ n. slice_index_or placed n false) (own k) ∙ start)
+  pub placed_few : (placed : List Bool) (k main : ℕ) (fns : List PlacedFunction) → ((f : ℕ) → blocks_size (blocks_longest (function_items m p f)) ≤ code_size p f) → slice_index_or placed (k + length fns) false ≡ false
+      → row_size (λ f. slice_index_or placed f false) k (functions_longest (functions_from m p k fns ++ start_items main ∷ [])) ≤ sizes_placed placed k (map (code_size p) (range_with_len k (length fns)))
+  placed_few placed k main [] most start = last (slice_index_or placed k false) (ap (λ n. slice_index_or placed n false) (own k) ∙ start)
     where
       own : (n : ℕ) → n ≡ n + 0
       own n = omega arith
@@ -116,15 +117,19 @@ module _ (m : Memory) (p : Placed) (saved : (f : ℕ) → length (frame_of m f).
       last : (b : Bool) → b ≡ false → (if b then blocks_size (blocks_longest (start_items main)) else 0) + 0 ≤ 0
       last false e = omega arith
       last true e = cc
-  placed_few placed k main (fn ∷ fns) r words start =
-      by (slice_index_or placed k false) (one_few k fn fns r words)
-      (placed_few placed (suc k) main fns (later k fn fns r) (rest_words fn fns words) (ap (λ n. slice_index_or placed n false) (on k (length fns)) ∙ start))
+  placed_few placed k main (fn ∷ fns) most start =
+      by (slice_index_or placed k false) (most k)
+      (subst (λ n. row_size (λ f. slice_index_or placed f false) (suc k) (functions_longest (functions_from m p (suc k) fns ++ start_items main ∷ [])) ≤ sizes_placed placed (suc k) (map (code_size p) (range_with_len n (length fns)))) (next k)
+      (placed_few placed (suc k) main fns most (ap (λ n. slice_index_or placed n false) (on k (length fns)) ∙ start)))
     where
+      next : (n : ℕ) → suc n ≡ n + 1
+      next n = omega arith
+
       on : (n i : ℕ) → suc n + i ≡ n + suc i
       on n i = omega arith
 
-      by : (b : Bool) → blocks_size (blocks_longest (function_items m p k)) + 36 ≤ 4 * function_room fn
-          → row_size (λ f. slice_index_or placed f false) (suc k) (functions_longest (functions_from m p (suc k) fns ++ start_items main ∷ [])) ≤ functions_placed placed (suc k) fns
-          → (if b then blocks_size (blocks_longest (function_items m p k)) else 0) + row_size (λ f. slice_index_or placed f false) (suc k) (functions_longest (functions_from m p (suc k) fns ++ start_items main ∷ [])) ≤ (if b then 4 * function_room fn else 0) + functions_placed placed (suc k) fns
+      by : (b : Bool) → blocks_size (blocks_longest (function_items m p k)) ≤ code_size p k
+          → row_size (λ f. slice_index_or placed f false) (suc k) (functions_longest (functions_from m p (suc k) fns ++ start_items main ∷ [])) ≤ sizes_placed placed (suc k) (map (code_size p) (range_with_len (k + 1) (length fns)))
+          → (if b then blocks_size (blocks_longest (function_items m p k)) else 0) + row_size (λ f. slice_index_or placed f false) (suc k) (functions_longest (functions_from m p (suc k) fns ++ start_items main ∷ [])) ≤ (if b then code_size p k else 0) + sizes_placed placed (suc k) (map (code_size p) (range_with_len (k + 1) (length fns)))
       by true a b = omega (arith, a, b)
       by false a b = omega (arith, b)
