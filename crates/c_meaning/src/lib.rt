@@ -13,3 +13,4 @@ mod walk;
 
 pub use entry::main_of;
 pub use evaluation::eval;
+pub use meaning_semantics::{SourceRun, Unkept};

@@ -40,7 +40,7 @@ fn texts_of(alloc: Global, built: &Built) -> Result<Texts, Memory>
     let line = cycles_line(built.report.cert.cycles, built.report.kind);
     let line = text_of(alloc, &line)?;
     let image = elf_image::write(alloc, &built.image)?;
-    let report = report_text::write(alloc, &built.report)?;
+    let report = wcc_report::write(alloc, &built.report)?;
     Ok(Texts {
         image: Items::new(image),
         report: Items::new(report),

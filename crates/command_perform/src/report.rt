@@ -7,9 +7,9 @@ ghost use Rattle.command_perform.specs.Outputs.{outputs_of};
 
 use crate::make::Made;
 use report_check::summarize_text;
-use report_reading::ReportFault;
 use std::alloc::Global;
 use wcc_base::{Items, Status};
+use wcc_report::ReportFault;
 
 // The code of a refusal of a report.
 const NO_REPORT: u8 = 11;

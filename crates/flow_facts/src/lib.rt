@@ -13,6 +13,7 @@ mod places;
 mod placing;
 mod sites;
 
+pub use facts_definitions::{Facts, FlowFault, Restriction, Term};
 pub use making::{facts, facts_with};
 pub use places::{AddressFact, Places};
 pub use placing::translate;

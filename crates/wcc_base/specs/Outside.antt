@@ -1,5 +1,5 @@
 -- The outside as contracts see it: files by name, what a sink has taken, and the counts of their faults.
-use Rattle.std.specs.Prelude.{◌≡◌, ℕ, ◌+◌, ◌-◌, ◌^◌, ◌≤◌, min, List, [], ◌∷◌, ◌++◌, length, take, drop, Option, Some, None, Result, Ok, Err, IsErrOf, unwrap_or, if◌then◌else◌}
+use Rattle.std.specs.Prelude.{◌≡◌, ℕ, ◌+◌, ◌-◌, ◌^◌, ◌≤◌, max, min, List, [], ◌∷◌, ◌++◌, length, take, drop, Option, Some, None, Result, Ok, Err, unwrap_or, if◌then◌else◌}
 use Rattle.std.specs.Option.{option_map}
 use Rattle.std.specs.Str.{bytes_eq}
 use Rattle.wcc_base.specs.declared.outside.Fault.{Fault}
@@ -52,11 +52,15 @@ pub record Reads (bytes : List ℕ) (at n : ℕ) (buf : List ℕ) : Type 0 where
   pub within : n ≤ length bytes - at
   pub none : n ≡ 0 → length bytes ≤ at
 
--- a count of 64 bits, raised by one until its last value
+-- a count of 64 bits, raised by one until its last value; none falls
 abbrev pub raised : ℕ → ℕ
-raised n = min (n + 1) (2 ^ 64 - 1)
+raised n = max n (min (n + 1) (2 ^ 64 - 1))
 
--- a count behind a call: raised where the call answered `Failed`, else as before
+-- a fault was counted
+abbrev pub Rose : ℕ → ℕ → Type 0
+Rose before now = now ≡ raised before
+
+-- a count behind a call: raised exactly where the call answered `Failed`
 abbrev pub counted : {T : Type 0} → ℕ → Result T Fault → ℕ
 counted n (Ok value) = n
 counted n (Err Failed) = raised n
@@ -71,12 +75,3 @@ pub record CountsRead {T : Type 0} (old new : StoreState) (result : Result T Fau
 pub record CountsWrite {T : Type 0} (old new : StoreState) (result : Result T Fault) : Type 0 where
   pub reads : new.read_faults ≡ old.read_faults
   pub writes : new.write_faults ≡ counted old.write_faults result
-
--- a count has risen, or stands at its last value
-abbrev pub Rose : ℕ → ℕ → Type 0
-Rose before now = raised before ≤ now
-
--- the count never falls, and `Failed` is told only where it rose
-pub record HasCause {T : Type 0} (before now : ℕ) (result : Result T Fault) : Type 0 where
-  pub later : before ≤ now
-  pub failed : IsErrOf result Failed → Rose before now

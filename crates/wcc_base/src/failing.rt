@@ -1,6 +1,6 @@
 // Files and a sink in memory whose calls fail by a list.
 ghost use Rattle.std.specs.Prelude.{◌≡◌, ◌⊎◌, ◌↔◌, ◌<◌, ◌-◌, ◌++◌, [], length, take, min, IsTrue, IsErr, IsErrOf, IsNone, IsSome, IfOk, OnOk, OnErr};
-ghost use Rattle.wcc_base.specs.Outside.{StoreState, SinkState, bytes_of, file_of, put_file, raised, counted, Reads, CountsRead, CountsWrite, HasCause};
+ghost use Rattle.wcc_base.specs.Outside.{StoreState, SinkState, bytes_of, file_of, put_file, raised, counted, Reads, CountsRead, CountsWrite};
 ghost use Rattle.wcc_base.specs.Failing.{NextFails};
 
 use crate::file_list::{add_to, copy_from, empty_file, place};
@@ -74,7 +74,6 @@ impl Store for MemStore {
         ensures step { self.new.step ≡ self.old.step }
         ensures failing { self.new.failing ≡ self.old.failing }
         ensures counts { CountsRead (mem_store self.old) (mem_store self.new) result }
-        ensures cause { HasCause self.old.read_failures self.new.read_failures result }
     {
         let fails = next_fails(&mut self.calls, &self.failing);
         match place(&self.files, name) {
@@ -95,7 +94,6 @@ impl Store for MemStore {
         ensures step { self.new.step ≡ self.old.step }
         ensures failing { self.new.failing ≡ self.old.failing }
         ensures counts { CountsWrite (mem_store self.old) (mem_store self.new) result }
-        ensures cause { HasCause self.old.write_failures self.new.write_failures result }
     {
         if next_fails(&mut self.calls, &self.failing) {
             self.write_failures = self.write_failures.saturating_add(1);
@@ -119,7 +117,6 @@ impl Store for MemStore {
         ensures step { self.new.step ≡ self.old.step }
         ensures failing { self.new.failing ≡ self.old.failing }
         ensures counts { CountsWrite (mem_store self.old) (mem_store self.new) result }
-        ensures cause { HasCause self.old.write_failures self.new.write_failures result }
     {
         if next_fails(&mut self.calls, &self.failing) {
             self.write_failures = self.write_failures.saturating_add(1);
@@ -171,7 +168,6 @@ impl Sink for MemSink {
         ensures calls { self.new.calls ≡ raised self.old.calls }
         ensures failing { self.new.failing ≡ self.old.failing }
         ensures counts { self.new.failures ≡ counted self.old.failures result }
-        ensures cause { HasCause self.old.failures self.new.failures result }
     {
         if next_fails(&mut self.calls, &self.failing) {
             self.failures = self.failures.saturating_add(1);

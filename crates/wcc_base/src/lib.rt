@@ -1,10 +1,10 @@
 //! The outside of the compiler, and what every other crate shares.
 //!
 //! Files and the standard output stand behind two traits, `Store` and `Sink`, whose contracts say
-//! what a call did to the bytes, and that a fault is told only where a count of faults rose. Stores
-//! and sinks in memory tell their contents, so that the compiler's own contract can speak of them;
-//! the adapters `FsStore` and `OutSink` tell none, and are the trusted edge. All six raise a count
-//! exactly in a call that answers `Failed`.
+//! what a call did to the bytes and to the counts of faults: one of them is raised exactly in a call
+//! that answers `Failed`, so that a fault can't be told as want of memory, nor want of memory as a
+//! fault. Stores and sinks in memory tell their contents, so that the compiler's own contract can
+//! speak of them; the adapters `FsStore` and `OutSink` tell none, and are the trusted edge.
 //!
 //! Beside them stand the ways in which a call ends, the limits of its inputs, lists that contracts
 //! see as lists, and numbers in two's complement. Nothing here knows a language or a machine.

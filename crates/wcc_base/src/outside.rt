@@ -1,11 +1,11 @@
 // Files, and a stream of bytes, by what they hold and how often they have failed.
 ghost use Rattle.std.specs.Prelude.{◌≡◌, ◌⊎◌, ◌<◌, ◌≤◌, [], length, take, IsSome, IfSome, IfOk, OnOk, OnErr};
-ghost use Rattle.wcc_base.specs.Outside.{StoreState, SinkState, file_of, bytes_of, told_put, told_add, told_append, Reads, HasCause};
+ghost use Rattle.wcc_base.specs.Outside.{StoreState, SinkState, file_of, bytes_of, told_put, told_add, told_append, counted, Reads, CountsRead, CountsWrite};
 
 /// Why a call of a store or a sink was refused.
 #[derive(Clone, Copy, Debug, PartialEq, Eq)]
 pub enum Fault {
-    /// The outside failed. The count of its faults has risen.
+    /// The outside failed. Exactly such a call raises the count of its faults.
     Failed,
     /// Memory ran out.
     Memory,
@@ -24,16 +24,14 @@ pub trait Store {
         ensures read { IfOk result (λ n. IfSome (state self.old).files
             (λ fs. Reads (bytes_of fs name.now) at n buf.new)) }
         ensures same { (state self.new).files ≡ (state self.old).files }
-        ensures cause { HasCause (state self.old).read_faults (state self.new).read_faults result }
-        ensures other_faults { (state self.new).write_faults ≡ (state self.old).write_faults };
+        ensures counts { CountsRead (state self.old) (state self.new) result };
 
     /// Makes the file empty, new or not. After a refusal it is as before or empty.
     fn begin(&mut self, name: &str) -> Result<(), Fault>
         ensures ok { OnOk result ((state self.new).files ≡ told_put name.now [] (state self.old).files) }
         ensures err { OnErr result (((state self.new).files ≡ (state self.old).files)
             ⊎ ((state self.new).files ≡ told_put name.now [] (state self.old).files)) }
-        ensures cause { HasCause (state self.old).write_faults (state self.new).write_faults result }
-        ensures other_faults { (state self.new).read_faults ≡ (state self.old).read_faults };
+        ensures counts { CountsWrite (state self.old) (state self.new) result };
 
     /// Adds the first bytes of the piece to the file, at least one, and says how many.
     fn append(&mut self, name: &str, piece: &[u8]) -> Result<usize, Fault>
@@ -42,8 +40,7 @@ pub trait Store {
         ensures bound { IfOk result (λ n. (0 < n) × (n ≤ length piece.now)) }
         ensures ok { IfOk result (λ n. (state self.new).files ≡ told_add name.now (take n piece.now) (state self.old).files) }
         ensures err { OnErr result ((state self.new).files ≡ (state self.old).files) }
-        ensures cause { HasCause (state self.old).write_faults (state self.new).write_faults result }
-        ensures other_faults { (state self.new).read_faults ≡ (state self.old).read_faults };
+        ensures counts { CountsWrite (state self.old) (state self.new) result };
 }
 
 /// A stream that takes bytes.
@@ -57,5 +54,5 @@ pub trait Sink {
         ensures bound { IfOk result (λ n. (0 < n) × (n ≤ length piece.now)) }
         ensures ok { IfOk result (λ n. (state self.new).written ≡ told_append (take n piece.now) (state self.old).written) }
         ensures err { OnErr result ((state self.new).written ≡ (state self.old).written) }
-        ensures cause { HasCause (state self.old).faults (state self.new).faults result };
+        ensures counts { (state self.new).faults ≡ counted (state self.old).faults result };
 }

@@ -1,6 +1,6 @@
 // The adapters over real files and the standard output: the trusted edge. They tell no content.
 ghost use Rattle.std.specs.Prelude.{◌≡◌, ◌<◌, ◌≤◌, None, length, IfOk, IsErrOf};
-ghost use Rattle.wcc_base.specs.Outside.{StoreState, SinkState, counted, HasCause};
+ghost use Rattle.wcc_base.specs.Outside.{StoreState, SinkState, counted};
 
 use crate::{Fault, Sink, Store};
 use std::alloc::Global;
@@ -63,7 +63,6 @@ impl<R: Runtime> Store for FsStore<R> {
         ensures bound { IfOk result (λ n. n ≤ length buf.old) }
         ensures reads { self.new.read_failures ≡ counted self.old.read_failures result }
         ensures writes { self.new.write_failures ≡ self.old.write_failures }
-        ensures cause { HasCause self.old.read_failures self.new.read_failures result }
     {
         match read_piece(&self.rt, name, at, buf) {
             Ok(count) => Ok(count),
@@ -77,7 +76,6 @@ impl<R: Runtime> Store for FsStore<R> {
     fn begin(&mut self, name: &str) -> Result<(), Fault>
         ensures reads { self.new.read_failures ≡ self.old.read_failures }
         ensures writes { self.new.write_failures ≡ counted self.old.write_failures result }
-        ensures cause { HasCause self.old.write_failures self.new.write_failures result }
     {
         match make_empty(&self.rt, name) {
             Ok(()) => Ok(()),
@@ -93,7 +91,6 @@ impl<R: Runtime> Store for FsStore<R> {
         ensures bound { IfOk result (λ n. (0 < n) × (n ≤ length piece.now)) }
         ensures reads { self.new.read_failures ≡ self.old.read_failures }
         ensures writes { self.new.write_failures ≡ counted self.old.write_failures result }
-        ensures cause { HasCause self.old.write_failures self.new.write_failures result }
     {
         match append_piece(&self.rt, name, piece) {
             Ok(count) if count > 0 => Ok(count),
@@ -130,7 +127,6 @@ impl<R: Runtime> Sink for OutSink<R> {
         ensures bound { IfOk result (λ n. (0 < n) × (n ≤ length piece.now)) }
         ensures no_want { IsErrOf result Fault.Memory → ⊥ }
         ensures counts { self.new.failures ≡ counted self.old.failures result }
-        ensures cause { HasCause self.old.failures self.new.failures result }
     {
         match io::writer(&self.rt).write(piece) {
             Ok(count) if count > 0 => Ok(count),

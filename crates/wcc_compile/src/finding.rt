@@ -17,14 +17,12 @@ use compile_bounds::{made_can_be_bounded, made_have_systems};
 use compile_image::Made;
 use compile_lines::shares_of;
 use facts_front::Source;
-use path_answer::{Bounded, Kind};
+use path_enum::{Bounded, Kind, bound};
 use path_places::systems_are_reached;
-use path_search::bound;
-use report_shares::fill_shares;
-use report_text::Share;
 use rv_core::Costs;
 use std::alloc::Global;
 use wcc_base::Memory;
+use wcc_report::{Share, fill_shares};
 
 /// The bound of an image, and how it is shared among the ranges of code.
 #[derive(Drop)]

@@ -11,12 +11,12 @@ use crate::telling::{Told, tell};
 use compile_image::Made;
 use compile_reports::reported_are_reports;
 use facts_front::Source;
-use path_answer::Bounded;
+use path_enum::Bounded;
 use report_laws::is_typed;
-use report_text::Report;
 use rv_core::Costs;
 use std::alloc::Global;
 use wcc_base::{Items, Memory};
+use wcc_report::Report;
 
 fn joined(told: Told, found: Found) -> Report
     requires { IsReport (joined_report told found) }

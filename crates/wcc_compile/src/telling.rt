@@ -11,9 +11,9 @@ use compile_claims::by_source;
 use compile_image::Made;
 use compile_lines::copy_lines;
 use facts_front::Source;
-use report_text::CopyLine;
 use std::alloc::Global;
 use wcc_base::Memory;
+use wcc_report::CopyLine;
 
 /// The copy lines of functions and markers, and the claims by the loops of the source.
 #[derive(Drop)]
