@@ -9,8 +9,8 @@ ghost use Rattle.image_sizes.specs.Sizes.{constants_room, frames_room, sizes_pla
 ghost use Rattle.image_fitting.specs.Spending.{Spends};
 
 use super::code::spend;
-use low_ir::object::{Object, Storage};
 use low_ir::LowReg;
+use low_ir::object::{Object, Storage};
 
 /// Whether a placement names a function or an array; what the list doesn't reach, it doesn't.
 pub fn is_placed(placed: &[bool], number: usize) -> bool

@@ -11,9 +11,10 @@ use Rattle.asm_program.specs.Numbers.{ram}
 use Rattle.asm_program.specs.Frames.{frame_end, no_frame}
 use Rattle.asm_items.specs.Placings.{blocks_size}
 use Rattle.asm_forms.specs.Shorter.{blocks_longest}
-use Rattle.asm_program.specs.Functions.{PlacedFunction, function_items, no_function}
+use Rattle.asm_program.specs.Functions.{PlacedFunction, function_items}
 use Rattle.asm_program.specs.Formed.{IsProgram}
 use Rattle.asm_room.proofs.FunctionLemmas.{sizes_kept}
+use Rattle.asm_room.proofs.SizeLemmas.{longest_has_room}
 use Rattle.image_rows.specs.declared.rows.Row.TheVariants.{Scratchpad}
 use Rattle.image_rows.specs.Rows.{room_of, small_room, row_by, row_of, row_number, row_room, spots}
 use Rattle.image_frames.specs.Needs.{saved_of, homes_of, written, housed, is_needed}
@@ -23,7 +24,7 @@ use Rattle.image_frames.specs.Memories.{Placement, memory_of}
 use Rattle.image_frames.proofs.TableLemmas.{chosen_few}
 use Rattle.image_definition.specs.Images.{FitsImage}
 use Rattle.image_sizes.specs.Sizes.{constants_room, variables_room, code_size, sizes_placed, frames_room, HasRoom, HasSizes, HasWords}
-use Rattle.image_sizes.proofs.CodeLemmas.{all_few, placed_few}
+use Rattle.image_sizes.proofs.CodeLemmas.{placed_few}
 
 abbrev gain : ℕ → ℕ → ℕ → ℕ
 gain r n k = if r == k then n else 0
@@ -94,9 +95,8 @@ module _ (p : Placed) where
       let constants = sizes.room.constants in
       let variables = sizes.room.variables in
       let placed = sizes.placed in
-      let main = formed.main in
-      let all = all_few (memory_of pl p) p (λ f. frames_save ram 0 p.functions f) p.main p.functions (omega (arith, main)) (λ j. ap (λ n. slice_index_or p.functions n no_function) (own j)) words in
-      let there = placed_few (memory_of pl p) p (λ f. frames_save ram 0 p.functions f) pl.functions 0 p.main p.functions (size_most pl) (ap (λ n. slice_index_or pl.functions n false) (own (length p.functions)) ∙ sizes.start) in
+      let all = longest_has_room (memory_of pl p) p (record { program = formed; words = words; saved = λ f. frames_save ram 0 p.functions f }) in
+      let there = placed_few (memory_of pl p) p (size_most pl) pl.functions p.main 0 p.functions (ap (λ n. slice_index_or pl.functions n false) (own (length p.functions)) ∙ sizes.start) in
       record {
         memory = record { constants = omega (arith, c, constants); scratchpad = omega (arith, a, placed); ram = omega (arith, v, fr, variables) };
         flash = omega (arith, all, code);
@@ -110,7 +110,7 @@ none_there (suc n) = refl
 
 nothing_placed : (k : ℕ) (ns : List ℕ) → sizes_placed [] k ns ≡ 0
 nothing_placed k [] = refl
-nothing_placed k (n ∷ ns) = ap (λ b. (if b then n else 0) + sizes_placed [] (suc k) ns) (none_there k) ∙ nothing_placed (suc k) ns
+nothing_placed k (n ∷ ns) = let this = ap (λ b. if b then n else 0) (none_there k) in let rest = nothing_placed (suc k) ns in omega (arith, this, rest)
 
 pub nothing_fits : (p : Placed) → HasRoom p → HasSizes (record { functions = []; objects = [] }) p
 nothing_fits p room =

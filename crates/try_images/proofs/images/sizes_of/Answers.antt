@@ -1,0 +1,12 @@
+use Rattle.std.proofs.Common.{map, sym, ◌∙◌}
+use Rattle.low_ir.specs.Placings.{placed_of, assignment_of}
+use Rattle.low_ir.specs.View.{function_of}
+use Rattle.claims_movables.specs.Listed.{movable_of}
+use Rattle.layout_sizes.specs.Items.{sized}
+use Rattle.try_images.specs.Sizes.{size_listed}
+use Rattle.try_images.proofs.SizeLemmas.{sizes_step, sizes_are}
+use Rattle.try_images.proofs.images.sizes_of.Goals as goal
+
+pub loop-number-preserved : goal.loop-number-preserved
+loop-number-preserved c =
+    sizes_step (size_listed (map sized (map movable_of c.args.items.now))) c.loop-number.number c.loop-number.sizes.items c.push.new.self.items c.size_at.result c.in_ok-push.ensures.items c.size_at.ensures c.loop-number.invariant
