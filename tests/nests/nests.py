@@ -21,7 +21,7 @@ from pathlib import Path
 HERE = Path(__file__).resolve().parent
 sys.path.insert(0, str(HERE.parent))
 import certify  # noqa: E402
-import expected  # noqa: E402
+import flash  # noqa: E402
 import machine  # noqa: E402
 from certificates import finding, reports  # noqa: E402
 
@@ -173,10 +173,8 @@ class Nest:
 
 
 def image_of(nest):
-    """The words in flash; `expected.image_of` has 0 as the entry."""
-    data = bytearray(expected.image_of(nest.words))
-    data[24:28] = nest.entry.to_bytes(4, "little")
-    return bytes(data)
+    """The words in flash."""
+    return flash.image_of(nest.words, nest.entry)
 
 
 def claims_of(nest):

@@ -62,6 +62,7 @@ def nodes():
     yield ("nodes: they come before functions", "limit nodes 16385",
            "int f(void) {} " * 257 + "int main(void) { " + ";" * (16384 - 257 * 3 - 4 + 1) + "}", b"")
     yield "nodes: they come before types", "limit nodes 16385", "int main(void) { return x; " + ";" * (16385 - 6) + "}", b""
+    yield "nodes: of 80,000 names", "limit nodes 160001", "".join(f"int x{number};" for number in range(80000)), b""
 
 
 def functions():

@@ -21,7 +21,7 @@ use Rattle.types_rules.specs.declared.fault.Rule.{Rule}
 use Rattle.types_rules.specs.declared.fault.Rule.TheVariants as rules
 use Rattle.types_rules.specs.declared.fault.TypeFault.{TypeFault}
 use Rattle.types_rules.specs.declared.fault.TypeFault.TheVariants.{Limit, Rule as BreaksRule, Memory}
-use Rattle.facts_definitions.specs.Calls.{function_calls}
+use Rattle.types_calls.specs.Calls.{function_calls}
 use Rattle.c_types.specs.Typed.{CallsDefined, IsTypedTree, Refuses, fault_behind, fault_of, typed_of}
 use Rattle.c_types.proofs.CallsBelow.{Below, functions_below, safe}
 

@@ -7,7 +7,7 @@ use Rattle.c_tree.specs.Named.{named_unit}
 use Rattle.c_tree.specs.Size.{size_unit}
 use Rattle.c_tree.specs.Tree.{TranslationUnit}
 use Rattle.types_tree.specs.Tree.{Program}
-use Rattle.facts_definitions.specs.Calls.{function_calls}
+use Rattle.types_calls.specs.Calls.{function_calls}
 use Rattle.types_tree.specs.View.{external_of, function_of}
 use Rattle.types_rules.specs.Limits.{broken, limits_behind, unit_fault, variables_of}
 use Rattle.types_rules.specs.Scope.{Outline, or_else}

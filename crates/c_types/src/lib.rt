@@ -12,5 +12,5 @@ mod typed;
 mod unit;
 
 pub use checker::check;
-pub use facts_definitions::Ranks;
 pub use typed::Typed;
+pub use types_calls::Ranks;

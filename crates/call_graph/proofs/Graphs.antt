@@ -3,8 +3,8 @@ use Rattle.std.proofs.Common.{◌≡◌, refl, ap, ◌∙◌, sym, subst, ℕ, z
 use Rattle.std.proofs.Math.ListN.{drop_of_length-le}
 use Rattle.std.proofs.lemmas.List.{append-nil}
 use Rattle.std.proofs.lemmas.Bool.{ltb-true}
-use Rattle.facts_definitions.specs.Calls.{calls_below, function_calls, graph_of}
-use Rattle.facts_definitions.specs.Chains.{Among}
+use Rattle.types_calls.specs.Calls.{calls_below, function_calls, graph_of}
+use Rattle.types_calls.specs.Chains.{Among}
 use Rattle.types_tree.specs.Tree as typed
 use Rattle.types_tree.specs.View.{function_of}
 use Rattle.types_tree.specs.declared.external.Function as functions

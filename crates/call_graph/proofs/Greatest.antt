@@ -1,7 +1,7 @@
 -- Ranks from the ranks of what is called.
 use Rattle.std.proofs.Common.{◌≡◌, refl, sym, ℕ, zero, suc, ◌+◌, ◌≤◌, ◌<◌, List, [], ◌∷◌, ◌++◌, length, arith, get_or, ◌⊎◌, inl, inr, subst, drop, add-one, length-append}
 use Rattle.std.proofs.Math.Seq.{drop-cons}
-use Rattle.facts_definitions.specs.Chains.{Among, callees, IsChain, end_of, IsRank, Reaches}
+use Rattle.types_calls.specs.Chains.{Among, callees, IsChain, end_of, IsRank, Reaches}
 
 -- as far as the callees have been seen, rank is the greatest number of calls
 pub record IsSoFar (graph : List (List ℕ)) (f n : ℕ) (left : List ℕ) : Type 0 where

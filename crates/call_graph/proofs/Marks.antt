@@ -3,7 +3,7 @@ use Rattle.std.proofs.Common.{◌≡◌, ◌≢◌, refl, ap, ◌∙◌, sym, �
 use Rattle.std.proofs.lemmas.List.{get_or-set_same, get_or-set_other, length-set}
 use Rattle.call_graph.specs.declared.graph.Mark.{Mark}
 use Rattle.call_graph.specs.declared.graph.Mark.TheVariants.{New, Open, Done}
-use Rattle.facts_definitions.specs.Chains.{Among, callees, IsChain, end_of, IsRank, Reaches}
+use Rattle.types_calls.specs.Chains.{Among, callees, IsChain, end_of, IsRank, Reaches}
 use Rattle.call_graph.specs.Search.{mark_of, fresh, IsSound, IsPath, IsPathTo, Keeps}
 
 pub fresh-open : (ms : List Mark) (f : ℕ) → f < length ms → mark_of ms f ≡ New → suc (fresh (set ms f Open)) ≡ fresh ms

@@ -4,7 +4,7 @@ use Rattle.std.proofs.lemmas.List.{get_or_append_left, length-replicate}
 use Rattle.std.proofs.Math.Seq.{get_or-append_seam}
 use Rattle.call_graph.specs.declared.graph.Mark.{Mark}
 use Rattle.call_graph.specs.declared.graph.Mark.TheVariants.{New}
-use Rattle.facts_definitions.specs.Chains.{Among, callees, IsRank, AreRanks}
+use Rattle.types_calls.specs.Chains.{Among, callees, IsRank, AreRanks}
 use Rattle.call_graph.specs.Search.{IsInRange, IsPath, IsRanking, Keeps, mark_of}
 
 blank_at : (n g : ℕ) → mark_of (replicate n New) g ≡ New

@@ -2,7 +2,7 @@
 use Rattle.std.proofs.Common.{◌≡◌, ap, ◌++◌, ℕ}
 use Rattle.std.specs.Prelude.{Vec}
 use Rattle.std.specs.Global.{Global}
-use Rattle.facts_definitions.specs.Calls.{called, expr_calls, exprs_calls, items_calls, statement_calls}
+use Rattle.types_calls.specs.Calls.{called, expr_calls, exprs_calls, items_calls, statement_calls}
 use Rattle.types_tree.proofs.Rows.{block_view, call_view, switch_view}
 use Rattle.types_tree.specs.View.{expr_of, exprs_of, items_of, statement_of}
 use Rattle.types_tree.specs.declared.expression.Callee.{Callee}

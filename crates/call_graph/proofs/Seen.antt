@@ -3,7 +3,7 @@ use Rattle.std.proofs.Common.{◌≡◌, ◌≢◌, refl, ap, ◌∙◌, sym, su
 use Rattle.std.proofs.lemmas.List.{length-replicate}
 use Rattle.std.proofs.lemmas.Bool.{false≢true}
 use Rattle.std.proofs.lemmas.List.{get_or-set_same, get_or-set_other, length-set}
-use Rattle.facts_definitions.specs.Chains.{Among, callees, IsChain, end_of, Reaches}
+use Rattle.types_calls.specs.Chains.{Among, callees, IsChain, end_of, Reaches}
 use Rattle.call_graph.specs.Search.{is_seen, unseen, Spreads, IsRoot, Tells}
 use Rattle.call_graph.proofs.Marks.{same_or_not}
 

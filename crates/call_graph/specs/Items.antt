@@ -1,6 +1,6 @@
 -- The calls in an item, as the code has it.
 use Rattle.std.specs.Prelude.{ℕ, List, []}
-use Rattle.facts_definitions.specs.Calls.{calls_below, declaration_calls, function_calls, label_calls, statement_calls}
+use Rattle.types_calls.specs.Calls.{calls_below, declaration_calls, function_calls, label_calls, statement_calls}
 use Rattle.types_tree.specs.View.{declaration_of, function_of, label_of, statement_of}
 use Rattle.types_tree.specs.declared.external.Function as functions
 use Rattle.types_tree.specs.declared.statement.Item.{Item}

@@ -1,7 +1,7 @@
 -- What a search in depth knows of the functions that it has seen.
 use Rattle.std.specs.Prelude.{◌≡◌, ◌⊎◌, ℕ, suc, ◌≤◌, ◌<◌, List, [], ◌∷◌, length, Result, Ok, Err, Bool, true, false}
 use Rattle.std.proofs.Math.ListN.{get_or}
-use Rattle.facts_definitions.specs.Chains.{Among, callees, IsRank, Reaches}
+use Rattle.types_calls.specs.Chains.{Among, callees, IsRank, Reaches}
 use Rattle.call_graph.specs.declared.graph.Mark.{Mark}
 use Rattle.call_graph.specs.declared.graph.Mark.TheVariants.{New, Open, Done}
 use Rattle.call_graph.specs.declared.graph.Stop.{Stop}

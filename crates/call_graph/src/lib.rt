@@ -13,5 +13,5 @@ mod ranking;
 mod spread;
 mod visit;
 
-pub use facts_definitions::CallFault;
 pub use ranking::ranks;
+pub use types_calls::CallFault;

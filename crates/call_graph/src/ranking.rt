@@ -1,15 +1,15 @@
 // All ranks.
 ghost use Rattle.std.specs.Prelude.{◌≡◌, ◌<◌, ◌≤◌, length, List, ℕ, IfOk, IfErr, OnOk, ◌++◌, ◌∷◌, []};
-ghost use Rattle.facts_definitions.specs.Calls.{graph_of};
-ghost use Rattle.facts_definitions.specs.Chains.{AreRanks, IsCallFault, IsFirstCycle, Reaches};
+ghost use Rattle.types_calls.specs.Calls.{graph_of};
+ghost use Rattle.types_calls.specs.Chains.{AreRanks, IsCallFault, IsFirstCycle, Reaches};
 ghost use Rattle.types_tree.specs.View.{program_of};
 ghost use Rattle.call_graph.specs.Search.{IsInRange, IsRanking};
 
 use super::graph::{Mark, Stop, graph};
 use super::spread::reaches_itself;
 use super::visit::visit;
-use facts_definitions::{CallFault, Ranks};
 use std::alloc::{AllocError, Global};
+use types_calls::{CallFault, Ranks};
 use types_tree::expression::FunctionId;
 use types_tree::program::Program;
 use wcc_base::Items;

@@ -3,7 +3,7 @@
 ghost use Rattle.std.specs.Prelude.{◌≡◌, ◌<◌, ◌≤◌, length, List, ℕ, true, [], IfOk};
 ghost use Rattle.std.proofs.Math.ListN.{set};
 ghost use Rattle.call_graph.specs.Search.{IsInRange, Spreads, is_seen, Tells, IsRoot};
-ghost use Rattle.facts_definitions.specs.Chains.{callees};
+ghost use Rattle.types_calls.specs.Chains.{callees};
 
 use std::alloc::{AllocError, Global};
 use wcc_base::Items;

@@ -9,8 +9,8 @@ use Rattle.asm_items.specs.Placings.{Blocks, base_of, blocks_of, blocks_size}
 use Rattle.asm_placed.specs.Written.{in_scratchpad}
 use Rattle.low_ir.specs.declared.object.Storage.{Storage}
 use Rattle.low_ir.specs.declared.object.Storage.TheVariants.{Constant, Global, Local}
+use Rattle.low_ir.specs.Arrays.{array_size}
 use Rattle.low_ir.specs.Code.{Object}
-use Rattle.low_ir.specs.Kinds.{kind_bytes}
 use Rattle.asm_room.specs.Functions.{function_size}
 use Rattle.claims_accesses.specs.Touches.{Touch, Nothing, OfFrame, OfArrays, program_touches}
 use Rattle.claims_definition.specs.Listed.{Laid, by_address, placing}
@@ -63,10 +63,6 @@ blocks_only o a (ts ∷ tss) (xs ∷ bs) = items_only o a ts xs ++ blocks_only o
 
 abbrev pub only_in : Laid → ℕ → ℕ → List ℕ
 only_in l o f = blocks_only o (base_of (placing l) f) (slice_index_or (program_touches l.memory l.program) f []) (blocks_of (placing l) f)
-
--- the bytes of an array, rounded up to whole words
-abbrev pub array_size : Object → ℕ
-array_size x = (x.size * kind_bytes x.kind + 3) / 4 * 4
 
 -- arrays have the numbers behind those of functions
 abbrev pub array_item : Laid → ℕ → Object → Movable

@@ -9,6 +9,7 @@ use Rattle.asm_items.specs.Placings.{Blocks, base_of, blocks_size}
 use Rattle.asm_forms.specs.Layouts.{formed}
 use Rattle.asm_forms.specs.Shorter.{blocks_longest, functions_longest}
 use Rattle.asm_forms.proofs.Formed.{formed_longest}
+use Rattle.low_ir.specs.Arrays.{array_size}
 use Rattle.low_ir.specs.Code.{Function, Note, Object}
 use Rattle.low_ir.specs.View.{function_of}
 use Rattle.low_ir.specs.Places.{Assignment, place_functions}
@@ -19,7 +20,7 @@ use Rattle.asm_program.specs.Functions as low
 use Rattle.asm_program.proofs.ItemLemmas.{of_function}
 use Rattle.asm_room.specs.Functions.{near_blocks}
 use Rattle.claims_definition.specs.Listed.{Laid, by_address, placing}
-use Rattle.claims_items.specs.Movables.{Movable, array_item, array_size, arrays_from, code_region, function_item, is_local, movables_of, only_in, unless, words_at}
+use Rattle.claims_items.specs.Movables.{Movable, array_item, arrays_from, code_region, function_item, is_local, movables_of, only_in, unless, words_at}
 use Rattle.claims_lists.specs.declared.laying.Laying.{Laying}
 use Rattle.claims_lists.specs.declared.marks.Marked.{Marked}
 use Rattle.claims_lists.specs.Lists.{IsOf}

@@ -4,10 +4,11 @@ use Rattle.std.specs.List.{flat_map, range_with_len}
 use Rattle.rv_core.specs.declared.regions.Region.{Region}
 use Rattle.asm_items.specs.Placings.{blocks_size}
 use Rattle.asm_forms.specs.Shorter.{blocks_longest}
+use Rattle.low_ir.specs.Arrays.{array_size}
 use Rattle.low_ir.specs.Code.{Block, Function, Object, Note}
 use Rattle.low_ir.specs.Programs.{low_of}
 use Rattle.asm_program.specs.Frames.{Memory}
-use Rattle.claims_items.specs.Movables.{Movable, array_size, code_region, is_local, only_in, unless, words_at}
+use Rattle.claims_items.specs.Movables.{Movable, code_region, is_local, only_in, unless, words_at}
 use Rattle.claims_definition.specs.Listed.{Laid, by_address}
 use Rattle.claims_lists.specs.declared.laying.Laying.{Laying}
 use Rattle.claims_lists.specs.Places.{base_in, blocks_in}

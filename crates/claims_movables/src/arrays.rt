@@ -1,7 +1,8 @@
 // The items of arrays.
 ghost use Rattle.std.specs.Prelude.{◌≡◌, ◌++◌, [], map, slice_index_or, IfOk};
+ghost use Rattle.low_ir.specs.Arrays.{array_size};
 ghost use Rattle.low_ir.specs.View.{object_of};
-ghost use Rattle.claims_items.specs.Movables.{array_size, is_local, unless};
+ghost use Rattle.claims_items.specs.Movables.{is_local, unless};
 ghost use Rattle.claims_making.specs.Sights.{region_in};
 ghost use Rattle.claims_movables.specs.Listed.{array_in, arrays_in, movable_of};
 
@@ -37,7 +38,7 @@ fn is_local(storage: Storage) -> bool
 fn array_size(object: &Object) -> Result<u32, Memory>
     ensures { IfOk result (λ size. size ≡ array_size (object_of object.now)) }
 {
-    let bytes = u64::from(object.length) * u64::from(object.kind.bytes());
+    let bytes = u64::from(object.kind.bytes()) * u64::from(object.length);
     match u32::try_from((bytes + 3) / 4 * 4) {
         Ok(size) => Ok(size),
         Err(_) => Err(Memory),

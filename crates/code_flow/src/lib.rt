@@ -22,8 +22,6 @@ mod finding;
 mod flaws;
 mod places;
 mod sorted;
-#[cfg(test)]
-mod tests;
 mod walk;
 mod ways;
 

@@ -1,12 +1,9 @@
-//! Tests of the commands that compile nothing, on stores and sinks in memory.
+//! Tests of the command that compiles, on stores and sinks in memory: each call of the store and of the sink fails once.
 //!
-//! Images are run, sources evaluated, reports checked and summed up. Values, cycles and places were worked out by hand from
-//! `docs/LANGUAGE.md`, `docs/MACHINE.md` and `docs/FORMATS.md`.
+//! What becomes of the files then was worked out by hand from `docs/COMMANDS.md`.
 //!
 //! This crate has no code but its tests.
 #![tactic(auto)]
 
-#[cfg(test)]
-mod memoryless;
 #[cfg(test)]
 mod tests;

@@ -10,7 +10,7 @@ use Rattle.c_parser.specs.declared.fault.ParseFault.TheVariants as parsing
 use Rattle.types_rules.specs.declared.fault.TypeFault.TheVariants as typing
 use Rattle.facts_definitions.specs.declared.facts.Facts.{Facts}
 use Rattle.facts_definitions.specs.declared.facts.FlowFault.TheVariants as flows
-use Rattle.facts_definitions.specs.declared.ranks.CallFault.TheVariants as calling
+use Rattle.types_calls.specs.declared.ranks.CallFault.TheVariants as calling
 use Rattle.facts_front.specs.declared.refusal.Refusal.{Refusal as FrontRefusal}
 use Rattle.facts_front.specs.declared.refusal.Refusal.TheVariants as front
 use Rattle.facts_front.specs.Fronts.{RefusesSource}

@@ -1,5 +1,6 @@
 pub mod FileRuns
 pub mod TextRuns
+pub mod Counts
 pub mod Steps
 pub mod RunRuns
 pub mod Charges

@@ -2,12 +2,12 @@
 use Rattle.std.proofs.Common.{◌≡◌, ℕ, ◌+◌, ◌<◌, ◌≤◌, List, [], ◌∷◌, ◌++◌, length, map, drop, get_or, Option, Some, None, refl, sym, ap, subst, ◌∙◌, inl, inr, ⊎_elim, arith, append_assoc, append-nil, drop-cons, add-one}
 use Rattle.std.proofs.lemmas.List.{length-append}
 use Rattle.std.specs.Prelude.{IfSome}
-use Rattle.wcc_base.specs.Outside.{Files, StoreState, bytes_of, told_put, Rose}
+use Rattle.wcc_base.specs.Outside.{Files, bytes_of, told_put}
 use Rattle.wcc_base.specs.Limits.{greatest_of}
 use Rattle.wcc_base.specs.declared.limits.Bound.{Bound}
 use Rattle.wcc_base.specs.declared.status.Status.{Status}
 use Rattle.wcc_base.specs.declared.status.Status.TheVariants as status
-use Rattle.command_perform.specs.Gathering.{Wants, contents_of, Overlong, Gathered, NotGathered, OnlyRead}
+use Rattle.command_perform.specs.Gathering.{Wants, contents_of, Overlong, Gathered, NotGathered}
 use Rattle.command_perform.specs.Finishing.{all_put, IsPart, Partly}
 use Rattle.command_perform.specs.Files.{HasGathered, HasPutFiles}
 
@@ -35,26 +35,16 @@ limited (Some fs) ws left w rest contents which l h o =
     let h' = subst (λ k. HasGathered ws k fs contents) l h in
     h'.overlong which (⊎_elim (λ a. inl a) (λ b. absurd b.1) o)
 
-rose_later : (before mid now : ℕ) → before ≤ mid → Rose mid now → Rose before now
-rose_later before mid now le r = omega arith
-
-pub reads_on : (old mid new : StoreState) → OnlyRead old mid → OnlyRead mid new → OnlyRead old new
-reads_on old mid new a b = record {
-  same = b.same ∙ a.same;
-  later = omega (arith, a.later, b.later);
-  other_faults = b.other_faults ∙ a.other_faults;
-}
-
 pub count_more : {A : Type 0} (xs ys : List A) (x : A) (i : ℕ) → ys ≡ xs ++ x ∷ [] → length xs ≡ i → length ys ≡ i + 1
 count_more xs ys x i e c = omega (arith, ap length e, length-append xs (x ∷ []), c)
 
 -- a further file wasn't read
-pub gather_fails : (old mid new : StoreState) (ws left : Wants) (w : List ℕ × Bound) (rest : Wants) (contents : List (List ℕ)) (s : Status) → OnlyRead old mid → left ≡ w ∷ rest → IfSome old.files (λ fs. HasGathered ws left fs contents) → NotGathered (w ∷ []) mid new s → NotGathered ws old new s
-gather_fails old mid new ws left w rest contents status.ReadFault o l h n = rose_later old.read_faults mid.read_faults new.read_faults o.later n
-gather_fails old mid new ws left w rest contents status.Memory o l h n = tt
-gather_fails old mid new ws left w rest contents (status.Limit which found) o l h n =
-    (n.0, limited old.files ws left w rest contents which l h (subst (λ (k : Option Files). IfSome k (λ fs. Overlong (w ∷ []) fs which)) o.same n.1))
-gather_fails old mid new ws left w rest contents s o l h n = absurd n
+pub gather_fails : (old mid : Option Files) (ws left : Wants) (w : List ℕ × Bound) (rest : Wants) (contents : List (List ℕ)) (s : Status) → mid ≡ old → left ≡ w ∷ rest → IfSome old (λ fs. HasGathered ws left fs contents) → NotGathered (w ∷ []) mid s → NotGathered ws old s
+gather_fails old mid ws left w rest contents status.ReadFault e l h n = tt
+gather_fails old mid ws left w rest contents status.Memory e l h n = tt
+gather_fails old mid ws left w rest contents (status.Limit which found) e l h n =
+    (n.0, limited old ws left w rest contents which l h (subst (λ (k : Option Files). IfSome k (λ fs. Overlong (w ∷ []) fs which)) e n.1))
+gather_fails old mid ws left w rest contents s e l h n = absurd n
 
 pub gather_none : (old : Option Files) (ws : Wants) → IfSome old (λ fs. HasGathered ws ws fs [])
 gather_none None ws = tt

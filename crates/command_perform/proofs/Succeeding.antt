@@ -38,16 +38,16 @@ memory_reported : (wanted : Status) (lines : List ℕ) (out out' : SinkState) (r
 memory_reported wanted lines out out' result r = ⊎_elim (λ a. inr a.0) (⊎_elim (λ a. inr a.0) (λ a. inr a.0)) r
 
 by_ending : (c : Command) (old new : StoreState) (out out' : SinkState) (result s wanted : Status) (lines : List ℕ) → Ending c old new s lines → Reported s lines out out' result → CanEnd (Some c) old wanted → NoFault old new out out' → Succeeds wanted result
-by_ending c old new out out' result s wanted lines (read_fault e r) q p f = absurd (f.reads r)
+by_ending c old new out out' result s wanted lines (read_fault r) q p f = absurd (f.reads r.reads)
 by_ending c old new out out' result s wanted lines (too_long which e o) q p f = let k = both old.files p o in absurd (fits (wanted_of c) k.0 which k.1.0 k.2)
 by_ending c old new out out' result s wanted lines (refused t e i r) q p f =
     let k : CanOnly c r.0 wanted = read_of (λ contents. CanOnly c contents wanted) (wanted_of c) old.files r.0 p r.1 in
     end_reported wanted t lines out out' result (k.refuses t r.2) f.puts q
-by_ending c old new out out' result s wanted lines (whole made i m e) q p f =
+by_ending c old new out out' result s wanted lines (whole made i m e n) q p f =
     let k : CanOnly c m.0 wanted = read_of (λ contents. CanOnly c contents wanted) (wanted_of c) old.files m.0 p m.1 in
     end_reported wanted made.status lines out out' result (k.makes made m.2) f.puts q
-by_ending c old new out out' result s wanted lines (in_part made m p' w) q p f = absurd (f.writes w)
-by_ending c old new out out' result s wanted lines (memory_in_part made m p') q p f = memory_reported wanted lines out out' result q
+by_ending c old new out out' result s wanted lines (in_part made m p' w) q p f = absurd (f.writes w.writes)
+by_ending c old new out out' result s wanted lines (memory_in_part made m p' n) q p f = memory_reported wanted lines out out' result q
 by_ending c old new out out' result s wanted lines (memory e) q p f = memory_reported wanted lines out out' result q
 
 idle_succeeds : (out out' : SinkState) (s result wanted : Status) → IsIdle s → wanted ≡ status.Usage → (Rose out.faults out'.faults → ⊥) → Reported s (line_of s) out out' result → Succeeds wanted result

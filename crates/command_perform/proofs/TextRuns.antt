@@ -32,12 +32,12 @@ cut_at old now new text done h e = record {
 }
 
 -- a further part was put
-pub show_more : (old now new : SinkState) (text left part rest : List ℕ) → left ≡ part ++ rest → new.written ≡ told_append part now.written → now.faults ≤ new.faults → Showing old now text left → Showing old new text rest
-show_more old now new text left part rest l e le h = record {
+pub show_more : (old now new : SinkState) (text left part rest : List ℕ) → left ≡ part ++ rest → new.written ≡ told_append part now.written → new.faults ≡ now.faults → Showing old now text left → Showing old new text rest
+show_more old now new text left part rest l e k h = record {
   front = h.front ++ part;
   split = append_assoc h.front part rest ∙ ap (λ x. h.front ++ x) (sym l) ∙ h.split;
   so_far = e ∙ ap (told_append part) h.so_far ∙ told_append-told_append h.front part old.written;
-  later = omega (arith, le, h.later);
+  faults = k ∙ h.faults;
 }
 
 -- a further part was put in part

@@ -10,7 +10,7 @@ use Rattle.command_perform.specs.Outputs.{Outputs}
 use Rattle.command_perform.specs.StatusLines.{line_of}
 use Rattle.command_perform.specs.Commands.{wanted_of, Refuses, Makes}
 use Rattle.command_perform.specs.Gathering.{Overlong, Gathered, NotGathered}
-use Rattle.command_perform.specs.Finishing.{all_put, Partly, Reported}
+use Rattle.command_perform.specs.Finishing.{all_put, Partly, NoneFailed, WriteFailed, Reported}
 
 -- a file that the command reads passes this limit, and those before it are within theirs, where the store tells them
 abbrev pub OverlongIn : Command → Option Files → Bound → Type 0
@@ -38,15 +38,21 @@ IsEnd status.Done = Unit {0}
 IsEnd (status.Stopped kind code at cycles) = Unit {0}
 IsEnd s = ⊥
 
--- how a command ends, with the status and the lines that are printed, one row for each kind of ending
+-- a fault in reading was counted, and all else of the store is as it was
+pub record ReadFailed (old new : StoreState) : Type 0 where
+  pub same : new.files ≡ old.files
+  pub reads : Rose old.read_faults new.read_faults
+  pub writes : new.write_faults ≡ old.write_faults
+
+-- how a command ends, with the status and the lines that are printed, one row for each kind of ending. Of the counts of faults one rose where a fault is told, and else none
 pub data Ending (c : Command) (old new : StoreState) : Status → List ℕ → Type 0 where
-  read_fault : new.files ≡ old.files → Rose old.read_faults new.read_faults → Ending c old new status.ReadFault (line_of status.ReadFault)
-  too_long : (which : Bound) → new.files ≡ old.files → OverlongIn c old.files which → Ending c old new (status.Limit which (greatest_of which + 1)) (line_of (status.Limit which (greatest_of which + 1)))
-  refused : (s : Status) → new.files ≡ old.files → IsRefusal s → RefusesIn c old.files s → Ending c old new s (line_of s)
-  whole : (made : Outputs) → IsEnd made.status → MakesIn c old.files made → new.files ≡ all_put made.files old.files → Ending c old new made.status made.lines
-  in_part : (made : Outputs) → MakesIn c old.files made → Partly made.files old.files new.files → Rose old.write_faults new.write_faults → Ending c old new status.WriteFault (line_of status.WriteFault)
-  memory_in_part : (made : Outputs) → MakesIn c old.files made → Partly made.files old.files new.files → Ending c old new status.Memory (line_of status.Memory)
-  memory : new.files ≡ old.files → Ending c old new status.Memory (line_of status.Memory)
+  read_fault : ReadFailed old new → Ending c old new status.ReadFault (line_of status.ReadFault)
+  too_long : (which : Bound) → new ≡ old → OverlongIn c old.files which → Ending c old new (status.Limit which (greatest_of which + 1)) (line_of (status.Limit which (greatest_of which + 1)))
+  refused : (s : Status) → new ≡ old → IsRefusal s → RefusesIn c old.files s → Ending c old new s (line_of s)
+  whole : (made : Outputs) → IsEnd made.status → MakesIn c old.files made → new.files ≡ all_put made.files old.files → NoneFailed old new → Ending c old new made.status made.lines
+  in_part : (made : Outputs) → MakesIn c old.files made → Partly made.files old.files new.files → WriteFailed old new → Ending c old new status.WriteFault (line_of status.WriteFault)
+  memory_in_part : (made : Outputs) → MakesIn c old.files made → Partly made.files old.files new.files → NoneFailed old new → Ending c old new status.Memory (line_of status.Memory)
+  memory : new ≡ old → Ending c old new status.Memory (line_of status.Memory)
 
 -- how a call ends that does no command: the words ask for none, or memory ran out in reading them
 abbrev pub IsIdle : Status → Type 0
@@ -60,5 +66,5 @@ EndsWith None old new out out' result = (s : Status) × IsIdle s × (new ≡ old
 EndsWith (Some c) old new out out' result = (s : Status) × (lines : List ℕ) × Ending c old new s lines × Reported s lines out out' result
 
 -- why nothing is made: the files weren't read, or memory ran out, or they are refused
-abbrev pub Fails : Command → StoreState → StoreState → Status → Type 0
-Fails c old new s = NotGathered (wanted_of c) old new s ⊎ ((s ≡ status.Memory) ⊎ (IsRefusal s × RefusesIn c old.files s))
+abbrev pub Fails : Command → Option Files → Status → Type 0
+Fails c files s = NotGathered (wanted_of c) files s ⊎ ((s ≡ status.Memory) ⊎ (IsRefusal s × RefusesIn c files s))

@@ -4,8 +4,8 @@ use Rattle.wcc_base.specs.Outside.{Files, StoreState, SinkState, bytes_of, told_
 use Rattle.wcc_base.specs.declared.limits.Bound.{Bound}
 use Rattle.command_perform.specs.declared.files.Reading.{Reading}
 use Rattle.command_perform.specs.declared.files.Reading.TheVariants.{Whole, TooLong}
-use Rattle.command_perform.specs.Gathering.{Wants, contents_of, Fit, Overlong, OnlyRead}
-use Rattle.command_perform.specs.Finishing.{all_put, Partly}
+use Rattle.command_perform.specs.Gathering.{Wants, contents_of, Fit, Overlong}
+use Rattle.command_perform.specs.Finishing.{all_put, Partly, NoneFailed}
 
 -- what is read of these bytes
 abbrev pub IsReading : List ℕ → ℕ → Reading → Type 0
@@ -23,8 +23,7 @@ pub record HasRead (old now : StoreState) (name bytes : List ℕ) (most room : �
   pub within : length bytes ≤ most
   pub whole_buffer : room ≡ 65536
   pub same : now.files ≡ old.files
-  pub later : old.read_faults ≤ now.read_faults
-  pub no_other : now.write_faults ≡ old.write_faults
+  pub counts : NoneFailed old now
 
 -- the files of a first part of a list were read
 pub record HasGathered (ws rest : Wants) (fs : Files) (contents : List (List ℕ)) : Type 0 where
@@ -36,14 +35,14 @@ pub record HasGathered (ws rest : Wants) (fs : Files) (contents : List (List ℕ
 pub record Gathering (ws rest : Wants) (old now : StoreState) (contents : List (List ℕ)) (index : ℕ) : Type 0 where
   pub gathered : IfSome old.files (λ fs. HasGathered ws rest fs contents)
   pub count : length contents ≡ index
-  pub reads : OnlyRead old now
+  pub same : now.files ≡ old.files
+  pub counts : NoneFailed old now
 
 -- part of a file was written
 pub record HasWritten (old now : StoreState) (name bytes : List ℕ) (done : ℕ) : Type 0 where
   pub so_far : now.files ≡ told_put name (take done bytes) old.files
   pub within : done ≤ length bytes
-  pub later : old.write_faults ≤ now.write_faults
-  pub no_other : now.read_faults ≡ old.read_faults
+  pub counts : NoneFailed old now
 
 -- files in order, of which the first ones were written
 pub record HasPutFiles (files rest : List (List ℕ × List ℕ)) (old now : Option Files) : Type 0 where
@@ -53,18 +52,17 @@ pub record HasPutFiles (files rest : List (List ℕ × List ℕ)) (old now : Opt
 -- what stands between two files that are written
 pub record Putting (files rest : List (List ℕ × List ℕ)) (old now : StoreState) : Type 0 where
   pub put : HasPutFiles files rest old.files now.files
-  pub later : old.write_faults ≤ now.write_faults
-  pub no_other : now.read_faults ≡ old.read_faults
+  pub counts : NoneFailed old now
 
 -- part of a text was put
 pub record HasPut (old now : SinkState) (text : List ℕ) (done : ℕ) : Type 0 where
   pub so_far : now.written ≡ told_append (take done text) old.written
   pub within : done ≤ length text
-  pub later : old.faults ≤ now.faults
+  pub faults : now.faults ≡ old.faults
 
 -- what stands between two parts of a text
 pub record Showing (old now : SinkState) (text rest : List ℕ) : Type 0 where
   pub front : List ℕ
   pub split : front ++ rest ≡ text
   pub so_far : now.written ≡ told_append front old.written
-  pub later : old.faults ≤ now.faults
+  pub faults : now.faults ≡ old.faults

@@ -1,6 +1,6 @@
 -- The files that a command reads, each with its limit.
-use Rattle.std.specs.Prelude.{◌≡◌, ℕ, ◌+◌, ◌<◌, ◌≤◌, ◌⊎◌, List, [], ◌∷◌, length, IfSome, Option}
-use Rattle.wcc_base.specs.Outside.{Files, StoreState, bytes_of, Rose}
+use Rattle.std.specs.Prelude.{◌≡◌, ℕ, ◌+◌, ◌<◌, ◌≤◌, ◌⊎◌, List, [], ◌∷◌, length, IfSome, Option, Result, Err}
+use Rattle.wcc_base.specs.Outside.{Files, StoreState, bytes_of, raised}
 use Rattle.wcc_base.specs.Limits.{greatest_of}
 use Rattle.wcc_base.specs.declared.limits.Bound.{Bound}
 use Rattle.wcc_base.specs.declared.status.Status.{Status}
@@ -35,14 +35,19 @@ abbrev pub Gathered : Wants → Option Files → List (List ℕ) → Type 0
 Gathered ws files contents = IfSome files (λ fs. (contents ≡ contents_of ws fs) × Fit ws fs)
 
 -- why they weren't: a fault, a limit, of which one more is found, or want of memory
-abbrev pub NotGathered : Wants → StoreState → StoreState → Status → Type 0
-NotGathered ws old new status.ReadFault = Rose old.read_faults new.read_faults
-NotGathered ws old new (status.Limit which found) = (found ≡ greatest_of which + 1) × IfSome old.files (λ fs. Overlong ws fs which)
-NotGathered ws old new status.Memory = Unit {0}
-NotGathered ws old new s = ⊥
+abbrev pub NotGathered : Wants → Option Files → Status → Type 0
+NotGathered ws files status.ReadFault = Unit {0}
+NotGathered ws files (status.Limit which found) = (found ≡ greatest_of which + 1) × IfSome files (λ fs. Overlong ws fs which)
+NotGathered ws files status.Memory = Unit {0}
+NotGathered ws files s = ⊥
 
--- the store was read and not written
-pub record OnlyRead (old new : StoreState) : Type 0 where
+-- the count of faults in reading behind a step: raised exactly where such a fault is its status
+abbrev pub reads_counted : {T : Type 0} → ℕ → Result T Status → ℕ
+reads_counted n (Err status.ReadFault) = raised n
+reads_counted n result = n
+
+-- the store was read and not written, and a fault was counted exactly where the step tells it
+pub record OnlyRead {T : Type 0} (old new : StoreState) (result : Result T Status) : Type 0 where
   pub same : new.files ≡ old.files
-  pub later : old.read_faults ≤ new.read_faults
-  pub other_faults : new.write_faults ≡ old.write_faults
+  pub reads : new.read_faults ≡ reads_counted old.read_faults result
+  pub writes : new.write_faults ≡ old.write_faults

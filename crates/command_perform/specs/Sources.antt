@@ -13,8 +13,8 @@ use Rattle.types_rules.specs.declared.fault.TypeFault.{TypeFault}
 use Rattle.types_rules.specs.declared.fault.TypeFault.TheVariants as typing
 use Rattle.facts_definitions.specs.declared.facts.FlowFault.{FlowFault}
 use Rattle.facts_definitions.specs.declared.facts.FlowFault.TheVariants as flows
-use Rattle.facts_definitions.specs.declared.ranks.CallFault.{CallFault}
-use Rattle.facts_definitions.specs.declared.ranks.CallFault.TheVariants as calling
+use Rattle.types_calls.specs.declared.ranks.CallFault.{CallFault}
+use Rattle.types_calls.specs.declared.ranks.CallFault.TheVariants as calling
 use Rattle.facts_front.specs.declared.refusal.Refusal.{Refusal}
 use Rattle.facts_front.specs.declared.refusal.Refusal.TheVariants.{TooLong, Lex, Parse, Types, Calls, Flow, Memory}
 use Rattle.facts_front.specs.Fronts.{RefusesSource}

@@ -1,6 +1,6 @@
 // Whole files, read and written.
 ghost use Rattle.std.specs.Prelude.{◌≡◌, ◌⊎◌, ◌<◌, ◌+◌, ◌^◌, ℕ, IsErrOf, length, take, IfSome, IfOk, OnOk, OnErr};
-ghost use Rattle.wcc_base.specs.Outside.{bytes_of, told_put, HasCause};
+ghost use Rattle.wcc_base.specs.Outside.{bytes_of, told_put, CountsRead, CountsWrite};
 ghost use Rattle.command_perform.specs.Files.{IsReading, GoesOn};
 ghost use Rattle.command_perform.specs.Finishing.{IsPart};
 
@@ -39,8 +39,7 @@ fn read_more<S: Store>(
     ensures read { IfOk result (λ n. IfSome (S.state store.old).files
         (λ fs. GoesOn (bytes_of fs name.now) bytes.old.items bytes.new.items n)) }
     ensures same { (S.state store.new).files ≡ (S.state store.old).files }
-    ensures cause { HasCause (S.state store.old).read_faults (S.state store.new).read_faults result }
-    ensures other_faults { (S.state store.new).write_faults ≡ (S.state store.old).write_faults }
+    ensures counts { CountsRead (S.state store.old) (S.state store.new) result }
 {
     match store.read_at(name, bytes.len() as u64, buffer) {
         Ok(count) => match bytes.extend_from_slice(&buffer[..count]) {
@@ -61,8 +60,7 @@ pub fn read_all<S: Store>(
     requires { most < 2 ^ 62 }
     ensures read { IfOk result (λ r. IfSome (S.state store.old).files (λ fs. IsReading (bytes_of fs name.now) most r)) }
     ensures same { (S.state store.new).files ≡ (S.state store.old).files }
-    ensures cause { HasCause (S.state store.old).read_faults (S.state store.new).read_faults result }
-    ensures other_faults { (S.state store.new).write_faults ≡ (S.state store.old).write_faults }
+    ensures counts { CountsRead (S.state store.old) (S.state store.new) result }
 {
     let mut bytes = Vec::new(alloc);
     let mut buffer = match make_buffer(alloc) {
@@ -83,8 +81,7 @@ pub fn read_all<S: Store>(
 pub fn write_all<S: Store>(store: &mut S, name: &str, bytes: &[u8]) -> Result<(), Fault>
     ensures ok { OnOk result ((S.state store.new).files ≡ told_put name.now bytes.now (S.state store.old).files) }
     ensures err { OnErr result (IsPart name.now bytes.now (S.state store.old).files (S.state store.new).files) }
-    ensures cause { HasCause (S.state store.old).write_faults (S.state store.new).write_faults result }
-    ensures other_faults { (S.state store.new).read_faults ≡ (S.state store.old).read_faults }
+    ensures counts { CountsWrite (S.state store.old) (S.state store.new) result }
 {
     match store.begin(name) {
         Ok(()) => {}

@@ -1,6 +1,6 @@
 // The last step of a command: it alone writes files and prints lines. It takes no memory of its own.
 ghost use Rattle.std.specs.Prelude.{◌≡◌, map, OnOk, OnErr, MatchResult};
-ghost use Rattle.wcc_base.specs.Outside.{HasCause};
+ghost use Rattle.wcc_base.specs.Outside.{CountsWrite};
 ghost use Rattle.command_perform.specs.Outputs.{outputs_of, file_of_output};
 ghost use Rattle.command_perform.specs.StatusLines.{line_of};
 ghost use Rattle.command_perform.specs.Finishing.{all_put, Partly, Reported, Finished};
@@ -15,8 +15,7 @@ use wcc_base::{Fault, Sink, Status, Store};
 fn write_each<S: Store>(store: &mut S, files: &[Output]) -> Result<(), Fault>
     ensures ok { OnOk result ((S.state store.new).files ≡ all_put (map file_of_output files.now) (S.state store.old).files) }
     ensures err { OnErr result (Partly (map file_of_output files.now) (S.state store.old).files (S.state store.new).files) }
-    ensures cause { HasCause (S.state store.old).write_faults (S.state store.new).write_faults result }
-    ensures other_faults { (S.state store.new).read_faults ≡ (S.state store.old).read_faults }
+    ensures counts { CountsWrite (S.state store.old) (S.state store.new) result }
 {
     'files: for file in files {
         match write_all(store, file.name, file.bytes.as_slice()) {
@@ -29,8 +28,7 @@ fn write_each<S: Store>(store: &mut S, files: &[Output]) -> Result<(), Fault>
 
 // Writes what was made, and prints its lines.
 fn finish_made<S: Store, O: Sink>(store: &mut S, out: &mut O, made: Made) -> Status
-    ensures done { Finished (outputs_of made.entry) (S.state store.old) (S.state store.new) (O.state out.old) (O.state out.new) result }
-    ensures reads { (S.state store.new).read_faults ≡ (S.state store.old).read_faults }
+    ensures { Finished (outputs_of made.entry) (S.state store.old) (S.state store.new) (O.state out.old) (O.state out.new) result }
 {
     match write_each(store, &made.files) {
         Ok(()) => report_text(out, made.status, made.lines.as_slice()),
@@ -41,10 +39,9 @@ fn finish_made<S: Store, O: Sink>(store: &mut S, out: &mut O, made: Made) -> Sta
 
 /// Writes and prints what was made, or prints why nothing was.
 pub fn finish<S: Store, O: Sink>(store: &mut S, out: &mut O, made: Result<Made, Status>) -> Status
-    ensures done { MatchResult made.entry
+    ensures { MatchResult made.entry
         (λ m. Finished (outputs_of m) (S.state store.old) (S.state store.new) (O.state out.old) (O.state out.new) result)
         (λ s. (S.state store.new ≡ S.state store.old) × Reported s (line_of s) (O.state out.old) (O.state out.new) result) }
-    ensures reads { (S.state store.new).read_faults ≡ (S.state store.old).read_faults }
 {
     match made {
         Ok(made) => finish_made(store, out, made),

@@ -30,8 +30,8 @@ fn want<'a>(name: &'a str, which: Bound) -> Wanted<'a>
 fn read_wanted<S: Store>(alloc: Global, store: &mut S, file: Wanted) -> Result<Items<u8>, Status>
     ensures files { MatchResult result
         (λ bytes. IfSome (S.state store.old).files (λ fs. (bytes ≡ bytes_of fs file.entry.name.now) × (length (bytes_of fs file.entry.name.now) ≤ greatest_of file.entry.which)))
-        (λ s. NotGathered (wanted file.entry ∷ []) (S.state store.old) (S.state store.new) s) }
-    ensures reads { OnlyRead (S.state store.old) (S.state store.new) }
+        (λ s. NotGathered (wanted file.entry ∷ []) (S.state store.old).files s) }
+    ensures reads { OnlyRead (S.state store.old) (S.state store.new) result }
 {
     match read_all(alloc, store, file.name, limit_of(file.which) as usize) {
         Ok(Reading::Whole(bytes)) => Ok(Items::new(bytes)),
@@ -52,9 +52,9 @@ fn read_each<S: Store>(
 ) -> Result<Vec<Items<u8>>, Status>
     ensures files { MatchResult result
         (λ contents. Gathered (map wanted files.now) (S.state store.old).files contents.items)
-        (λ s. NotGathered (map wanted files.now) (S.state store.old) (S.state store.new) s) }
+        (λ s. NotGathered (map wanted files.now) (S.state store.old).files s) }
     ensures count { IfOk result (λ contents. length contents.items ≡ length files.now) }
-    ensures reads { OnlyRead (S.state store.old) (S.state store.new) }
+    ensures reads { OnlyRead (S.state store.old) (S.state store.new) result }
 {
     let mut contents = Vec::new(alloc);
     'files: for file in files {
@@ -79,9 +79,9 @@ fn read_charged<S: Store>(
 ) -> Result<Vec<Items<u8>>, Status>
     ensures files { MatchResult result
         (λ contents. Gathered (wanted file.entry ∷ wanted_table (table_name table.entry)) (S.state store.old).files contents.items)
-        (λ s. NotGathered (wanted file.entry ∷ wanted_table (table_name table.entry)) (S.state store.old) (S.state store.new) s) }
+        (λ s. NotGathered (wanted file.entry ∷ wanted_table (table_name table.entry)) (S.state store.old).files s) }
     ensures count { IfOk result (λ contents. length contents.items ≡ 1 + length (wanted_table (table_name table.entry))) }
-    ensures reads { OnlyRead (S.state store.old) (S.state store.new) }
+    ensures reads { OnlyRead (S.state store.old) (S.state store.new) result }
 {
     match table {
         Some(table) => read_each(alloc, store, &[file, want(table, Bound::Table)]),
@@ -98,9 +98,9 @@ fn read_two_charged<S: Store>(
 ) -> Result<Vec<Items<u8>>, Status>
     ensures files { MatchResult result
         (λ contents. Gathered (wanted files.entry.0 ∷ wanted files.entry.1 ∷ wanted_table (table_name table.entry)) (S.state store.old).files contents.items)
-        (λ s. NotGathered (wanted files.entry.0 ∷ wanted files.entry.1 ∷ wanted_table (table_name table.entry)) (S.state store.old) (S.state store.new) s) }
+        (λ s. NotGathered (wanted files.entry.0 ∷ wanted files.entry.1 ∷ wanted_table (table_name table.entry)) (S.state store.old).files s) }
     ensures count { IfOk result (λ contents. length contents.items ≡ 2 + length (wanted_table (table_name table.entry))) }
-    ensures reads { OnlyRead (S.state store.old) (S.state store.new) }
+    ensures reads { OnlyRead (S.state store.old) (S.state store.new) result }
 {
     let (first, second) = files;
     match table {
@@ -117,9 +117,9 @@ pub fn gather<S: Store>(
 ) -> Result<Vec<Items<u8>>, Status>
     ensures files { MatchResult result
         (λ contents. Gathered (wanted_of (command_of command.entry)) (S.state store.old).files contents.items)
-        (λ s. NotGathered (wanted_of (command_of command.entry)) (S.state store.old) (S.state store.new) s) }
+        (λ s. NotGathered (wanted_of (command_of command.entry)) (S.state store.old).files s) }
     ensures count { IfOk result (λ contents. length contents.items ≡ length (wanted_of (command_of command.entry))) }
-    ensures reads { OnlyRead (S.state store.old) (S.state store.new) }
+    ensures reads { OnlyRead (S.state store.old) (S.state store.new) result }
 {
     match command {
         Command::Compile(asked) => {

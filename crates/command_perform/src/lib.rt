@@ -4,9 +4,10 @@
 //! asks, writes what is made, and prints how it ended. It is the whole of the program but for the
 //! promise that `wcc` draws from it.
 //!
-//! Proved, for every store and every sink: what became of the files and of the printed lines at each
-//! status, and why (`specs/Ends`). What a command refuses and what it makes are two relations over
-//! contents (`specs/Commands`); that some leave one status only are laws.
+//! Proved, for every store and every sink: what became of the files, of the counts of faults and of the
+//! printed lines at each status, and why (`specs/Ends`). So no fault is told as want of memory. What a
+//! command refuses and what it makes are two relations over contents (`specs/Commands`); that some leave
+//! one status only are laws.
 #![tactic(auto)]
 
 mod check;

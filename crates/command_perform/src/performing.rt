@@ -24,8 +24,8 @@ fn work<'a, C: Compiler, S: Store>(
 ) -> Result<Made<'a>, Status>
     ensures made { MatchResult result
         (λ m. IsEnd m.status × MakesIn (command_of command.entry) (S.state store.old).files (outputs_of m))
-        (λ s. Fails (command_of command.entry) (S.state store.old) (S.state store.new) s) }
-    ensures reads { OnlyRead (S.state store.old) (S.state store.new) }
+        (λ s. Fails (command_of command.entry) (S.state store.old).files s) }
+    ensures reads { OnlyRead (S.state store.old) (S.state store.new) result }
 {
     match gather(alloc, store, command) {
         Ok(contents) => make(compiler, alloc, command, contents),

@@ -1,6 +1,6 @@
 // The lines that a call prints. Printing takes no memory of its own.
 ghost use Rattle.std.specs.Prelude.{◌≡◌, IfOk, OnOk, OnErr};
-ghost use Rattle.wcc_base.specs.Outside.{HasCause, told_append};
+ghost use Rattle.wcc_base.specs.Outside.{counted, told_append};
 ghost use Rattle.command_perform.specs.Lines.{shown, all_shown};
 ghost use Rattle.command_perform.specs.Finishing.{IsCut, Reported, unprinted};
 
@@ -13,7 +13,7 @@ use wcc_base::{CalmSink, Fault, Memory, Sink, Status};
 fn put_all<O: Sink>(out: &mut O, bytes: &[u8]) -> Result<(), Fault>
     ensures ok { OnOk result ((O.state out.new).written ≡ told_append bytes.now (O.state out.old).written) }
     ensures err { OnErr result (IsCut bytes.now (O.state out.old) (O.state out.new)) }
-    ensures cause { HasCause (O.state out.old).faults (O.state out.new).faults result }
+    ensures counts { (O.state out.new).faults ≡ counted (O.state out.old).faults result }
 {
     let mut done = 0;
     while done < bytes.len() {
@@ -29,7 +29,7 @@ fn put_all<O: Sink>(out: &mut O, bytes: &[u8]) -> Result<(), Fault>
 fn put_part<O: Sink>(out: &mut O, part: &Part) -> Result<(), Fault>
     ensures ok { OnOk result ((O.state out.new).written ≡ told_append (shown part.now) (O.state out.old).written) }
     ensures err { OnErr result (IsCut (shown part.now) (O.state out.old) (O.state out.new)) }
-    ensures cause { HasCause (O.state out.old).faults (O.state out.new).faults result }
+    ensures counts { (O.state out.new).faults ≡ counted (O.state out.old).faults result }
 {
     let mut buffer = Buffer::new();
     match part {
@@ -44,7 +44,7 @@ fn put_part<O: Sink>(out: &mut O, part: &Part) -> Result<(), Fault>
 fn put_lines<O: Sink>(out: &mut O, lines: &[Part]) -> Result<(), Fault>
     ensures ok { OnOk result ((O.state out.new).written ≡ told_append (all_shown lines.now) (O.state out.old).written) }
     ensures err { OnErr result (IsCut (all_shown lines.now) (O.state out.old) (O.state out.new)) }
-    ensures cause { HasCause (O.state out.old).faults (O.state out.new).faults result }
+    ensures counts { (O.state out.new).faults ≡ counted (O.state out.old).faults result }
 {
     'lines: for part in lines {
         match put_part(out, part) {

@@ -5,8 +5,9 @@ ghost use Rattle.command_perform.specs.Sources.{lex_status, parse_status, rule_n
 
 use c_lexer::LexFault;
 use c_parser::ParseFault;
-use facts_definitions::{CallFault, FlowFault};
+use facts_definitions::FlowFault;
 use facts_front::Refusal;
+use types_calls::CallFault;
 use types_rules::{Rule, TypeFault};
 use wcc_base::{Bound, Status};
 

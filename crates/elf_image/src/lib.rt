@@ -21,8 +21,6 @@ mod laws;
 mod reading;
 mod segments;
 mod sorting;
-#[cfg(test)]
-mod tests;
 mod writing;
 
 pub use fault::ElfFault;

@@ -1,8 +1,8 @@
 -- The facts of a program, or the first fault in its pragmas and loops.
 use Rattle.std.specs.Prelude.{◌≡◌, ℕ, ◌+◌, ◌^◌, ◌≤◌, nat_eq, nat_lt, Bool, true, false, not, ◌&&◌, ◌||◌, if◌then◌else◌, List, [], ◌∷◌, map, codes, Option, Some, None, is_some, Result, Ok, Err}
 use Rattle.std.specs.List.{list_any, All}
-use Rattle.facts_definitions.specs.Calls.{graph_of}
-use Rattle.facts_definitions.specs.Chains.{AreRanks}
+use Rattle.types_calls.specs.Calls.{graph_of}
+use Rattle.types_calls.specs.Chains.{AreRanks}
 use Rattle.facts_definitions.specs.Most.{cut, most_of, no_bounds}
 use Rattle.facts_definitions.specs.PragmaTexts.{Written, WrittenTerm, loop_bounds, marker_name, restriction, same_bytes}
 use Rattle.facts_definitions.specs.Sites.{sites_of}
@@ -13,7 +13,7 @@ use Rattle.facts_definitions.specs.declared.facts.FlowFault.{FlowFault}
 use Rattle.facts_definitions.specs.declared.facts.FlowFault.TheVariants.{BadPragma, UnknownName, NoBound, TooOften, Memory}
 use Rattle.facts_definitions.specs.declared.facts.Restriction.{Restriction}
 use Rattle.facts_definitions.specs.declared.facts.Term.{Term}
-use Rattle.facts_definitions.specs.declared.ranks.Ranks.{Ranks}
+use Rattle.types_calls.specs.declared.ranks.Ranks.{Ranks}
 use Rattle.facts_definitions.specs.declared.site.Site.{Site}
 use Rattle.facts_definitions.specs.declared.site.Site.TheVariants as sites
 use Rattle.c_tree.specs.declared.expression.NameId.{NameId}

@@ -1,5 +1,3 @@
-pub mod Calls
-pub mod Chains
 pub mod PragmaTexts
 pub mod Sites
 pub mod Starts

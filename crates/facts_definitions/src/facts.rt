@@ -1,6 +1,6 @@
-use super::ranks::Ranks;
 use c_tree::expression::NameId;
 use thiserror::Error;
+use types_calls::Ranks;
 use wcc_base::{Compare, Items};
 
 /// From how many up to how many times each entry of a loop starts its body.

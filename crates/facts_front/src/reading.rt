@@ -3,8 +3,8 @@ ghost use Rattle.std.specs.Prelude.{◌≡◌, ◌≤◌, ℕ, List, length, IfE
 ghost use Rattle.c_lexer.specs.Cut.{HasTokens};
 ghost use Rattle.c_tree.specs.Units.{tree_of};
 ghost use Rattle.types_tree.specs.View.{program_of};
-ghost use Rattle.facts_definitions.specs.Calls.{graph_of};
-ghost use Rattle.facts_definitions.specs.Chains.{AreRanks};
+ghost use Rattle.types_calls.specs.Calls.{graph_of};
+ghost use Rattle.types_calls.specs.Chains.{AreRanks};
 ghost use Rattle.facts_front.specs.Fronts.{fault_place, cycle_place, HasUnit, HasProgram, HasFacts, IsSource, Fails};
 
 use crate::refusal::Refusal;
@@ -13,9 +13,10 @@ use c_parser::{ParseFault, parse};
 use c_tree::{Token, Tokens, Unit};
 use c_types::{Typed, check};
 use call_graph::ranks;
-use facts_definitions::{CallFault, Facts, FlowFault, Ranks};
+use facts_definitions::{Facts, FlowFault};
 use flow_facts::facts;
 use std::alloc::Global;
+use types_calls::{CallFault, Ranks};
 use types_rules::TypeFault;
 use types_tree::program::Program;
 

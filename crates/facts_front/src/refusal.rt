@@ -2,7 +2,8 @@
 
 use c_lexer::LexFault;
 use c_parser::ParseFault;
-use facts_definitions::{CallFault, FlowFault};
+use facts_definitions::FlowFault;
+use types_calls::CallFault;
 use types_rules::TypeFault;
 
 /// Why a source has no program with facts: the fault of the first step that refuses it. Want of

@@ -16,15 +16,15 @@ use Rattle.c_parser.specs.declared.fault.ParseFault.TheVariants as parsing
 use Rattle.c_parser.proofs.Refusals.{only_memory}
 use Rattle.types_rules.specs.declared.fault.TypeFault.{TypeFault}
 use Rattle.types_rules.specs.declared.fault.TypeFault.TheVariants as typing
-use Rattle.facts_definitions.specs.Calls.{Graph, graph_of}
-use Rattle.facts_definitions.specs.Chains.{AreRanks, IsCallFault}
+use Rattle.types_calls.specs.Calls.{Graph, graph_of}
+use Rattle.types_calls.specs.Chains.{AreRanks, IsCallFault}
 use Rattle.facts_definitions.specs.FlowFacts.{flow_facts, IsFlowFault}
 use Rattle.facts_definitions.specs.declared.facts.Facts.{Facts}
 use Rattle.facts_definitions.specs.declared.facts.FlowFault.{FlowFault}
 use Rattle.facts_definitions.specs.declared.facts.FlowFault.TheVariants as flowing
-use Rattle.facts_definitions.specs.declared.ranks.CallFault.{CallFault}
-use Rattle.facts_definitions.specs.declared.ranks.CallFault.TheVariants as calling
-use Rattle.facts_definitions.specs.declared.ranks.Ranks.{Ranks}
+use Rattle.types_calls.specs.declared.ranks.CallFault.{CallFault}
+use Rattle.types_calls.specs.declared.ranks.CallFault.TheVariants as calling
+use Rattle.types_calls.specs.declared.ranks.Ranks.{Ranks}
 use Rattle.facts_front.specs.declared.refusal.Refusal.{Refusal}
 use Rattle.facts_front.specs.declared.refusal.Refusal.TheVariants.{TooLong, Lex, Parse, Types, Calls, Flow, Memory}
 use Rattle.facts_front.specs.Fronts.{HasUnit, HasProgram, HasFacts, IsSource, RefusesTokens, RefusesUnit, RefusesCalls, RefusesFlow, RefusesSource, fault_place, cycle_place}

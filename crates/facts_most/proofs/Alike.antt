@@ -1,8 +1,8 @@
 -- Counts depend on those of the functions that are called alone: what is alike of these is alike of all.
 use Rattle.std.proofs.Common.{refl, ℕ, ◌+◌, ◌*◌, List, [], ◌∷◌, ◌++◌, inl, inr, Bool, true, false}
 use Rattle.std.specs.Prelude.{Option, Some, None, if◌then◌else◌}
-use Rattle.facts_definitions.specs.Calls.{called, declaration_calls, expr_calls, exprs_calls, function_calls, initial_calls, items_calls, label_calls, object_calls, objects_calls, option_calls, param_calls, params_calls, place_calls, shape_calls, start_calls, statement_calls}
-use Rattle.facts_definitions.specs.Chains.{Among}
+use Rattle.types_calls.specs.Calls.{called, declaration_calls, expr_calls, exprs_calls, function_calls, initial_calls, items_calls, label_calls, object_calls, objects_calls, option_calls, param_calls, params_calls, place_calls, shape_calls, start_calls, statement_calls}
+use Rattle.types_calls.specs.Chains.{Among}
 use Rattle.facts_definitions.specs.Most.{bounds_at, call_most, declaration_most, expr_most, exprs_most, filling_most, function_most, initial_most, is_lone_void, items_most, label_most, list_most, object_most, objects_most, option_most, param_most, params_most, place_most, shape_most, start_most, statement_most, times}
 use Rattle.facts_definitions.specs.Starts.{is_always, is_always_or_absent}
 use Rattle.facts_definitions.specs.declared.facts.Bounds.{Bounds}

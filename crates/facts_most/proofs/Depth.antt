@@ -2,8 +2,8 @@
 use Rattle.std.proofs.Common.{◌≡◌, refl, ap, ◌∙◌, sym, subst, ℕ, zero, suc, ◌+◌, ◌*◌, ◌<◌, ◌≤◌, List, [], ◌∷◌, length, map, get_or, ◌⊎◌, inl, inr, arith, Bool, true, false}
 use Rattle.std.proofs.lemmas.Bool.{false≢true, lt-ltb}
 use Rattle.std.specs.Prelude.{Option, Some, None, slice_get, nat_lt, if◌then◌else◌}
-use Rattle.facts_definitions.specs.Calls.{calls_below, function_calls, graph_of}
-use Rattle.facts_definitions.specs.Chains.{Among, AreRanks}
+use Rattle.types_calls.specs.Calls.{calls_below, function_calls, graph_of}
+use Rattle.types_calls.specs.Chains.{Among, AreRanks}
 use Rattle.facts_definitions.specs.Most.{cut, function_most, most_of, most_within}
 use Rattle.facts_definitions.specs.declared.facts.Bounds.{Bounds}
 use Rattle.types_tree.specs.Tree.{Function, Program}

@@ -2,8 +2,8 @@
 use Rattle.std.proofs.Common.{◌≡◌, ◌≢◌, refl, ap, ◌∙◌, sym, ℕ, zero, suc, ◌+◌, ◌<◌, ◌≤◌, List, [], ◌∷◌, length, map, get_or, set, ◌⊎◌, inl, inr, arith}
 use Rattle.std.specs.Prelude.{Some, slice_get}
 use Rattle.std.proofs.lemmas.List.{get_or-set_same, get_or-set_other, length-set}
-use Rattle.facts_definitions.specs.Calls.{function_calls, graph_of}
-use Rattle.facts_definitions.specs.Chains.{Among, AreRanks}
+use Rattle.types_calls.specs.Calls.{function_calls, graph_of}
+use Rattle.types_calls.specs.Chains.{Among, AreRanks}
 use Rattle.facts_definitions.specs.Most.{cut, function_most, most_of, most_within}
 use Rattle.facts_definitions.specs.declared.facts.Bounds.{Bounds}
 use Rattle.types_tree.specs.Tree.{Function, Program}

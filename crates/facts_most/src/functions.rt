@@ -1,8 +1,8 @@
 // How often the nodes of functions are executed at most, those that are called before those that call them.
 ghost use Rattle.std.specs.Prelude.{◌≡◌, ◌<◌, ◌≤◌, ◌+◌, ℕ, length, IfOk, Some};
 ghost use Rattle.std.proofs.Math.ListN.{get_or, set};
-ghost use Rattle.facts_definitions.specs.Calls.{graph_of};
-ghost use Rattle.facts_definitions.specs.Chains.{AreRanks};
+ghost use Rattle.types_calls.specs.Calls.{graph_of};
+ghost use Rattle.types_calls.specs.Chains.{AreRanks};
 ghost use Rattle.facts_definitions.specs.Most.{cut, function_most, most_of};
 ghost use Rattle.types_tree.specs.View.{function_of, program_of};
 ghost use Rattle.facts_most.specs.Items.{calls_by};

@@ -10,7 +10,7 @@ use Rattle.facts_definitions.specs.declared.facts.Derived.{Derived}
 use Rattle.facts_definitions.specs.declared.facts.Facts.{Facts}
 use Rattle.facts_definitions.specs.declared.facts.FlowFault.{FlowFault}
 use Rattle.facts_definitions.specs.declared.facts.FlowFault.TheVariants.{BadPragma, UnknownName, NoBound, TooOften, Memory}
-use Rattle.facts_definitions.specs.declared.ranks.Ranks.{Ranks}
+use Rattle.types_calls.specs.declared.ranks.Ranks.{Ranks}
 use Rattle.facts_definitions.specs.declared.site.Site.{Site}
 use Rattle.types_tree.specs.Tree.{Program}
 use Rattle.flow_facts.specs.Making.{facts_with, sound_outcome}

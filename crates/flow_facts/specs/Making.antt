@@ -5,7 +5,7 @@ use Rattle.facts_definitions.specs.declared.facts.Bounds.{Bounds}
 use Rattle.facts_definitions.specs.declared.facts.Derived.{Derived}
 use Rattle.facts_definitions.specs.declared.facts.Facts.{Facts}
 use Rattle.facts_definitions.specs.declared.facts.FlowFault.{FlowFault}
-use Rattle.facts_definitions.specs.declared.ranks.Ranks.{Ranks}
+use Rattle.types_calls.specs.declared.ranks.Ranks.{Ranks}
 use Rattle.facts_definitions.specs.declared.site.Site.{Site}
 use Rattle.types_tree.specs.Tree.{Program}
 

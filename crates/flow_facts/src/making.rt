@@ -1,8 +1,8 @@
 // The facts of a program.
 ghost use Rattle.std.specs.Prelude.{◌≡◌, [], map, IfOk, IfErr, Ok};
 ghost use Rattle.std.proofs.Math.ListN.{get_or};
-ghost use Rattle.facts_definitions.specs.Calls.{graph_of};
-ghost use Rattle.facts_definitions.specs.Chains.{AreRanks};
+ghost use Rattle.types_calls.specs.Calls.{graph_of};
+ghost use Rattle.types_calls.specs.Chains.{AreRanks};
 ghost use Rattle.facts_definitions.specs.FlowFacts.{IsFlowFault, flow_facts, function_name, index_of, known_of, main_of, most_main};
 ghost use Rattle.facts_definitions.specs.Most.{cut};
 ghost use Rattle.facts_definitions.specs.Sites.{sites_of};
@@ -14,10 +14,11 @@ use super::gathering::{
 };
 use super::known::Known;
 use super::sites::sites_of;
-use facts_definitions::{Bounds, Derived, Facts, FlowFault, Ranks, Site};
+use facts_definitions::{Bounds, Derived, Facts, FlowFault, Site};
 use facts_most::most_of_functions;
 use facts_pragma::name_id;
 use std::alloc::{AllocError, Global};
+use types_calls::Ranks;
 use types_tree::program::Program;
 use wcc_base::Items;
 

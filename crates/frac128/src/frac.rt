@@ -140,6 +140,3 @@ fn small(n: i128) -> Option<i128>
 {
     (n.unsigned_abs() <= MOST).then_some(n)
 }
-
-#[cfg(test)]
-mod tests;

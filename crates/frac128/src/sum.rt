@@ -130,6 +130,3 @@ impl Sum {
         self.terms[i].1
     }
 }
-
-#[cfg(test)]
-mod tests;

@@ -11,8 +11,6 @@ mod evaluation;
 mod frame;
 mod state;
 mod statements;
-#[cfg(test)]
-mod tests;
 mod value;
 
 pub use evaluation::{Evaluated, evaluate};

@@ -1,5 +1,6 @@
 -- How large a program is: its nodes, its operations, its depth, the bytes of its local objects.
-use Rattle.std.specs.Prelude.{ℕ, ◌+◌, ◌*◌, ◌/◌, max, List, [], ◌∷◌, length, sum_by}
+use Rattle.std.specs.Prelude.{ℕ, ◌+◌, ◌*◌, max, List, [], ◌∷◌, length, sum_by}
+use Rattle.wcc_base.specs.Sizes.{rounded}
 use Rattle.high_ir.specs.declared.object.Storage.{Storage}
 use Rattle.high_ir.specs.declared.object.Storage.TheVariants.{Constant as Fixed, Global, Local}
 use Rattle.high_ir.specs.Tree.{Expr, Constant, Variable, Element, Unary, Binary, Statement, Set, Put, Get, Keep, Mark, Seq, If, Loop, Block, Leave, Call, Return, Statements, End, Then, Object, Function, Program}
@@ -106,7 +107,7 @@ program_depth p = greatest (λ f. depth f.body) p.functions
 
 -- the bytes of an array, rounded up to whole words
 abbrev pub object_bytes : Object → ℕ
-object_bytes o = (o.size * kind_bytes o.kind + 3) / 4 * 4
+object_bytes o = rounded (o.size * kind_bytes o.kind)
 
 abbrev pub local_object_bytes : Storage → Object → ℕ
 local_object_bytes Fixed o = 0

@@ -1,18 +1,13 @@
 -- What operators compute of words of 32 bits: total, as the machine's are
 -- (RISC-V unprivileged 2.4 and the M extension).
 use Rattle.std.specs.Prelude.{ℕ, ◌-◌, ◌%◌, ◌^◌, ◌==◌, Bool}
-use Rattle.wcc_base.specs.Signs.{signed_of}
-use Rattle.wcc_base.specs.Words.{wrapped, sum_word, difference_word, product_word, quotient_word, remainder_word, signed_quotient_word, signed_remainder_word, and_word, or_word, xor_word, left_shift_word, right_shift_word, signed_right_shift_word, equal_word, less_word, signed_less_word}
+use Rattle.wcc_base.specs.Words.{sign_filled, sum_word, difference_word, product_word, quotient_word, remainder_word, signed_quotient_word, signed_remainder_word, and_word, or_word, xor_word, left_shift_word, right_shift_word, signed_right_shift_word, equal_word, less_word, signed_less_word}
 use Rattle.high_ir.specs.declared.object.Kind.{Kind}
 use Rattle.high_ir.specs.declared.object.Kind.TheVariants.{Unsigned8, Signed8, Unsigned16, Signed16, Word}
 use Rattle.high_ir.specs.declared.expression.UnaryOperator.{UnaryOperator}
 use Rattle.high_ir.specs.declared.expression.UnaryOperator.TheVariants.{Negate, Complement, IsZero, Convert}
 use Rattle.high_ir.specs.declared.expression.BinaryOperator.{BinaryOperator}
 use Rattle.high_ir.specs.declared.expression.BinaryOperator.TheVariants.{Add, Subtract, Multiply, Divide, DivideUnsigned, Remainder, RemainderUnsigned, And, Or, Xor, ShiftLeft, ShiftRight, ShiftRightUnsigned, Equal, NotEqual, Less, LessUnsigned, AtLeast, AtLeastUnsigned}
-
--- the low bits of a word, filled up with copies of their sign
-abbrev pub sign_filled : ℕ → ℕ → ℕ
-sign_filled bits w = wrapped (signed_of bits (w % 2 ^ bits))
 
 -- what an element of the kind keeps of a word
 unfoldable pub converted : Kind → ℕ → ℕ

@@ -1,23 +1,22 @@
 -- Items have their numbers and sizes whatever is placed.
-use Rattle.std.proofs.Common.{◌≡◌, ℕ, zero, suc, ◌+◌, List, [], ◌∷◌, ◌++◌, length, map, refl, sym, ap, ◌∙◌, arith}
+use Rattle.std.proofs.Common.{◌≡◌, ℕ, zero, suc, ◌+◌, List, [], ◌∷◌, ◌++◌, length, map, refl, ap, ◌∙◌, arith}
 use Rattle.std.specs.Prelude.{if◌then◌else◌}
 use Rattle.std.specs.List.{range_with_len}
 use Rattle.std.proofs.lemmas.List.{map-append}
+use Rattle.low_ir.specs.Arrays.{array_size}
 use Rattle.low_ir.specs.declared.object.Storage.{Storage}
 use Rattle.low_ir.specs.declared.object.Storage.TheVariants.{Constant as Fixed', Global, Local}
 use Rattle.low_ir.specs.Code.{Object}
 use Rattle.low_ir.specs.Places.{Placed}
 use Rattle.asm_room.specs.Functions.{function_size}
 use Rattle.asm_room.proofs.FunctionLemmas.{sizes_kept}
-use Rattle.image_rows.specs.Rows.{room_of}
 use Rattle.image_frames.specs.Frames.{frames_of}
 use Rattle.image_frames.specs.Memories.{Placement, memory_of}
 use Rattle.image_sizes.specs.Sizes.{code_size}
 use Rattle.claims_definition.specs.Listed.{Laid}
 use Rattle.claims_image.specs.Images.{laid_of}
-use Rattle.claims_items.specs.Movables.{Movable, array_item, array_size, arrays_from, function_item, is_local, movables_of, unless}
+use Rattle.claims_items.specs.Movables.{Movable, array_item, arrays_from, function_item, is_local, movables_of, unless}
 use Rattle.layout_sizes.specs.Items.{arrays_sized, item_sizes, sized}
-use Rattle.layout_sizes.proofs.Kept.{room_is}
 
 module _ (pl : Placement) (p : Placed) where
   abbrev l : Laid
@@ -39,10 +38,10 @@ module _ (pl : Placement) (p : Placed) where
   arrays_same o k [] e = refl
   arrays_same o k (x ∷ xs) e = by_storage x.storage (arrays_same (suc o) (suc k) xs (omega (arith, e)))
     where
-      item : map sized (arrays_from l (suc o) xs) ≡ arrays_sized (suc k) xs → (length p.functions + o, array_size x) ∷ map sized (arrays_from l (suc o) xs) ≡ (k, room_of x) ∷ arrays_sized (suc k) xs
-      item h = ap (λ n. (n, array_size x) ∷ map sized (arrays_from l (suc o) xs)) e ∙ ap (λ n. (k, n) ∷ map sized (arrays_from l (suc o) xs)) (sym (room_is x)) ∙ ap (λ ms. (k, room_of x) ∷ ms) h
+      item : map sized (arrays_from l (suc o) xs) ≡ arrays_sized (suc k) xs → (length p.functions + o, array_size x) ∷ map sized (arrays_from l (suc o) xs) ≡ (k, array_size x) ∷ arrays_sized (suc k) xs
+      item h = ap (λ n. (n, array_size x) ∷ map sized (arrays_from l (suc o) xs)) e ∙ ap (λ ms. (k, array_size x) ∷ ms) h
 
-      by_storage : (s : Storage) → map sized (arrays_from l (suc o) xs) ≡ arrays_sized (suc k) xs → map sized (unless (is_local s) (array_item l o x) ++ arrays_from l (suc o) xs) ≡ (if is_local s then [] else (k, room_of x) ∷ []) ++ arrays_sized (suc k) xs
+      by_storage : (s : Storage) → map sized (arrays_from l (suc o) xs) ≡ arrays_sized (suc k) xs → map sized (unless (is_local s) (array_item l o x) ++ arrays_from l (suc o) xs) ≡ (if is_local s then [] else (k, array_size x) ∷ []) ++ arrays_sized (suc k) xs
       by_storage Fixed' h = item h
       by_storage Global h = item h
       by_storage Local h = h

@@ -1,12 +1,10 @@
 -- The bytes that segments keep.
 use Rattle.std.proofs.Common.{◌≡◌, ◌≢◌, ℕ, suc, ◌+◌, ◌*◌, ◌/◌, ◌≤◌, Bool, true, false, List, [], ◌∷◌, length, refl, ap, ◌∙◌, arith, if◌then◌else◌}
-use Rattle.std.proofs.Math.Nat.{mul_comm}
 use Rattle.std.specs.Prelude.{◌==◌, Some, nat_le, slice_get, slice_index_or}
 use Rattle.rv_core.specs.declared.image.Segment.{Segment}
 use Rattle.low_ir.specs.declared.object.Storage.{Storage}
 use Rattle.low_ir.specs.declared.object.Storage.TheVariants.{Constant as Fixed', Global, Local}
 use Rattle.low_ir.specs.Code.{Object}
-use Rattle.low_ir.specs.Kinds.{kind_bytes}
 use Rattle.low_ir.specs.Places.{Placed}
 use Rattle.image_rows.specs.declared.rows.Row.TheVariants.{Scratchpad}
 use Rattle.image_rows.specs.Rows.{room_of, small_room, row_by, row_number, row_room, spots}
@@ -14,20 +12,17 @@ use Rattle.image_rows.proofs.ContentLemmas.{row_length}
 use Rattle.image_segments.specs.Segments.{Data, present, all_segments, values_in}
 use Rattle.image_frames.specs.Memories.{Placement}
 use Rattle.image_definition.specs.Images.{data_in, flash_bytes, image_in, scratchpad_bytes}
-use Rattle.claims_items.specs.Movables.{array_size}
+use Rattle.low_ir.specs.Arrays.{bytes_of, array_size}
 use Rattle.layout_sizes.specs.Segments.{bytes_kept}
 use Rattle.layout_sizes.specs.Items.{MovesItems, globals_size, instructions_in, unless_local}
 use Rattle.layout_sizes.proofs.Counting.{flash_length, scratchpad_length}
 
 -- an array takes its bytes, rounded up to whole words
 pub room_is : (x : Object) → room_of x ≡ array_size x
-room_is x = turned (kind_bytes x.kind) x.size
+room_is x = turned (bytes_of x)
   where
-    words : (n : ℕ) → 4 * ((n + 3) / 4) ≡ (n + 3) / 4 * 4
-    words n = omega arith
-
-    turned : (k n : ℕ) → 4 * ((k * n + 3) / 4) ≡ (n * k + 3) / 4 * 4
-    turned k n = words (k * n) ∙ ap (λ m. (m + 3) / 4 * 4) (mul_comm k n)
+    turned : (n : ℕ) → 4 * ((n + 3) / 4) ≡ (n + 3) / 4 * 4
+    turned n = omega arith
 
 bytes_present : (ss : List Segment) → bytes_kept (present ss) ≤ bytes_kept ss
 bytes_present [] = omega arith

@@ -9,6 +9,7 @@ use Rattle.rv_core.specs.declared.regions.Region.TheVariants.{Spm, Ram}
 use Rattle.rv_core.specs.Regions.{lies_in, region_size, region_start}
 use Rattle.asm_items.specs.Placings.{Blocks, blocks_of, blocks_size}
 use Rattle.asm_placed.specs.Written.{in_scratchpad}
+use Rattle.low_ir.specs.Arrays.{array_size}
 use Rattle.low_ir.specs.declared.object.Storage.{Storage}
 use Rattle.low_ir.specs.declared.object.Storage.TheVariants.{Constant as Fixed', Global, Local}
 use Rattle.low_ir.specs.Code.{Object}
@@ -27,7 +28,7 @@ use Rattle.claims_definition.specs.Laws.{IsSettled}
 use Rattle.claims_definition.specs.Listed.{Laid, functions_of, placing}
 use Rattle.claims_definition.proofs.Blocks.{count}
 use Rattle.claims_image.specs.Images.{laid_of}
-use Rattle.claims_items.specs.Movables.{Movable, array_item, array_size, arrays_from, code_region, function_item, is_local, movables_of, unless}
+use Rattle.claims_items.specs.Movables.{Movable, array_item, arrays_from, code_region, function_item, is_local, movables_of, unless}
 use Rattle.claims_items.proofs.Movables.{function_movable}
 use Rattle.layout_sizes.specs.Segments.{taken_in}
 use Rattle.layout_sizes.specs.Items.{MovesItems, array_region, scratchpad_size}

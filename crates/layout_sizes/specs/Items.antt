@@ -4,16 +4,16 @@ use Rattle.std.specs.List.{range_with_len}
 use Rattle.rv_core.specs.declared.regions.Region.{Region}
 use Rattle.rv_core.specs.declared.regions.Region.TheVariants.{Flash, Spm, Ram}
 use Rattle.asm_placed.specs.Written.{flash_words, scratchpad_words}
+use Rattle.low_ir.specs.Arrays.{array_size}
 use Rattle.low_ir.specs.declared.object.Storage.{Storage}
 use Rattle.low_ir.specs.declared.object.Storage.TheVariants.{Constant as Fixed', Global, Local}
 use Rattle.low_ir.specs.Code.{Object}
 use Rattle.low_ir.specs.Places.{Placed}
-use Rattle.image_rows.specs.Rows.{room_of}
 use Rattle.image_frames.specs.Memories.{Placement}
 use Rattle.image_definition.specs.Images.{formed_in, rows_in}
 use Rattle.image_sizes.specs.Sizes.{code_size}
 use Rattle.claims_accesses.specs.Lines.{same_region}
-use Rattle.claims_items.specs.Movables.{Movable, array_size, is_local}
+use Rattle.claims_items.specs.Movables.{Movable, is_local}
 
 -- the start code is no item, and a local array is none
 pub record MovesItems (pl : Placement) (p : Placed) : Type 0 where
@@ -52,7 +52,7 @@ array_region false Local = Ram
 
 -- the items of a program with their numbers and sizes, whatever is placed: its functions, and then its arrays that aren't local
 abbrev pub array_sized : ℕ → Object → List (ℕ × ℕ)
-array_sized k x = if is_local x.storage then [] else (k, room_of x) ∷ []
+array_sized k x = if is_local x.storage then [] else (k, array_size x) ∷ []
 
 abbrev pub arrays_sized : ℕ → List Object → List (ℕ × ℕ)
 arrays_sized k [] = []

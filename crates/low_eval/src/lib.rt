@@ -12,8 +12,6 @@ mod cells;
 mod evaluation;
 mod running;
 mod stack;
-#[cfg(test)]
-mod tests;
 mod world;
 
 pub use bank::{Located, pointer_within, word_of};

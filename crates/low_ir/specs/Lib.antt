@@ -1,5 +1,6 @@
 pub mod Kinds
 pub mod Code
+pub mod Arrays
 pub mod View
 pub mod Effects
 pub mod Runs

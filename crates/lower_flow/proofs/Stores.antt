@@ -5,7 +5,7 @@ use Rattle.std.proofs.lemmas.Bool.{and_parts, cases_eq, cases_lt, ltb-true}
 use Rattle.std.proofs.lemmas.List.{map-set}
 use Rattle.std.proofs.lemmas.Bool.Decides.{nat_tests}
 use Rattle.std.proofs.lemmas.Option.{same_Some, slice_get_within, slice_get-get_or, get_or_from_slice_get}
-use Rattle.wcc_base.specs.Words.{wrapped}
+use Rattle.wcc_base.specs.Words.{wrapped, sign_filled}
 use Rattle.wcc_base.specs.Signs.{signed_of}
 use Rattle.high_ir.specs.declared.object.Kind.{Kind as HighKind}
 use Rattle.high_ir.specs.declared.object.Kind.TheVariants as kinds
@@ -27,7 +27,7 @@ use Rattle.lower_values.proofs.Widths.{IsAt, kind_bytes-kind_of, converted-kind_
 -- what a kind keeps is told by its number
 abbrev keeps_by : ℕ → ℕ → ℕ
 keeps_by n w =
-    if n == 0 then w % 2 ^ 8 else if n == 1 then words.sign_filled 8 w else if n == 2 then w % 2 ^ 16 else if n == 3 then words.sign_filled 16 w else w
+    if n == 0 then w % 2 ^ 8 else if n == 1 then sign_filled 8 w else if n == 2 then w % 2 ^ 16 else if n == 3 then sign_filled 16 w else w
 
 keeps-number : (k : HighKind) (w : ℕ) → keeps k w ≡ keeps_by (words.kind_number k) w
 keeps-number kinds.Unsigned8 w = refl

@@ -1,6 +1,7 @@
 -- Sums over the functions of a low program.
 use Rattle.std.proofs.Common.{◌≡◌, ℕ, ◌+◌, ◌*◌, ◌≤◌, true, List, [], ◌∷◌, ◌++◌, length, map, Some, refl, sym, ap, ◌∙◌, subst, arith, length-append}
 use Rattle.std.specs.Prelude.{◌/◌, slice_get, slice_index_or, sum_by}
+use Rattle.std.proofs.Math.Nat.{mul_comm}
 use Rattle.std.proofs.lemmas.List.{get_or-map, length-map}
 use Rattle.std.proofs.lemmas.List.Concat.{flat_map-cons}
 use Rattle.std.proofs.lemmas.List.FromFn.{length-range_with_len}
@@ -112,7 +113,7 @@ bytes_same kinds.Word = refl
 array_same : (storage : HighStorage) (o : high.Object) → local_array_bytes (storage_of storage) (object_of o) ≡ local_object_bytes storage o
 array_same storages.Constant o = refl
 array_same storages.Global o = refl
-array_same storages.Local o = ap (λ n. (o.size * n + 3) / 4 * 4) (bytes_same o.kind)
+array_same storages.Local o = ap (λ n. (n + 3) / 4 * 4) (ap (λ n. n * o.size) (bytes_same o.kind) ∙ mul_comm (words.kind_bytes o.kind) o.size)
 
 pub arrays_same : (os : List high.Object) → sum_by (λ (x : Object). local_array_bytes x.storage x) (map object_of os) ≡ sum_by (λ (o : high.Object). local_object_bytes o.storage o) os
 arrays_same [] = refl

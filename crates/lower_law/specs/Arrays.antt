@@ -1,21 +1,18 @@
 -- The arrays of a low program: how many bytes they take, and which of them an access may touch.
-use Rattle.std.specs.Prelude.{◌≡◌, ℕ, ◌+◌, ◌*◌, ◌/◌, ◌<◌, true, [], length, Some, slice_get, slice_index_or, sum_by}
+use Rattle.std.specs.Prelude.{◌≡◌, ℕ, ◌+◌, ◌<◌, true, [], length, Some, slice_get, slice_index_or, sum_by}
 use Rattle.high_ir.specs.Tree as high
 use Rattle.low_ir.specs.declared.object.Storage.{Storage}
 use Rattle.low_ir.specs.declared.object.Storage.TheVariants.{Constant, Global, Local}
+use Rattle.low_ir.specs.Arrays.{array_size}
 use Rattle.low_ir.specs.Code.{Base, Fixed, Through, Function, Low, Note, Object}
 use Rattle.low_ir.specs.Effects.{is_member}
-use Rattle.low_ir.specs.Kinds.{kind_bytes}
 use Rattle.lower_origins.specs.Passing.{IsPassed}
 
--- the bytes of an array, rounded up to whole words
-abbrev pub array_bytes : Object → ℕ
-array_bytes o = (o.size * kind_bytes o.kind + 3) / 4 * 4
-
+-- the bytes of arrays that belong to a function
 abbrev pub local_array_bytes : Storage → Object → ℕ
 local_array_bytes Constant o = 0
 local_array_bytes Global o = 0
-local_array_bytes Local o = array_bytes o
+local_array_bytes Local o = array_size o
 
 abbrev pub local_bytes : Low → ℕ
 local_bytes q = sum_by (λ o. local_array_bytes o.storage o) q.objects

@@ -8,14 +8,14 @@ use Rattle.std.proofs.lemmas.Bool.{cases_eq, cases_lt}
 use Rattle.std.proofs.lemmas.Bool.Decides.{nat_tests}
 use Rattle.std.proofs.lemmas.Option.{same_Some}
 use Rattle.wcc_base.specs.Signs.{signed_of}
-use Rattle.wcc_base.specs.Words.{signed_word, wrapped, truth_word, sum_word, difference_word, product_word, quotient_word, remainder_word, signed_quotient_word, signed_remainder_word, and_word, xor_word, left_shift_word, right_shift_word, floor_shift, signed_right_shift_word, equal_word, less_word, signed_less_word}
+use Rattle.wcc_base.specs.Words.{signed_word, wrapped, sign_filled, truth_word, sum_word, difference_word, product_word, quotient_word, remainder_word, signed_quotient_word, signed_remainder_word, and_word, xor_word, left_shift_word, right_shift_word, floor_shift, signed_right_shift_word, equal_word, less_word, signed_less_word}
 use Rattle.high_ir.specs.declared.object.Kind.{Kind as HighKind}
 use Rattle.high_ir.specs.declared.object.Kind.TheVariants as kinds
 use Rattle.high_ir.specs.declared.expression.UnaryOperator.{UnaryOperator}
 use Rattle.high_ir.specs.declared.expression.UnaryOperator.TheVariants.{Negate, Complement, IsZero, Convert}
 use Rattle.high_ir.specs.declared.expression.BinaryOperator.{BinaryOperator}
 use Rattle.high_ir.specs.declared.expression.BinaryOperator.TheVariants.{Add, Subtract, Multiply, Divide, DivideUnsigned, Remainder, RemainderUnsigned, And, Or, Xor, ShiftLeft, ShiftRight, ShiftRightUnsigned, Equal, NotEqual, Less, LessUnsigned, AtLeast, AtLeastUnsigned}
-use Rattle.high_ir.specs.Words.{sign_filled, converted, unary_word, binary_word, untrue_word}
+use Rattle.high_ir.specs.Words.{converted, unary_word, binary_word, untrue_word}
 use Rattle.lower_definition.specs.Operators.{negated, exponent_below, exponent_of}
 
 -- each value is a word

@@ -1,5 +1,5 @@
 -- What is made of expressions, as the code has them.
-use Rattle.std.proofs.Common.{◌≡◌, ℕ, ◌+◌, ◌<◌, ◌≤◌, true, false, List, [], ◌∷◌, length, get_or, refl, sym, ap, ◌∙◌, subst}
+use Rattle.std.proofs.Common.{◌≡◌, ℕ, ◌+◌, ◌<◌, ◌≤◌, true, false, List, [], ◌∷◌, length, get_or, refl, sym, ap, ◌∙◌, subst, Result, Ok, Err, IfOk}
 use Rattle.std.specs.Prelude.{Vec, sum_by}
 use Rattle.std.specs.Global.{Global}
 use Rattle.std.proofs.lemmas.List.Sums.{get_or-le-sum_by, sum_by-cons}
@@ -21,6 +21,11 @@ use Rattle.make_expression.specs.Sizes.{expr_size, exprs_size}
 
 pub makes_same : (purpose : Purpose) (v : Valued) (p : values.Valued) → valued_of v ≡ p → Makes purpose v p
 makes_same purpose v p same = record { code = ap (λ q. q.code) same; whole = λ used. same }
+
+-- what is made, where each value that a call gives is it
+pub makes_each : {E : Type 0} (r : Result Valued E) (purpose : Purpose) (p : values.Valued) {P : Valued → Type 0} → IfOk r P → ((v : Valued) → P v → Makes purpose v p) → IfOk r (λ v. Makes purpose v p)
+makes_each (Ok v) purpose p h f = f v h
+makes_each (Err e) purpose p h f = tt
 
 pub converted_makes : (to : CType) (purpose : Purpose) (a v : Valued) (p : values.Valued) → Makes (plain purpose) a p → valued_of v ≡ finished purpose (changed_by (convert to) (valued_of a)) → Makes purpose v (finished purpose (changed_by (convert to) p))
 converted_makes to Value a v p h e = makes_same Value v (changed_by (convert to) p) (e ∙ ap (changed_by (convert to)) (h.whole refl))

@@ -5,11 +5,12 @@ ghost use Rattle.types_tree.specs.Tree.{And, Assign, Conditional, Or, Update};
 ghost use Rattle.types_tree.specs.View.{expr_of, exprs_of, place_of};
 ghost use Rattle.make_expression.specs.Makes.{Makes, chosen_for, passing_of, way};
 ghost use Rattle.make_pieces.specs.View.{aimed_of, code_of, valued_of};
-ghost use Rattle.high_code.specs.Code.{joined};
+ghost use Rattle.high_code.specs.Code.{alone, joined};
+ghost use Rattle.high_ir.specs.Tree.{Block, Seq};
 ghost use Rattle.high_ir.specs.View.{expr_of as value_of};
 ghost use Rattle.plan_definition.specs.declared.purpose.Purpose.TheVariants.{Value, Unless};
 ghost use Rattle.plan_definition.specs.Homes.{loaded};
-ghost use Rattle.plan_definition.specs.Values.{aimed, argument, array_named, both, choice, is_joint, made, passing};
+ghost use Rattle.plan_definition.specs.Values.{aimed, argument, array_named, both, choice, is_joint, made, only_code, passing};
 
 use super::assigning::{Change, assigned, updated};
 use super::calling::called;
@@ -58,6 +59,13 @@ fn behind(code: Code, value: Valued) -> Result<Valued, Memory>
     }
 }
 
+/// Code in a block of its own, which leaves no value.
+fn only_block(alloc: Global, code: Code) -> Result<Valued, Memory>
+    ensures { IfOk result (λ v. valued_of v ≡ only_code (alone (Block (Seq (code_of code))))) }
+{
+    Ok(Valued::only_code(code.in_block(alloc)?))
+}
+
 /// The code of `?:`, and the value that it left in the temporary.
 fn chosen_for(alloc: Global, purpose: Purpose, code: Code, k: u32) -> Result<Valued, Memory>
     ensures { IfOk result (λ v. valued_of v ≡ chosen_for purpose (code_of code) k) }
@@ -69,8 +77,8 @@ fn chosen_for(alloc: Global, purpose: Purpose, code: Code, k: u32) -> Result<Val
     match purpose {
         Purpose::Effect => Ok(Valued::only_code(chosen.code())),
         Purpose::Value => Ok(chosen),
-        Purpose::Unless { .. } => Ok(chosen.finished(alloc, purpose)?),
-        Purpose::When { .. } => Ok(chosen.finished(alloc, purpose)?),
+        Purpose::Unless { .. } => chosen.finished(alloc, purpose),
+        Purpose::When { .. } => chosen.finished(alloc, purpose),
     }
 }
 
@@ -83,22 +91,22 @@ fn made(scope: &Scope, purpose: Purpose, expr: &Expr, k: u32) -> Result<Valued, 
     match expr {
         Expr::Number { constant, .. } => {
             let word = Valued::known(alloc, constant.value);
-            Ok(word.finished(alloc, purpose)?)
+            word.finished(alloc, purpose)
         }
         Expr::Character { value, .. } => {
             let word = Valued::known(alloc, u32::from(*value));
-            Ok(word.finished(alloc, purpose)?)
+            word.finished(alloc, purpose)
         }
         Expr::Read(place) => {
             let aimed = aimed(scope, place, k)?;
             let held = loaded(alloc, aimed)?;
-            Ok(held.finished(alloc, purpose)?)
+            held.finished(alloc, purpose)
         }
         Expr::Array { .. } => {
             let word = Valued::known(alloc, 0);
-            Ok(word.finished(alloc, purpose)?)
+            word.finished(alloc, purpose)
         }
-        Expr::Paren { inner, .. } => Ok(made(scope, purpose, inner, k)?),
+        Expr::Paren { inner, .. } => made(scope, purpose, inner, k),
         Expr::Call {
             callee,
             arguments,
@@ -106,7 +114,7 @@ fn made(scope: &Scope, purpose: Purpose, expr: &Expr, k: u32) -> Result<Valued, 
         } => {
             let passing = passing(scope, arguments, k)?;
             let call = called(alloc, purpose, *callee, k, passing)?;
-            Ok(call.finished(alloc, purpose)?)
+            call.finished(alloc, purpose)
         }
         Expr::Step {
             fix,
@@ -120,7 +128,7 @@ fn made(scope: &Scope, purpose: Purpose, expr: &Expr, k: u32) -> Result<Valued, 
                 operator: *operator,
                 kind: *kind,
             };
-            Ok(stepped_place(scope, purpose, step, target, k)?)
+            stepped_place(scope, purpose, step, target, k)
         }
         Expr::Sign {
             operator,
@@ -128,15 +136,15 @@ fn made(scope: &Scope, purpose: Purpose, expr: &Expr, k: u32) -> Result<Valued, 
             ..
         } => {
             let operand = made(scope, for_operand(*operator, purpose), operand, k)?;
-            Ok(signed_for(alloc, *operator, purpose, operand)?)
+            signed_for(alloc, *operator, purpose, operand)
         }
         Expr::Cast { to, operand, .. } => {
             let operand = made(scope, plain(purpose), operand, k)?;
-            Ok(converted(alloc, *to, purpose, operand)?)
+            converted(alloc, *to, purpose, operand)
         }
         Expr::Convert { to, operand } => {
             let operand = made(scope, plain(purpose), operand, k)?;
-            Ok(converted(alloc, *to, purpose, operand)?)
+            converted(alloc, *to, purpose, operand)
         }
         Expr::Operate {
             operator,
@@ -147,14 +155,14 @@ fn made(scope: &Scope, purpose: Purpose, expr: &Expr, k: u32) -> Result<Valued, 
         } => {
             let (left, right) = values(scope, left, right, k)?;
             let value = operate(alloc, *operator, *kind, k, left, right)?;
-            Ok(value.finished(alloc, purpose)?)
+            value.finished(alloc, purpose)
         }
-        Expr::And { left, right, .. } => Ok(conjunction(scope, purpose, left, right, k)?),
-        Expr::Or { left, right, .. } => Ok(disjunction(scope, purpose, left, right, k)?),
+        Expr::And { left, right, .. } => conjunction(scope, purpose, left, right, k),
+        Expr::Or { left, right, .. } => disjunction(scope, purpose, left, right, k),
         Expr::Comma { left, right, .. } => {
             let code = made(scope, Purpose::Effect, left, k)?.code();
             match made(scope, purpose, right, k) {
-                Ok(value) => Ok(behind(code, value)?),
+                Ok(value) => behind(code, value),
                 Err(memory) => {
                     code.let_go();
                     Err(memory)
@@ -168,11 +176,9 @@ fn made(scope: &Scope, purpose: Purpose, expr: &Expr, k: u32) -> Result<Valued, 
             ..
         } => {
             let code = ways(scope, purpose, test, then, otherwise, k)?;
-            Ok(chosen_for(alloc, purpose, code, k)?)
+            chosen_for(alloc, purpose, code, k)
         }
-        Expr::Assign { target, value, .. } => {
-            Ok(assigned_place(scope, purpose, target, value, k)?)
-        }
+        Expr::Assign { target, value, .. } => { assigned_place(scope, purpose, target, value, k) }
         Expr::Update {
             operator,
             kind,
@@ -186,7 +192,7 @@ fn made(scope: &Scope, purpose: Purpose, expr: &Expr, k: u32) -> Result<Valued, 
                 kind: *kind,
                 to: *to,
             };
-            Ok(updated_place(scope, purpose, change, target, value, k)?)
+            updated_place(scope, purpose, change, target, value, k)
         }
     }
 }
@@ -204,7 +210,7 @@ fn stepped_place(
 {
     let aimed = aimed(scope, target, k)?;
     let stepped = stepped(scope.alloc, purpose, step, k, aimed)?;
-    Ok(stepped.finished(scope.alloc, purpose)?)
+    stepped.finished(scope.alloc, purpose)
 }
 
 /// An assignment (C11 6.5.16.1).
@@ -220,7 +226,7 @@ fn assigned_place(
 {
     let (aimed, right) = aimed_and_value(scope, target, value, k)?;
     let assigned = assigned(purpose, k, aimed, right)?;
-    Ok(assigned.finished(scope.alloc, purpose)?)
+    assigned.finished(scope.alloc, purpose)
 }
 
 /// A compound assignment (C11 6.5.16.2).
@@ -237,7 +243,7 @@ fn updated_place(
 {
     let (aimed, right) = aimed_and_value(scope, target, value, k)?;
     let updated = updated(scope.alloc, purpose, change, k, aimed, right)?;
-    Ok(updated.finished(scope.alloc, purpose)?)
+    updated.finished(scope.alloc, purpose)
 }
 
 /// The value of an expression.
@@ -247,7 +253,7 @@ pub fn value(scope: &Scope, expr: &Expr, k: u32) -> Result<Valued, Memory>
     ensures code { IfOk result (λ v. code_of v.code ≡ (made scope.now.homes.now Value (expr_of expr.now) k).code) }
     ensures value { IfOk result (λ v. value_of v.value ≡ (made scope.now.homes.now Value (expr_of expr.now) k).value) }
 {
-    Ok(made(scope, Purpose::Value, expr, k)?)
+    made(scope, Purpose::Value, expr, k)
 }
 
 /// The code of an expression for a purpose.
@@ -278,7 +284,7 @@ fn aimed(scope: &Scope, place: &Place, k: u32) -> Result<Aimed, Memory>
                 },
             })
         }
-        Place::Paren { inner, .. } => Ok(aimed(scope, inner, k)?),
+        Place::Paren { inner, .. } => aimed(scope, inner, k),
     }
 }
 
@@ -335,7 +341,7 @@ fn in_turn(
 {
     let left = code(scope, first, left, k)?;
     match code(scope, second, right, k) {
-        Ok(right) => Ok(left.joined(right)?),
+        Ok(right) => left.joined(right),
         Err(memory) => {
             left.let_go();
             Err(memory)
@@ -359,11 +365,11 @@ fn conjunction(
     match purpose {
         Purpose::Value => {
             let jumps = in_turn(scope, out, left, out, right, sum(k, 1)?)?;
-            Ok(noted(alloc, k, 0, 1, jumps)?)
+            noted(alloc, k, 0, 1, jumps)
         }
         Purpose::Effect => {
             let code = in_turn(scope, out, left, purpose, right, k)?;
-            Ok(Valued::only_code(code.in_block(alloc)?))
+            only_block(alloc, code)
         }
         Purpose::Unless { .. } => {
             let code = in_turn(scope, purpose, left, purpose, right, k)?;
@@ -372,7 +378,7 @@ fn conjunction(
         Purpose::When { depth } => {
             let depth = sum(depth, 1)?;
             let code = in_turn(scope, out, left, Purpose::When { depth }, right, k)?;
-            Ok(Valued::only_code(code.in_block(alloc)?))
+            only_block(alloc, code)
         }
     }
 }
@@ -393,16 +399,16 @@ fn disjunction(
     match purpose {
         Purpose::Value => {
             let jumps = in_turn(scope, out, left, out, right, sum(k, 1)?)?;
-            Ok(noted(alloc, k, 1, 0, jumps)?)
+            noted(alloc, k, 1, 0, jumps)
         }
         Purpose::Effect => {
             let code = in_turn(scope, out, left, purpose, right, k)?;
-            Ok(Valued::only_code(code.in_block(alloc)?))
+            only_block(alloc, code)
         }
         Purpose::Unless { depth } => {
             let depth = sum(depth, 1)?;
             let code = in_turn(scope, out, left, Purpose::Unless { depth }, right, k)?;
-            Ok(Valued::only_code(code.in_block(alloc)?))
+            only_block(alloc, code)
         }
         Purpose::When { .. } => {
             let code = in_turn(scope, purpose, left, purpose, right, k)?;
@@ -417,10 +423,10 @@ fn way(scope: &Scope, purpose: Purpose, expr: &Expr, k: u32) -> Result<Code, Mem
     ensures { IfOk result (λ c. code_of c ≡ way scope.now.homes.now purpose (expr_of expr.now) k) }
 {
     match purpose {
-        Purpose::Effect => Ok(code(scope, purpose, expr, k)?),
-        Purpose::Value => Ok(value(scope, expr, k)?.placed(k)?),
-        Purpose::Unless { .. } => Ok(value(scope, expr, k)?.placed(k)?),
-        Purpose::When { .. } => Ok(value(scope, expr, k)?.placed(k)?),
+        Purpose::Effect => code(scope, purpose, expr, k),
+        Purpose::Value => value(scope, expr, k)?.placed(k),
+        Purpose::Unless { .. } => value(scope, expr, k)?.placed(k),
+        Purpose::When { .. } => value(scope, expr, k)?.placed(k),
     }
 }
 
@@ -463,7 +469,7 @@ fn ways(
 {
     let first = way(scope, purpose, first, k)?;
     match way(scope, purpose, second, k) {
-        Ok(other) => Ok(choose(scope, test, k, first, other)?),
+        Ok(other) => choose(scope, test, k, first, other),
         Err(memory) => {
             first.let_go();
             Err(memory)
@@ -492,7 +498,7 @@ fn passed_behind(scope: &Scope, given: &Expr, k: u32, passed: Passing) -> Result
     ensures { IfOk result (λ p. passing_of p ≡ argument scope.now.homes.now (array_named (expr_of given.now)) k (made scope.now.homes.now Value (expr_of given.now) k) (passing_of passed)) }
 {
     match value(scope, given, k) {
-        Ok(value) => Ok(passed.behind(scope.homes, array_named(given), k, value)?),
+        Ok(value) => passed.behind(scope.homes, array_named(given), k, value),
         Err(memory) => {
             passed.let_go();
             Err(memory)

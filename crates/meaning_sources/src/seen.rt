@@ -3,11 +3,12 @@
 use c_lexer::LexFault;
 use c_meaning::eval;
 use c_parser::ParseFault;
-use facts_definitions::{CallFault, FlowFault};
+use facts_definitions::FlowFault;
 use facts_front::{Refusal, read_source};
 use meaning_semantics::{SourceRun, Unkept};
 use std::alloc::Global;
 use std::test::Fail;
+use types_calls::CallFault;
 use types_rules::{Rule, TypeFault};
 use wcc_base::Bound;
 

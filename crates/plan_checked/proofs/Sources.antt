@@ -2,8 +2,8 @@
 use Rattle.std.proofs.Common.{◌≡◌, ℕ, ◌≤◌, List, [], sym, ap, subst}
 use Rattle.std.specs.Prelude.{Ok}
 use Rattle.std.proofs.lemmas.List.Elements.{All-nil}
-use Rattle.facts_definitions.specs.Calls.{graph_of}
-use Rattle.facts_definitions.specs.Chains.{AreRanks}
+use Rattle.types_calls.specs.Calls.{graph_of}
+use Rattle.types_calls.specs.Chains.{AreRanks}
 use Rattle.facts_definitions.specs.FlowFacts.{AreFacts, IsDerived, flow_facts}
 use Rattle.facts_definitions.specs.declared.facts.Facts.{Facts}
 use Rattle.facts_front.specs.Fronts.{HasFacts, IsSource}

@@ -12,7 +12,7 @@ use Rattle.types_value.specs.declared.operator.Sign.TheVariants as signs
 use Rattle.types_value.specs.declared.operator.Undefined.{Undefined}
 use Rattle.types_value.specs.declared.operator.Undefined.TheVariants.{Overflow}
 use Rattle.wcc_base.specs.Signs.{signed_of}
-use Rattle.wcc_base.specs.Words.{wrapped, difference_word, xor_word, equal_word}
+use Rattle.wcc_base.specs.Words.{wrapped, sign_filled, difference_word, xor_word, equal_word}
 use Rattle.high_ir.specs.declared.object.Kind.{Kind}
 use Rattle.high_ir.specs.declared.object.Kind.TheVariants.{Unsigned8, Signed8, Unsigned16, Signed16, Word}
 use Rattle.high_ir.specs.declared.expression.UnaryOperator.{UnaryOperator}
@@ -21,7 +21,7 @@ use Rattle.high_ir.specs.declared.expression.BinaryOperator.{BinaryOperator}
 use Rattle.high_ir.specs.declared.expression.BinaryOperator.TheVariants as binary
 use Rattle.high_ir.specs.Meaning.{Variables, World, at_value, value_of}
 use Rattle.high_ir.specs.Tree.{Expr, Unary, Binary}
-use Rattle.high_ir.specs.Words.{converted, unary_word, binary_word, sign_filled}
+use Rattle.high_ir.specs.Words.{converted, unary_word, binary_word}
 use Rattle.plan_definition.specs.Operators.{kind_of, convert, operated, signed}
 
 -- a conversion to a type is one to its kind

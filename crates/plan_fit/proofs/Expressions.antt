@@ -19,8 +19,8 @@ use Rattle.types_value.specs.declared.kind.Kind.TheVariants.{Int}
 use Rattle.types_value.specs.declared.operator.Operator.{Operator}
 use Rattle.types_value.specs.declared.operator.Operator.TheVariants as operators
 use Rattle.types_value.specs.declared.operator.Sign.{Sign}
-use Rattle.facts_definitions.specs.Calls.{called, expr_calls, exprs_calls, place_calls}
-use Rattle.facts_definitions.specs.Chains.{Among}
+use Rattle.types_calls.specs.Calls.{called, expr_calls, exprs_calls, place_calls}
+use Rattle.types_calls.specs.Chains.{Among}
 use Rattle.types_rules.specs.ExpressionRules.{is_place, is_step}
 use Rattle.types_rules.specs.Operations.{left_kind, operator_of, right_kind, sign_of, update_of}
 use Rattle.types_rules.specs.Scope.{Around, found, params_of, result_of, routine_of}

@@ -4,7 +4,7 @@ use Rattle.std.specs.Prelude.{◌&&◌, ◌||◌, ◌-◌, ◌==◌, not, nat_lt
 use Rattle.std.proofs.lemmas.Bool.{and_parts, eq-eqb, false≢true, not-false, or_left, or_parts, or_right, true≢false}
 use Rattle.std.proofs.lemmas.Option.{get_or_from_slice_get}
 use Rattle.c_tree.specs.Tree.{Row, Nothing, Then, Expr, Exprs, NoExpr, AndExpr, Shape, Scalar, Unsized, Sized, Initial, Absent, Value, Listed, Object, Declared}
-use Rattle.facts_definitions.specs.Calls.{expr_calls, exprs_calls, initial_calls, object_calls, objects_calls, shape_calls}
+use Rattle.types_calls.specs.Calls.{expr_calls, exprs_calls, initial_calls, object_calls, objects_calls, shape_calls}
 use Rattle.facts_definitions.specs.Most.{bounds_at, no_bounds}
 use Rattle.facts_definitions.specs.Sites.{count_exprs, elements, elements_of, filling_sites, object_sites, objects_sites}
 use Rattle.facts_definitions.specs.declared.facts.Bounds.{Bounds}

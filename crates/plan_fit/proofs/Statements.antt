@@ -3,7 +3,7 @@ use Rattle.std.proofs.Common.{◌≡◌, refl, ℕ, ◌+◌, Bool, true, false, 
 use Rattle.std.proofs.lemmas.Bool.{or_left, or_right}
 use Rattle.c_tree.specs.Tree.{Expr, Declaration, Objects, Prototype, ForStart, NoStart, StartValue, StartDeclaration, Statement, Block, Empty, Evaluate, Marker, If, IfElse, While, Do, For, Switch, Break, Continue, Return, Items, NoItem, AndDeclaration, AndStatement, AndRestriction, AndLabel}
 use Rattle.c_tree.specs.declared.pragma.Pragma.{Pragma}
-use Rattle.facts_definitions.specs.Calls.{declaration_calls, expr_calls, items_calls, label_calls, option_calls, start_calls, statement_calls}
+use Rattle.types_calls.specs.Calls.{declaration_calls, expr_calls, items_calls, label_calls, option_calls, start_calls, statement_calls}
 use Rattle.facts_definitions.specs.Sites.{declaration_sites, items_sites, start_sites, statement_sites}
 use Rattle.facts_definitions.specs.declared.facts.Bounds.{Bounds}
 use Rattle.facts_definitions.specs.declared.facts.Derived.{Derived}

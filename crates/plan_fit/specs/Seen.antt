@@ -1,6 +1,6 @@
 -- What the layout of a program says of the names that are seen at a place of its source.
 use Rattle.std.specs.Prelude.{◌≡◌, ℕ, Bool, true, false, List, map, Some}
-use Rattle.facts_definitions.specs.Chains.{Among}
+use Rattle.types_calls.specs.Chains.{Among}
 use Rattle.types_rules.specs.Scope.{Around, Outline, found_here, found_outside, routine_of}
 use Rattle.types_rules.specs.Types.{has_definition}
 use Rattle.types_rules.specs.Typing.{callee_of}

@@ -8,7 +8,7 @@ use Rattle.facts_definitions.specs.declared.facts.Derived.{Derived}
 use Rattle.facts_definitions.specs.declared.facts.Facts.{Facts}
 use Rattle.facts_definitions.specs.declared.facts.FlowFault.{FlowFault}
 use Rattle.facts_definitions.specs.declared.facts.FlowFault.TheVariants.{TooOften}
-use Rattle.facts_definitions.specs.declared.ranks.Ranks.{Ranks}
+use Rattle.types_calls.specs.declared.ranks.Ranks.{Ranks}
 use Rattle.types_tree.specs.Tree.{Program}
 
 -- no site is at fault, and the facts are those of the program

@@ -8,7 +8,7 @@ use Rattle.std.proofs.lemmas.List.Elements.{All-append, All-cons, All-head, All-
 use Rattle.std.proofs.lemmas.Option.{none-some}
 use Rattle.c_tree.specs.Size.{size_unit}
 use Rattle.c_tree.specs.Tree.{Row, External, TranslationUnit, Whole}
-use Rattle.facts_definitions.specs.Calls.{function_calls}
+use Rattle.types_calls.specs.Calls.{function_calls}
 use Rattle.facts_definitions.specs.FlowFacts.{AreFacts, facts_of, function_name, gathered, index_of, known_of, main_of, marker_at, name_id}
 use Rattle.facts_definitions.specs.Sites.{sites_of}
 use Rattle.facts_definitions.specs.declared.facts.Derived.{Derived}

@@ -5,8 +5,8 @@ use Rattle.std.specs.List.{All}
 use Rattle.std.proofs.lemmas.Bool.{false≢true, lt-ltb}
 use Rattle.std.proofs.lemmas.Option.{none-some}
 use Rattle.std.proofs.lemmas.List.Elements.{All-head, All-tail}
-use Rattle.facts_definitions.specs.Calls.{called, calls_below, declaration_calls, expr_calls, exprs_calls, function_calls, graph_of, initial_calls, items_calls, label_calls, objects_calls, option_calls, params_calls, place_calls, shape_calls, start_calls, statement_calls}
-use Rattle.facts_definitions.specs.Chains.{Among, AreRanks, callees}
+use Rattle.types_calls.specs.Calls.{called, calls_below, declaration_calls, expr_calls, exprs_calls, function_calls, graph_of, initial_calls, items_calls, label_calls, objects_calls, option_calls, params_calls, place_calls, shape_calls, start_calls, statement_calls}
+use Rattle.types_calls.specs.Chains.{Among, AreRanks, callees}
 use Rattle.types_tree.specs.Tree as c
 use Rattle.types_tree.specs.declared.expression.Callee.{Callee}
 use Rattle.types_tree.specs.declared.expression.Callee.TheVariants.{Getchar, Putchar, Function as Own}

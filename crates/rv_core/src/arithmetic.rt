@@ -1,42 +1,13 @@
 // What instructions compute of words.
-ghost use Rattle.std.specs.Prelude.{◌≡◌, ◌≢◌, ◌*◌, ◌/◌, ◌%◌, ◌^◌, ◌<◌, ◌*ℤ◌, pos, int_lt, unsigned_abs};
-ghost use Rattle.wcc_base.specs.Words.{left_shift_word, right_shift_word, signed_less_word, less_word, signed_right_shift_word, signed_quotient_word, signed_remainder_word, quotient_word, remainder_word};
-ghost use Rattle.rv_core.specs.Arithmetic.{signed, upper_word, alu_value, holds, byte_count, extended};
+ghost use Rattle.std.specs.Prelude.{◌≡◌, ◌≢◌, ◌*◌, ◌/◌, ◌%◌, ◌^◌, ◌<◌, ◌*ℤ◌, unsigned_abs};
+ghost use Rattle.rv_core.specs.Arithmetic.{upper_word, alu_value, holds, byte_count, extended};
 
 use crate::row::{Alu, Condition, Width};
 use crate::signs::extend;
-use wcc_base::sign_extend;
-
-/// The number of a word in two's complement.
-fn signed(x: u32) -> i32
-    ensures { result ≡ signed x }
-{
-    sign_extend(x, 32)
-}
-
-fn is_less(x: u32, y: u32) -> bool
-    ensures { result ≡ int_lt (signed x) (signed y) }
-{
-    signed(x) < signed(y)
-}
-
-fn shift_left(x: u32, y: u32) -> u32
-    ensures { result ≡ left_shift_word x y }
-{
-    x << (y % 32)
-}
-
-fn shift_right(x: u32, y: u32) -> u32
-    ensures { result ≡ right_shift_word x y }
-{
-    x >> (y % 32)
-}
-
-fn shift_right_signed(x: u32, y: u32) -> u32
-    ensures { result ≡ signed_right_shift_word x y }
-{
-    (signed(x) >> (y % 32)).cast_unsigned()
-}
+use wcc_base::words::{
+    is_less, quotient, quotient_unsigned, remainder, remainder_unsigned, shift_left, shift_right,
+    shift_right_signed, signed,
+};
 
 /// The upper word of a product of two signed numbers.
 fn high_product(x: i32, y: i64) -> u32
@@ -50,44 +21,6 @@ fn high_product_unsigned(x: u32, y: u32) -> u32
     ensures { result ≡ x * y / 2 ^ 32 }
 {
     ((u64::from(x) * u64::from(y)) >> 32) as u32
-}
-
-/// The quotient toward zero: -1 where the divisor is 0, and -2^31 where it overflows.
-fn quotient(x: u32, y: u32) -> u32
-    ensures { result ≡ signed_quotient_word x y }
-{
-    if y == 0 {
-        return (-1i32).cast_unsigned();
-    }
-    signed(x).wrapping_div(signed(y)).cast_unsigned()
-}
-
-/// The remainder of that quotient: the dividend where the divisor is 0, and 0 where it overflows.
-fn remainder(x: u32, y: u32) -> u32
-    ensures { result ≡ signed_remainder_word x y }
-{
-    if y == 0 {
-        return x;
-    }
-    signed(x).wrapping_rem(signed(y)).cast_unsigned()
-}
-
-fn quotient_unsigned(x: u32, y: u32) -> u32
-    ensures { result ≡ quotient_word x y }
-{
-    if y == 0 {
-        return u32::MAX;
-    }
-    x / y
-}
-
-fn remainder_unsigned(x: u32, y: u32) -> u32
-    ensures { result ≡ remainder_word x y }
-{
-    if y == 0 {
-        return x;
-    }
-    x % y
 }
 
 impl Condition {

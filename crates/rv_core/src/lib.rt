@@ -34,8 +34,6 @@ mod regions;
 mod row;
 mod signs;
 mod table;
-#[cfg(test)]
-mod tests;
 mod words;
 
 pub use addresses::region;

@@ -28,8 +28,6 @@ mod numbers;
 mod perform;
 mod registers;
 mod stepping;
-#[cfg(test)]
-mod tests;
 
 pub use ending::Ending;
 pub use machine::Machine;

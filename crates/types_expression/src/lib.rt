@@ -11,6 +11,7 @@
 mod bindings;
 mod breaks;
 mod checked;
+mod finish;
 mod parts;
 mod places;
 mod walk;

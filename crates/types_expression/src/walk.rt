@@ -1,32 +1,26 @@
 // The walk over an expression.
-ghost use Rattle.std.specs.Prelude.{◌≡◌, ◌++◌, ◌∷◌, [], IfOk, OnOk, if◌then◌else◌};
+ghost use Rattle.std.specs.Prelude.{◌≡◌, ◌++◌, ◌∷◌, [], IfOk, OnOk};
 ghost use Rattle.c_tree.specs.Tree.{Name, NoExpr};
 ghost use Rattle.c_tree.specs.View.{expr_of as source_of, exprs_of as sources_of};
-ghost use Rattle.types_rules.specs.Scope.{or_else, params_of, result_of};
-ghost use Rattle.types_rules.specs.Sights.{fault_at};
+ghost use Rattle.types_rules.specs.Scope.{params_of};
 ghost use Rattle.types_rules.specs.Types.{callee};
-ghost use Rattle.types_rules.specs.Typing.{callee_of};
-ghost use Rattle.types_tree.specs.Tree.{Call};
-ghost use Rattle.types_tree.specs.View.{expr_of, exprs_of};
-ghost use Rattle.types_expression.specs.Breaks.{broken_rule, call_breaks, call_kind};
 ghost use Rattle.types_expression.specs.Checked.{AreChecked, IsChecked, IsTyped};
 
-use super::bindings::{
-    element_kind, is_callable, is_unknown, name_kind, names_array, names_no_array, object_of,
-};
-use super::breaks::{Breaks, both, differ, either, first_of};
+use super::bindings::{is_callable, is_unknown, name_kind, names_array};
+use super::breaks::{Breaks, both, either, first_of};
 use super::checked::{Checked, CheckedArguments};
-use super::parts::{
-    argument, argument_fits, assign, binary_kind, callee_of, cast, cast_kind, choose, is_step,
-    is_undefined, join, named, or_int, param_at, prefix, prefix_kind, step, takes_array, uses_both,
+use super::finish::{
+    finish_assign, finish_binary, finish_call, finish_cast, finish_conditional, finish_index,
+    finish_paren, finish_postfix, finish_prefix, leaf,
 };
+use super::parts::{argument, argument_fits, is_step, named, param_at, takes_array};
 use super::places::is_place;
 use c_tree::expression::Expr as Source;
 use std::alloc::{AllocError, Global};
 use types_rules::scope::{Binding, ParamType};
-use types_rules::{Fault, are_wrong, constant_kind, kind_spelled, sign_of, update_of};
+use types_rules::{are_wrong, constant_kind, update_of};
 use types_scope::Table;
-use types_tree::expression::{Expr, Fix, Place};
+use types_tree::expression::Expr;
 use types_value::Kind;
 
 /// The types of the parameters of the function that a name stands for.
@@ -41,29 +35,6 @@ fn callee_params<'a>(table: &'a Table, name: u32) -> &'a [ParamType]
         Some(Binding::Object { .. }) => &[],
         None => &[],
     }
-}
-
-/// The type of the result of the function that a name stands for.
-fn callee_result(table: &Table, name: u32) -> Kind
-    ensures { result ≡ result_of (callee name table.now) }
-{
-    match table.found(name) {
-        Some(Binding::Function) => match table.routine(name) {
-            Some(routine) => routine.result,
-            None => Kind::Int,
-        },
-        Some(Binding::Object { .. }) => Kind::Int,
-        None => Kind::Int,
-    }
-}
-
-fn leaf(expr: Expr, kind: Kind, fault: Option<Fault>, alloc: Global) -> Result<Checked, AllocError>
-    ensures expr { IfOk result (λ r. r.value.expr.value ≡ expr) }
-    ensures kind { IfOk result (λ r. r.value.kind ≡ kind) }
-    ensures fault { IfOk result (λ r. r.fault ≡ fault) }
-{
-    let expr = expr.boxed(alloc)?;
-    Ok(Checked::new(expr, kind, fault))
 }
 
 fn check_name(
@@ -84,29 +55,6 @@ fn check_name(
         breaks.fault(at),
         alloc,
     )
-}
-
-/// A call, once its arguments are walked.
-fn finish_call(
-    name: u32,
-    at: u32,
-    arguments: CheckedArguments,
-    table: &Table,
-    alloc: Global,
-) -> Result<Checked, AllocError>
-    ensures expr { IfOk result (λ r. expr_of r.value.expr.value ≡ Call (callee_of name table.now.outline) (exprs_of arguments.exprs.items) at) }
-    ensures kind { IfOk result (λ r. r.value.kind ≡ call_kind (call_breaks name arguments.fit arguments.void table.now) (result_of (callee name table.now))) }
-    ensures fault { IfOk result (λ r. r.fault ≡ or_else (fault_at (broken_rule (call_breaks name arguments.fit arguments.void table.now)) at) arguments.fault) }
-{
-    let binding = table.found(name);
-    let rightly = both(is_callable(binding), arguments.fit);
-    let undefined = is_undefined(binding, name, table.known());
-    let breaks = Breaks::of_call(is_unknown(binding), !rightly, arguments.void, undefined);
-    let kind = breaks.kind(callee_result(table, name));
-    let fault = first_of(breaks.fault(at), arguments.fault);
-    let callee = callee_of(name, table.known())?;
-    let expr = Expr::call(callee, arguments.exprs, at).boxed(alloc)?;
-    Ok(Checked::new(expr, kind, fault))
 }
 
 fn push(exprs: &mut Vec<Expr>, expr: Box<Expr>) -> Result<(), AllocError>
@@ -144,28 +92,12 @@ fn check_expr(
         Source::Name { name, at } => check_name(name.0, *at, as_array, table, alloc),
         Source::Paren { inner, at } => {
             let inner = check_expr(inner, false, table, alloc)?;
-            let expr = Expr::Paren {
-                inner: inner.value.expr,
-                at: *at,
-            };
-            leaf(expr, inner.value.kind, inner.fault, alloc)
+            finish_paren(inner, *at, alloc)
         }
         Source::Index { array, index, at } => {
             let binding = table.found(array.0);
             let index = check_expr(index, false, table, alloc)?;
-            let void = index.value.kind.is_void();
-            let breaks = Breaks::of_index(is_unknown(binding), names_no_array(binding), void);
-            let expr = Expr::Read(Place::Element {
-                array: object_of(binding),
-                index: index.value.expr,
-                at: *at,
-            });
-            leaf(
-                expr,
-                element_kind(binding),
-                first_of(breaks.fault(*at), index.fault),
-                alloc,
-            )
+            finish_index(binding, index, *at, alloc)
         }
         Source::Call {
             function,
@@ -184,11 +116,7 @@ fn check_expr(
         } => {
             let wrong = !is_place(operand, table);
             let inner = check_expr(operand, false, table, alloc)?;
-            let breaks = Breaks::of_place(inner.value.kind.is_void(), wrong);
-            let kind = or_int(inner.value.kind);
-            let fault = first_of(breaks.fault(*at), inner.fault);
-            let expr = step(Fix::Postfix, *operator, inner.value, *at, alloc)?;
-            Ok(Checked::new(expr, kind, fault))
+            finish_postfix(*operator, wrong, inner, *at, alloc)
         }
         Source::Prefix {
             operator,
@@ -197,11 +125,7 @@ fn check_expr(
         } => {
             let wrong = both(is_step(*operator), !is_place(operand, table));
             let inner = check_expr(operand, false, table, alloc)?;
-            let breaks = Breaks::of_place(inner.value.kind.is_void(), wrong);
-            let kind = prefix_kind(sign_of(*operator), inner.value.kind);
-            let fault = first_of(breaks.fault(*at), inner.fault);
-            let expr = prefix(*operator, inner.value, *at, alloc)?;
-            Ok(Checked::new(expr, kind, fault))
+            finish_prefix(*operator, wrong, inner, *at, alloc)
         }
         Source::Cast {
             specifiers,
@@ -209,13 +133,8 @@ fn check_expr(
             at,
         } => {
             let wrong = are_wrong(false, table.in_block(), specifiers);
-            let to = kind_spelled(specifiers);
             let inner = check_expr(operand, false, table, alloc)?;
-            let void = both(!to.is_void(), inner.value.kind.is_void());
-            let breaks = Breaks::of_cast(wrong, void);
-            let fault = first_of(breaks.fault(*at), inner.fault);
-            let expr = cast(specifiers, inner.value.expr, *at, alloc)?;
-            Ok(Checked::new(expr, cast_kind(wrong, to), fault))
+            finish_cast(specifiers, wrong, inner, *at, alloc)
         }
         Source::Binary {
             operator,
@@ -225,12 +144,7 @@ fn check_expr(
         } => {
             let first = check_expr(left, false, table, alloc)?;
             let second = check_expr(right, false, table, alloc)?;
-            let void = either(first.value.kind.is_void(), second.value.kind.is_void());
-            let breaks = Breaks::of_void(both(uses_both(*operator), void));
-            let kind = binary_kind(*operator, first.value.kind, second.value.kind);
-            let fault = first_of(breaks.fault(*at), first_of(first.fault, second.fault));
-            let expr = join(*operator, first.value, second.value, *at, alloc)?;
-            Ok(Checked::new(expr, kind, fault))
+            finish_binary(*operator, first, second, *at, alloc)
         }
         Source::Conditional {
             test,
@@ -241,14 +155,7 @@ fn check_expr(
             let test = check_expr(test, false, table, alloc)?;
             let first = check_expr(then, false, table, alloc)?;
             let second = check_expr(otherwise, false, table, alloc)?;
-            let one = differ(first.value.kind.is_void(), second.value.kind.is_void());
-            let breaks = Breaks::of_void(either(test.value.kind.is_void(), one));
-            let parts = first_of(test.fault, first_of(first.fault, second.fault));
-            let value = choose(test.value, first.value, second.value, *at, alloc)?;
-            Ok(Checked {
-                value,
-                fault: first_of(breaks.fault(*at), parts),
-            })
+            finish_conditional(test, first, second, *at, alloc)
         }
         Source::Assign {
             operator,
@@ -259,12 +166,7 @@ fn check_expr(
             let wrong = !is_place(target, table);
             let first = check_expr(target, false, table, alloc)?;
             let second = check_expr(value, false, table, alloc)?;
-            let void = either(first.value.kind.is_void(), second.value.kind.is_void());
-            let breaks = Breaks::of_place(void, wrong);
-            let kind = or_int(first.value.kind);
-            let fault = first_of(breaks.fault(*at), first_of(first.fault, second.fault));
-            let expr = assign(update_of(*operator), first.value, second.value, *at, alloc)?;
-            Ok(Checked::new(expr, kind, fault))
+            finish_assign(update_of(*operator), wrong, first, second, *at, alloc)
         }
     }
 }

@@ -1,5 +1,5 @@
 -- The limits of a unit and the order of its faults.
-use Rattle.std.specs.Prelude.{ℕ, ◌+◌, ◌*◌, ◌/◌, nat_lt, if◌then◌else◌, List, [], ◌∷◌, Option, Some, None}
+use Rattle.std.specs.Prelude.{ℕ, ◌+◌, ◌*◌, nat_lt, if◌then◌else◌, List, [], ◌∷◌, Option, Some, None}
 use Rattle.c_tree.specs.Size.{size_unit}
 use Rattle.c_tree.specs.Tree.{Row, Nothing, Then, Param, Declaration, Objects, Prototype, ForStart, NoStart, StartValue, StartDeclaration, Statement, Block, Empty, Evaluate, Marker, If, IfElse, While, Do, For, Switch, Break, Continue, Return, Items, NoItem, AndDeclaration, AndStatement, AndRestriction, AndLabel, External, Restriction, Declaring, Function, TranslationUnit, Whole}
 use Rattle.types_tree.specs.declared.variable.Duration.{Duration}
@@ -10,6 +10,7 @@ use Rattle.types_tree.specs.declared.variable.Variable.{Variable}
 use Rattle.types_value.specs.Kinds.{bytes}
 use Rattle.types_value.specs.declared.kind.Kind.{Kind}
 use Rattle.wcc_base.specs.Limits.{greatest_of}
+use Rattle.wcc_base.specs.Sizes.{rounded}
 use Rattle.wcc_base.specs.declared.limits.Bound.{Bound}
 use Rattle.wcc_base.specs.declared.limits.Bound.TheVariants.{Nodes, Functions, Parameters, Markers, Restrictions, Globals, Locals}
 use Rattle.types_rules.specs.DeclarationRules.{is_no_list}
@@ -120,7 +121,7 @@ limits_before nodes t =
 -- the bytes of an object: 4 of a scalar or an array parameter, those of an array rounded up to a multiple of 4
 abbrev pub object_bytes : Kind → Extent → ℕ
 object_bytes kind Scalar = 4
-object_bytes kind (Array count) = (count * bytes kind + 3) / 4 * 4
+object_bytes kind (Array count) = rounded (count * bytes kind)
 object_bytes kind Parameter = 4
 
 abbrev pub global_bytes_of : Duration → ℕ → ℕ

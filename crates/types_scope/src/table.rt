@@ -165,11 +165,24 @@ impl Table {
     pub fn new(known: Known, alloc: Global) -> Result<Table, AllocError>
         ensures { IfOk result (λ table. table ≡ started known) }
     {
-        let (getchar, putchar) = (known.getchar(), known.putchar());
         let mut table = Table::empty(known, alloc);
-        table.introduce(getchar, no_params(alloc))?;
-        table.introduce(putchar, one_int(alloc)?)?;
-        Ok(table)
+        match table.introduce_library(alloc) {
+            Ok(()) => Ok(table),
+            Err(memory) => {
+                drop(table);
+                Err(memory)
+            }
+        }
+    }
+
+    /// Declares `getchar` and `putchar`.
+    fn introduce_library(&mut self, alloc: Global) -> Result<(), AllocError>
+        ensures { OnOk result (self.new ≡ with_routine self.old.outline.putchar putchar_type (with_routine self.old.outline.getchar getchar_type self.old)) }
+    {
+        let (getchar, putchar) = (self.known.getchar(), self.known.putchar());
+        let routine = one_int(alloc)?;
+        self.introduce(getchar, no_params(alloc))?;
+        self.introduce(putchar, routine)
     }
 
     fn empty(known: Known, alloc: Global) -> Table

@@ -1,5 +1,5 @@
 -- A block and a `switch`, by what is known of their parts.
-use Rattle.std.proofs.Common.{◌≡◌, refl, ap, ◌∙◌, sym, subst, ℕ}
+use Rattle.std.proofs.Common.{◌≡◌, refl, ap, ◌∙◌, sym, subst, ℕ, Result, Ok, Err, IfOk}
 use Rattle.std.specs.Prelude.{Vec}
 use Rattle.std.specs.Global.{Global}
 use Rattle.c_tree.specs.Tree.{Statement, NoItem}
@@ -17,7 +17,7 @@ use Rattle.types_statement.specs.declared.checked.CheckedItems.{CheckedItems}
 use Rattle.types_statement.specs.declared.checked.CheckedStatement.{CheckedStatement}
 use Rattle.types_statement.specs.declared.checked.CheckedTest.{CheckedTest}
 
-pub block_is : (given : Vec sources.Item Global) (at : ℕ) (w : Within) (a inside b c : Around) (inner : CheckedItems) (r : CheckedStatement)
+block_is : (given : Vec sources.Item Global) (at : ℕ) (w : Within) (a inside b c : Around) (inner : CheckedItems) (r : CheckedStatement)
     → inside ≡ entered a → AreItems inner (source_items NoItem given.items) w inside b → c ≡ left b
     → statement_of r.statement.value ≡ typed.Block (items_of inner.items.items) at → r.fault ≡ inner.fault
     → IsStatement r (source_statement (statements.Block given at)) w a c
@@ -31,7 +31,7 @@ block_is given at w a inside b c inner r e i l s f =
       after = l ∙ ap left h.after;
     })
 
-pub switch_is : (test : exprs.Expr) (given : Vec sources.Item Global) (at : ℕ) (w v : Within) (a inside b c : Around) (choice : CheckedTest) (inner : CheckedItems) (r : CheckedStatement)
+switch_is : (test : exprs.Expr) (given : Vec sources.Item Global) (at : ℕ) (w v : Within) (a inside b c : Around) (choice : CheckedTest) (inner : CheckedItems) (r : CheckedStatement)
     → v ≡ in_switch w → inside ≡ entered a → IsChoice choice (source_of test) at a → AreItems inner (source_items NoItem given.items) v inside b → c ≡ left b
     → statement_of r.statement.value ≡ typed.Switch (expr_of choice.test.value) (items_of inner.items.items) at → r.fault ≡ or_else choice.own (or_else choice.fault inner.fault)
     → IsStatement r (source_statement (statements.Switch test given at)) w a c
@@ -45,3 +45,18 @@ switch_is test given at w v a inside b c choice inner r ve e t i l s f =
       fault = f ∙ rw (t.own, t.fault, h.fault) refl;
       after = l ∙ ap left h.after;
     })
+
+-- the same of what a call gives
+pub block_made : {E : Type 0} (given : Vec sources.Item Global) (at : ℕ) (w : Within) (a inside b c : Around) (inner : CheckedItems) (r : Result CheckedStatement E)
+    → inside ≡ entered a → AreItems inner (source_items NoItem given.items) w inside b → c ≡ left b
+    → IfOk r (λ x. statement_of x.statement.value ≡ typed.Block (items_of inner.items.items) at) → IfOk r (λ x. x.fault ≡ inner.fault)
+    → IfOk r (λ x. IsStatement x (source_statement (statements.Block given at)) w a c)
+block_made given at w a inside b c inner (Ok r) e i l s f = block_is given at w a inside b c inner r e i l s f
+block_made given at w a inside b c inner (Err x) e i l s f = tt
+
+pub switch_made : {E : Type 0} (test : exprs.Expr) (given : Vec sources.Item Global) (at : ℕ) (w v : Within) (a inside b c : Around) (choice : CheckedTest) (inner : CheckedItems) (r : Result CheckedStatement E)
+    → v ≡ in_switch w → inside ≡ entered a → IsChoice choice (source_of test) at a → AreItems inner (source_items NoItem given.items) v inside b → c ≡ left b
+    → IfOk r (λ x. statement_of x.statement.value ≡ typed.Switch (expr_of choice.test.value) (items_of inner.items.items) at) → IfOk r (λ x. x.fault ≡ or_else choice.own (or_else choice.fault inner.fault))
+    → IfOk r (λ x. IsStatement x (source_statement (statements.Switch test given at)) w a c)
+switch_made test given at w v a inside b c choice inner (Ok r) ve e t i l s f = switch_is test given at w v a inside b c choice inner r ve e t i l s f
+switch_made test given at w v a inside b c choice inner (Err x) ve e t i l s f = tt

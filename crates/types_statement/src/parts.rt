@@ -178,9 +178,20 @@ pub fn check_head(
     ensures { IfOk result (λ r. IsHead r.value (source_start head.now.start) (map_option source_of head.now.test) (map_option source_of head.now.step) table.old table.new) }
 {
     let start = check_start(&head.start, table, alloc)?;
-    let test = check_option(&head.test, table, alloc)?;
-    let step = check_option(&head.step, table, alloc)?;
-    boxed(CheckedHead { start, test, step }, alloc)
+    match check_option(&head.test, table, alloc) {
+        Ok(test) => match check_option(&head.step, table, alloc) {
+            Ok(step) => boxed(CheckedHead { start, test, step }, alloc),
+            Err(memory) => {
+                drop(start);
+                drop(test);
+                Err(memory)
+            }
+        },
+        Err(memory) => {
+            drop(start);
+            Err(memory)
+        }
+    }
 }
 
 /// Checks the test of a statement at this place.

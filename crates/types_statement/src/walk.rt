@@ -37,8 +37,7 @@ fn check_statement(
             table.enter(alloc)?;
             let inner = check_items(items, within, table, alloc)?;
             table.leave(alloc);
-            let block = make_block(inner, *at, alloc)?;
-            Ok(block)
+            make_block(inner, *at, alloc)
         }
         Source::Empty { at } => made(Statement::Empty { at: *at }, None, alloc),
         Source::Expression { value, at } => check_evaluate(value, within, *at, table, alloc),
@@ -99,8 +98,7 @@ fn check_statement(
             table.enter(alloc)?;
             let inner = check_items(items, within.in_switch(), table, alloc)?;
             table.leave(alloc);
-            let switch = make_switch(choice, inner, *at, alloc)?;
-            Ok(switch)
+            make_switch(choice, inner, *at, alloc)
         }
         Source::Break { at } => {
             let own = own_fault(false, !within.has_exit, false, *at);

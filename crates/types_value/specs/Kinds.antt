@@ -1,7 +1,6 @@
 -- The integer types and their conversions (C11 6.2.5, 6.3.1.1, 6.3.1.3, 6.3.1.8).
 use Rattle.std.specs.Prelude.{ℕ, ◌%◌, ◌^◌, ◌==◌, Bool, true, false}
-use Rattle.wcc_base.specs.Signs.{signed_of}
-use Rattle.wcc_base.specs.Words.{wrapped}
+use Rattle.wcc_base.specs.Words.{sign_filled}
 use Rattle.types_value.specs.declared.kind.Kind.{Kind}
 use Rattle.types_value.specs.declared.kind.Kind.TheVariants.{Void, Char, SignedChar, UnsignedChar, Short, UnsignedShort, Int, Unsigned, Long, UnsignedLong}
 
@@ -62,10 +61,6 @@ joined _ _ = UnsignedLong
 -- the usual arithmetic conversions
 abbrev pub common : Kind → Kind → Kind
 common a b = joined (promoted a) (promoted b)
-
--- the low bits of a word, filled up with copies of their sign
-abbrev pub sign_filled : ℕ → ℕ → ℕ
-sign_filled bits w = wrapped (signed_of bits (w % 2 ^ bits))
 
 -- a word converted to a type: its number modulo a power of two, in the range of the type
 abbrev pub converted : Kind → ℕ → ℕ

@@ -1,17 +1,12 @@
 ghost use Rattle.std.specs.Prelude.{◌≡◌, ◌<◌, ◌*◌, ◌^◌, nat_le, ◌*ℤ◌};
-ghost use Rattle.wcc_base.specs.Words.{signed_word, truth_word, left_shift_word};
 ghost use Rattle.types_value.specs.Operators.{computed, less_of, not_divided, not_shifted_left, overflows, quotient_of, remainder_of, right_shift_of, signed_by, undefined, when, word_of};
 
 use super::kind::Kind;
 use super::operator::{Operator, Sign, Undefined};
-use wcc_base::sign_extend;
-
-/// The number of a word in two's complement.
-fn signed(word: u32) -> i32
-    ensures { result ≡ signed_word word }
-{
-    sign_extend(word, 32)
-}
+use wcc_base::words::{
+    is_less, quotient, quotient_unsigned, remainder, remainder_unsigned, shift_left, shift_right,
+    shift_right_signed, signed, truth,
+};
 
 /// Whether a number is none of 32 bits with a sign.
 fn overflows(number: i64) -> bool
@@ -84,63 +79,44 @@ fn undefined(operator: Operator, signs: bool, left: u32, right: u32) -> Option<U
     }
 }
 
-/// 1 for a test that holds, else 0.
-fn truth(test: bool) -> u32
-    ensures { result ≡ truth_word test }
-{
-    if test { 1 } else { 0 }
-}
-
 /// 1 where the left word is less than the right one, else 0.
 fn less(signs: bool, left: u32, right: u32) -> u32
     ensures { result ≡ less_of signs left right }
 {
     if signs {
-        truth(signed(left) < signed(right))
+        truth(is_less(left, right))
     } else {
         truth(left < right)
     }
 }
 
-fn quotient(signs: bool, left: u32, right: u32) -> u32
+fn quotient_of(signs: bool, left: u32, right: u32) -> u32
     ensures { result ≡ quotient_of signs left right }
 {
-    if right == 0 {
-        return u32::MAX;
-    }
     if signs {
-        signed(left).wrapping_div(signed(right)).cast_unsigned()
+        quotient(left, right)
     } else {
-        left / right
+        quotient_unsigned(left, right)
     }
 }
 
-fn remainder(signs: bool, left: u32, right: u32) -> u32
+fn remainder_of(signs: bool, left: u32, right: u32) -> u32
     ensures { result ≡ remainder_of signs left right }
 {
-    if right == 0 {
-        return left;
-    }
     if signs {
-        signed(left).wrapping_rem(signed(right)).cast_unsigned()
+        remainder(left, right)
     } else {
-        left % right
+        remainder_unsigned(left, right)
     }
 }
 
-fn shift_left(left: u32, right: u32) -> u32
-    ensures { result ≡ left_shift_word left right }
-{
-    left << (right % 32)
-}
-
-fn shift_right(signs: bool, left: u32, right: u32) -> u32
+fn right_shift_of(signs: bool, left: u32, right: u32) -> u32
     ensures { result ≡ right_shift_of signs left right }
 {
     if signs {
-        (signed(left) >> (right % 32)).cast_unsigned()
+        shift_right_signed(left, right)
     } else {
-        left >> (right % 32)
+        shift_right(left, right)
     }
 }
 
@@ -150,12 +126,12 @@ fn word_of(operator: Operator, signs: bool, left: u32, right: u32) -> u32
 {
     match operator {
         Operator::Multiply => left.wrapping_mul(right),
-        Operator::Divide => quotient(signs, left, right),
-        Operator::Remainder => remainder(signs, left, right),
+        Operator::Divide => quotient_of(signs, left, right),
+        Operator::Remainder => remainder_of(signs, left, right),
         Operator::Add => left.wrapping_add(right),
         Operator::Subtract => left.wrapping_sub(right),
         Operator::ShiftLeft => shift_left(left, right),
-        Operator::ShiftRight => shift_right(signs, left, right),
+        Operator::ShiftRight => right_shift_of(signs, left, right),
         Operator::Less => less(signs, left, right),
         Operator::Greater => less(signs, right, left),
         Operator::LessEqual => truth(less(signs, right, left) == 0),

@@ -1,7 +1,7 @@
 ghost use Rattle.std.specs.Prelude.{◌≡◌, ◌≤◌};
-ghost use Rattle.types_value.specs.Kinds.{bytes, common, converted, is_signed, is_void, joined, kind_number, promoted, same_kind, sign_filled};
+ghost use Rattle.types_value.specs.Kinds.{bytes, common, converted, is_signed, is_void, joined, kind_number, promoted, same_kind};
 
-use wcc_base::sign_extend;
+use wcc_base::words::sign_filled;
 
 /// An integer type, or void (C11 6.2.5).
 #[derive(Clone, Copy, Debug)]
@@ -17,15 +17,6 @@ pub enum Kind {
     Unsigned,
     Long,
     UnsignedLong,
-}
-
-/// The low bits of a word, filled up with copies of their sign.
-fn fill(bits: u32, word: u32) -> u32
-    requires some { 1 ≤ bits }
-    requires most { bits ≤ 32 }
-    ensures { result ≡ sign_filled bits word }
-{
-    sign_extend(word, bits).cast_unsigned()
 }
 
 impl Kind {
@@ -123,9 +114,9 @@ impl Kind {
     {
         match self {
             Kind::Char => word % 256,
-            Kind::SignedChar => fill(8, word),
+            Kind::SignedChar => sign_filled(word, 8),
             Kind::UnsignedChar => word % 256,
-            Kind::Short => fill(16, word),
+            Kind::Short => sign_filled(word, 16),
             Kind::UnsignedShort => word % 65_536,
             _ => word,
         }

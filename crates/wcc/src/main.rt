@@ -12,8 +12,6 @@
 //! claims, on every input, and that what is printed of a run is what the machine does.
 #![tactic(auto)]
 
-#[cfg(test)]
-mod tests;
 mod top;
 
 use command_perform::report_status;

@@ -32,7 +32,9 @@ pub fn wcc<S: Store, O: Sink>(alloc: Global, words: &[String], store: &mut S, ou
         → NoFault (S.state store.old) (S.state store.new) (O.state out.old) (O.state out.new)
         → (result ≡ s) ⊎ (result ≡ Status.Memory) }
 
-    // The table of answers: what each status tells. Want of memory tells nothing.
+    // The table of answers: what each status tells. One count of faults has risen where the store's
+    // fault is told, and else none of its counts; want of memory hides such a fault only where the sink
+    // refused its line.
     ensures answers { Answers (asked_by (map string_bytes words.now)) (S.state store.old) (S.state store.new) (O.state out.old) (O.state out.new) result }
     ensures no_command { asked_by (map string_bytes words.now) ≡ None
         → (result ≡ Status.Usage) ⊎ (result ≡ Status.Memory) }

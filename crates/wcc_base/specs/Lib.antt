@@ -6,3 +6,4 @@ pub mod Limits
 pub mod StatusCode
 pub mod Signs
 pub mod Words
+pub mod Sizes

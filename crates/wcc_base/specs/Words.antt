@@ -11,6 +11,10 @@ signed_word w = signed_of 32 w
 abbrev pub wrapped : ℤ → ℕ
 wrapped z = unsigned_of 32 z
 
+-- the low bits of a word, filled up with copies of their sign
+abbrev pub sign_filled : ℕ → ℕ → ℕ
+sign_filled bits w = wrapped (signed_of bits (w % 2 ^ bits))
+
 -- 1 for a test that holds, else 0
 abbrev pub truth_word : Bool → ℕ
 truth_word b = if b then 1 else 0

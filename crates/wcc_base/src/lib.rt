@@ -7,7 +7,7 @@
 //! speak of them; the adapters `FsStore` and `OutSink` tell none, and are the trusted edge.
 //!
 //! Beside them stand the ways in which a call ends, the limits of its inputs, lists that contracts
-//! see as lists, and numbers in two's complement. Nothing here knows a language or a machine.
+//! see as lists, and the operators on words of 32 bits. Nothing here knows a language or a machine.
 #![tactic(auto)]
 
 mod calm;
@@ -21,9 +21,8 @@ mod outside;
 mod signs;
 mod status;
 mod system;
-#[cfg(test)]
-mod tests;
 mod text;
+pub mod words;
 
 pub use calm::{CalmSink, CalmStore};
 pub use compare::Compare;

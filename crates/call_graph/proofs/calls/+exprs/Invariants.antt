@@ -1,5 +1,5 @@
 use Rattle.std.proofs.Common.{◌≡◌, ◌++◌, drop}
-use Rattle.facts_definitions.specs.Calls.{exprs_calls}
+use Rattle.types_calls.specs.Calls.{exprs_calls}
 use Rattle.types_tree.specs.View.{exprs_of}
 use Rattle.call_graph.proofs.calls.+exprs.Given as goal
 

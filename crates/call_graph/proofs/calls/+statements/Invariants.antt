@@ -1,5 +1,5 @@
 use Rattle.std.proofs.Common.{◌≡◌, ◌++◌, drop}
-use Rattle.facts_definitions.specs.Calls.{items_calls}
+use Rattle.types_calls.specs.Calls.{items_calls}
 use Rattle.types_tree.specs.View.{items_of}
 use Rattle.call_graph.proofs.calls.+statements.Given as goal
 

@@ -1,5 +1,5 @@
 use Rattle.std.proofs.Common.{◌≡◌, ◌++◌, drop, map}
-use Rattle.facts_definitions.specs.Calls.{objects_calls}
+use Rattle.types_calls.specs.Calls.{objects_calls}
 use Rattle.types_tree.specs.View.{object_of}
 use Rattle.call_graph.proofs.calls.add_objects.Given as goal
 

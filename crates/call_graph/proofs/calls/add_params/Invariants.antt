@@ -1,5 +1,5 @@
 use Rattle.std.proofs.Common.{◌≡◌, ◌++◌, drop, map}
-use Rattle.facts_definitions.specs.Calls.{params_calls}
+use Rattle.types_calls.specs.Calls.{params_calls}
 use Rattle.types_tree.specs.View.{param_of}
 use Rattle.call_graph.proofs.calls.add_params.Given as goal
 

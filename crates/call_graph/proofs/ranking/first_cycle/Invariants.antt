@@ -1,5 +1,5 @@
 use Rattle.std.proofs.Common.{◌<◌, ℕ}
-use Rattle.facts_definitions.specs.Chains.{Reaches}
+use Rattle.types_calls.specs.Chains.{Reaches}
 use Rattle.call_graph.proofs.ranking.first_cycle.Given as goal
 
 abbrev pub invariant-loop-f : goal.invariant-loop-f

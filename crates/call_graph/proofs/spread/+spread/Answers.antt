@@ -1,5 +1,5 @@
 use Rattle.std.proofs.Common.{◌≡◌, ◌<◌, arith, sym, ◌∙◌, subst, length, get_or}
-use Rattle.facts_definitions.specs.Chains.{Among, callees}
+use Rattle.types_calls.specs.Chains.{Among, callees}
 use Rattle.call_graph.specs.Search.{Spreads}
 use Rattle.call_graph.proofs.Greatest.{read_callees, among_at, drop_at}
 use Rattle.call_graph.proofs.Seen.{spread_begin, spread_step, unseen-set}

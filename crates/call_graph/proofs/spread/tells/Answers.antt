@@ -1,5 +1,5 @@
 use Rattle.std.proofs.Common.{◌≡◌, sym, ◌∙◌, subst, get_or}
-use Rattle.facts_definitions.specs.Chains.{Among, callees}
+use Rattle.types_calls.specs.Chains.{Among, callees}
 use Rattle.call_graph.specs.Search.{IsRoot}
 use Rattle.call_graph.proofs.Greatest.{read_callees, among_at, drop_past, drop_at}
 use Rattle.call_graph.proofs.Seen.{root_step, root_tells}

@@ -1,7 +1,7 @@
 use Rattle.std.proofs.Common.{◌≡◌, ◌<◌, arith, sym, ◌∙◌, subst, suc, length, get_or}
 use Rattle.std.proofs.lemmas.List.{length-set}
 use Rattle.call_graph.specs.declared.graph.Mark.TheVariants.{Open}
-use Rattle.facts_definitions.specs.Chains.{Among, callees}
+use Rattle.types_calls.specs.Chains.{Among, callees}
 use Rattle.call_graph.specs.Search.{Keeps, fresh}
 use Rattle.call_graph.proofs.Greatest.{IsSoFar, so_far_all, so_far_step, read_callees, among_at, drop_past, drop_at}
 use Rattle.call_graph.proofs.Marks.{fresh-open, sound_open, path_open, path_on, keeps_more, keeps_done}

@@ -5,7 +5,7 @@ use Rattle.command_perform.proofs.performing.perform.Goals as goal
 pub returns-in-Ok-Some : goal.returns-in-Ok-Some
 returns-in-Ok-Some g c =
     let asked = rw c.in-Ok-Some.field-0-is at c.in-Ok-Some.ensures in
-    performs _ _ c.work-made.result _ _ _ _ _ c.finish.result (sym asked) c.work-made.ensures.reads c.work-made.ensures.made c.finish.ensures.done
+    performs _ _ c.work-made.result _ _ _ _ _ c.finish.result (sym asked) c.work-made.ensures.reads c.work-made.ensures.made c.finish.ensures
 
 pub returns-in-Ok-None : goal.returns-in-Ok-None
 returns-in-Ok-None g c =

@@ -7,4 +7,4 @@ returns-in-Err-clause-err g c =
 
 pub lines-preserved : goal.lines-preserved
 lines-preserved g c =
-    show_more _ _ _ _ _ _ _ (left_shown c.args.lines.now c.lines.part-index _ c.lines-test.true) c.in-Ok.ensures.ok c.in-Ok.ensures.cause.later c.lines.invariant
+    show_more _ _ _ _ _ _ _ (left_shown c.args.lines.now c.lines.part-index _ c.lines-test.true) c.in-Ok.ensures.ok c.in-Ok.ensures.counts c.lines.invariant

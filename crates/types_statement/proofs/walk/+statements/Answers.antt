@@ -4,7 +4,7 @@ use Rattle.c_tree.specs.View.{items_of as source_items}
 use Rattle.c_tree.specs.declared.statement.Item as sources
 use Rattle.types_statement.specs.Checked.{AreItems}
 use Rattle.types_statement.specs.Within.{within_said}
-use Rattle.types_statement.proofs.Braces.{block_is, switch_is}
+use Rattle.types_statement.proofs.Braces.{block_made, switch_made}
 use Rattle.types_statement.proofs.ItemLists.{all_so_far, one_more, so_far}
 use Rattle.types_statement.proofs.walk.+statements.Goals as goal
 
@@ -22,21 +22,21 @@ check_items-returns t c =
 pub check_items-loop-source-init : goal.check_items-loop-source-init
 check_items-loop-source-init t c = rw (c.new-items.ensures.items, c.new-labels.ensures) (so_far (within_said c.args.within) c.args.given.now c.args.table.now)
 
-pub check_statement-returns-in_ok-block-in-Block : goal.check_statement-returns-in_ok-block-in-Block
-check_statement-returns-in_ok-block-in-Block t c =
+pub check_statement-returns-in_ok-inner-in-Block : goal.check_statement-returns-in_ok-inner-in-Block
+check_statement-returns-in_ok-inner-in-Block t c =
     let w = within_said c.args.within in
     let b = c.check_items.new.table in
     let P : List sources.Item → Type 0 = λ xs. AreItems c.in_ok-inner-in-Block.inner (source_items NoItem xs) w c.enter.new.self b in
     rw c.in-Block.is
-    (block_is c.in-Block.items c.in-Block.at w c.args.table.now c.enter.new.self b c.leave.new.self c.in_ok-inner-in-Block.inner c.in_ok-block-in-Block.block
-    c.in_ok-enter-in-Block.ensures (subst P c.deref.ensures.value c.in_ok-inner-in-Block.ensures) c.leave.ensures c.in_ok-block-in-Block.ensures.statement c.in_ok-block-in-Block.ensures.fault)
+    (block_made c.in-Block.items c.in-Block.at w c.args.table.now c.enter.new.self b c.leave.new.self c.in_ok-inner-in-Block.inner c.make_block.result
+    c.in_ok-enter-in-Block.ensures (subst P c.deref.ensures.value c.in_ok-inner-in-Block.ensures) c.leave.ensures c.make_block.ensures.statement c.make_block.ensures.fault)
 
-pub check_statement-returns-in_ok-switch-in-Switch : goal.check_statement-returns-in_ok-switch-in-Switch
-check_statement-returns-in_ok-switch-in-Switch t c =
+pub check_statement-returns-in_ok-inner-in-Switch : goal.check_statement-returns-in_ok-inner-in-Switch
+check_statement-returns-in_ok-inner-in-Switch t c =
     let w = within_said c.args.within in
     let v = within_said c.in_switch.result in
     let b = c.check_items-in-Switch.new.table in
     let P : List sources.Item → Type 0 = λ xs. AreItems c.in_ok-inner-in-Switch.inner (source_items NoItem xs) v c.enter-in-Switch.new.self b in
     rw c.in-Switch.is
-    (switch_is c.in-Switch.test c.in-Switch.items c.in-Switch.at w v c.args.table.now c.enter-in-Switch.new.self b c.leave-in-Switch.new.self c.in_ok-choice-in-Switch.choice c.in_ok-inner-in-Switch.inner c.in_ok-switch-in-Switch.switch
-    c.in_switch.ensures c.in_ok-enter-in-Switch.ensures c.in_ok-choice-in-Switch.ensures (subst P c.deref-in-Switch.ensures.value c.in_ok-inner-in-Switch.ensures) c.leave-in-Switch.ensures c.in_ok-switch-in-Switch.ensures.statement c.in_ok-switch-in-Switch.ensures.fault)
+    (switch_made c.in-Switch.test c.in-Switch.items c.in-Switch.at w v c.args.table.now c.enter-in-Switch.new.self b c.leave-in-Switch.new.self c.in_ok-choice-in-Switch.choice c.in_ok-inner-in-Switch.inner c.make_switch.result
+    c.in_switch.ensures c.in_ok-enter-in-Switch.ensures c.in_ok-choice-in-Switch.ensures (subst P c.deref-in-Switch.ensures.value c.in_ok-inner-in-Switch.ensures) c.leave-in-Switch.ensures c.make_switch.ensures.statement c.make_switch.ensures.fault)

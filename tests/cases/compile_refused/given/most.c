@@ -1,0 +1,1 @@
+int main(void){_Pragma("loopbound min 0 max 1048576") while(0)_Pragma("loopbound min 0 max 1048576") while(0);}

@@ -1,0 +1,1 @@
+int main(void){_Pragma("flowrestriction 1*z <= 1*main") return 0;}

@@ -1,0 +1,1 @@
+int main(void){_Pragma("loopbound min 2 max 1") while(0);}

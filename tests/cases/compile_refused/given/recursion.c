@@ -1,0 +1,1 @@
+int g(int x);int f(int x){return g(x);}int g(int x){return f(x);}int main(void){while(1);}

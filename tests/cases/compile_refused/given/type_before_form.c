@@ -1,0 +1,1 @@
+int main(void){_Pragma("flowrestriction 1*main <= 1*main") return x;}

@@ -1,0 +1,1 @@
+int f(int x){return x+1;}int main(void){return f(f(40));}

@@ -1,0 +1,1 @@
+int main(void){int x=0;_Pragma("loopbound min 0 max 0") do x=1;while(0);return x;}

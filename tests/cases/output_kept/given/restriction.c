@@ -1,0 +1,1 @@
+int main(void){_Pragma("flowrestriction 2*main <= 1*main") return 0;}

@@ -1,0 +1,1 @@
+int main(void){int d=getchar()-65;int q=(-2147483647-1)/d;return q;}
