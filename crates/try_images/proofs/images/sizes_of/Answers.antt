@@ -1,10 +1,11 @@
-use Rattle.std.proofs.Common.{map, sym, ◌∙◌}
-use Rattle.low_ir.specs.Placings.{placed_of, assignment_of}
+use Rattle.std.proofs.Common.{map, sym, ap, ◌∙◌}
+use Rattle.low_ir.specs.Placings.{assignment_of, placed_of}
 use Rattle.low_ir.specs.View.{function_of}
 use Rattle.claims_movables.specs.Listed.{movable_of}
+use Rattle.claims_movables.proofs.RowLemmas.{functions_count}
 use Rattle.layout_sizes.specs.Items.{sized}
 use Rattle.try_images.specs.Sizes.{size_listed}
-use Rattle.try_images.proofs.SizeLemmas.{sizes_step, sizes_are}
+use Rattle.try_images.proofs.SizeLemmas.{sizes_are, sizes_step}
 use Rattle.try_images.proofs.images.sizes_of.Goals as goal
 
 pub loop-number-preserved : goal.loop-number-preserved
