@@ -1,7 +1,7 @@
 -- Sizes that are room enough, and what is too much.
 use Rattle.std.proofs.Common.{◌≡◌, ℕ, suc, ◌+◌, ◌^◌, ◌<◌, ◌≤◌, true, false, List, [], ◌∷◌, length, map, refl, sym, ap, ◌∙◌, subst, arith}
-use Rattle.std.specs.Prelude.{Bool, slice_index_or}
-use Rattle.std.proofs.lemmas.List.{length-map}
+use Rattle.std.specs.Prelude.{Bool, drop, if◌then◌else◌, slice_index, slice_index_or}
+use Rattle.std.proofs.lemmas.List.{drop_more, length-map}
 use Rattle.low_ir.specs.declared.places.LowReg.{LowReg}
 use Rattle.low_ir.specs.Code.{Function, Note}
 use Rattle.low_ir.specs.Places.{Assignment, Placed, place_functions}
@@ -44,3 +44,12 @@ module _ (pl : Placement) (p : Placed) where
   pub no_placed : (sizes : List ℕ) → sizes ≡ function_sizes p → 2 ^ 16 < sizes_placed pl.objects 0 (array_sizes p) + sizes_placed pl.functions 0 sizes → HasSizes pl p → false ≡ true
   no_placed sizes are h s =
       absurd (let k = s.placed in let more = subst (λ ns. 2 ^ 16 < sizes_placed pl.objects 0 (array_sizes p) + sizes_placed pl.functions 0 ns) are h in omega (arith, more, k))
+
+-- one size more
+pub one_more : (placed : List Bool) (ns : List ℕ) (k : ℕ) → k < length ns → sizes_placed placed k (drop k ns) ≡ (if slice_index_or placed k false then slice_index ns k else 0) + sizes_placed placed (k + 1) (drop (k + 1) ns)
+one_more placed ns k less =
+    ap (sizes_placed placed k) (drop_more ns k 0 less)
+    ∙ ap (λ n. (if slice_index_or placed k false then slice_index ns k else 0) + sizes_placed placed n (drop (k + 1) ns)) (next k)
+  where
+    next : (n : ℕ) → suc n ≡ n + 1
+    next n = omega arith
