@@ -1,16 +1,10 @@
 -- What is promised of what may be moved.
-use Rattle.std.specs.Prelude.{◌≡◌, ℕ, ◌%◌, ◌<◌, ◌≤◌, List, length}
+use Rattle.std.specs.Prelude.{◌≡◌, ℕ, ◌%◌, ◌<◌, ◌≤◌, length}
 use Rattle.asm_items.specs.Placings.{blocks_of, blocks_size}
 use Rattle.low_ir.specs.Code.{Object}
-use Rattle.low_ir.specs.Places.{Placed}
-use Rattle.asm_program.specs.Frames.{Frame}
 use Rattle.claims_definition.specs.Laws.{IsSettled, Rise}
 use Rattle.claims_definition.specs.Listed.{Laid, placing}
-use Rattle.claims_items.specs.Movables.{array_item, function_item, function_size}
-
--- the size of a function is the same wherever arrays lie
-abbrev pub SizesAreKept : Type 0
-SizesAreKept = (frames : List Frame) (here there : List ℕ) (p : Placed) (f : ℕ) → function_size (record { frames = frames; objects = here }) p f ≡ function_size (record { frames = frames; objects = there }) p f
+use Rattle.claims_items.specs.Movables.{array_item, function_item}
 
 pub record IsMovable (l : Laid) (f : ℕ) : Type 0 where
   -- it is a multiple of 4, and at least what the function takes

@@ -1,22 +1,17 @@
 -- What may be moved into the scratchpad: the code of a function, or an array that isn't local.
-use Rattle.std.specs.Prelude.{ℕ, zero, suc, ◌+◌, ◌*◌, ◌/◌, ◌%◌, ◌^◌, ◌==◌, ◌&&◌, Bool, true, false, List, [], ◌∷◌, ◌++◌, length, map, slice_index_or, if◌then◌else◌}
+use Rattle.std.specs.Prelude.{ℕ, zero, suc, ◌+◌, ◌/◌, ◌==◌, ◌&&◌, Bool, true, false, List, [], ◌∷◌, ◌++◌, length, map, slice_index_or, if◌then◌else◌}
 use Rattle.std.specs.List.{flat_map, range_with_len}
 use Rattle.rv_core.specs.declared.regions.Region.{Region}
 use Rattle.rv_core.specs.declared.regions.Region.TheVariants.{Flash, Spm}
 use Rattle.asm_items.specs.declared.item.Item.{Item}
 use Rattle.asm_items.specs.Items.{size, total}
 use Rattle.asm_items.specs.Placings.{Blocks, base_of, blocks_of, blocks_size}
-use Rattle.asm_forms.specs.Shorter.{blocks_longest}
 use Rattle.asm_placed.specs.Written.{in_scratchpad}
 use Rattle.low_ir.specs.declared.object.Storage.{Storage}
 use Rattle.low_ir.specs.declared.object.Storage.TheVariants.{Constant, Global, Local}
-use Rattle.low_ir.specs.declared.places.Place.{Place}
 use Rattle.low_ir.specs.Arrays.{array_size}
-use Rattle.low_ir.specs.Code.{Base, Fixed, Through, Point, Load, Store, Instr, Do, Object}
-use Rattle.low_ir.specs.Places.{Placed}
-use Rattle.asm_program.specs.Frames.{Memory, object_at}
-use Rattle.asm_program.specs.Functions.{PlacedBlock, function_in, function_items}
-use Rattle.asm_program.specs.Numbers.{is_near}
+use Rattle.low_ir.specs.Code.{Object}
+use Rattle.asm_room.specs.Functions.{function_size}
 use Rattle.claims_accesses.specs.Touches.{Touch, Nothing, OfFrame, OfArrays, program_touches}
 use Rattle.claims_definition.specs.Listed.{Laid, by_address, placing}
 
@@ -27,29 +22,6 @@ pub record Movable : Type 0 where
   pub code : Bool
   pub region : Region
   pub at : List ℕ
-
--- an array that lies near x3 needs no instruction for its address; wherever it lies, one is enough
-abbrev pub near_base : Memory → Base Place → ℕ → ℕ
-near_base m (Fixed o) n = if is_near ((object_at m o + n) % 2 ^ 32) then 1 else 0
-near_base m (Through r claim) n = 0
-
-abbrev pub near_instr : Memory → Instr Place (List ℕ) → ℕ
-near_instr m (Do (Point d a)) = near_base m a.base a.displacement
-near_instr m (Do (Load kind d a)) = near_base m a.base a.displacement
-near_instr m (Do (Store kind a x)) = near_base m a.base a.displacement
-near_instr m i = 0
-
-abbrev pub near_code : Memory → List (Instr Place (List ℕ)) → ℕ
-near_code m [] = 0
-near_code m (i ∷ is) = near_instr m i + near_code m is
-
-abbrev pub near_blocks : Memory → List PlacedBlock → ℕ
-near_blocks m [] = 0
-near_blocks m (b ∷ bs) = near_code m b.code + near_blocks m bs
-
--- the bytes of a function whose items have their longest forms, and whose arrays are all far
-abbrev pub function_size : Memory → Placed → ℕ → ℕ
-function_size m p f = blocks_size (blocks_longest (function_items m p f)) + 4 * near_blocks m (function_in p f).blocks
 
 abbrev pub code_region : Bool → Region
 code_region true = Spm

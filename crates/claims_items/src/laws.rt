@@ -1,10 +1,5 @@
 // What may be moved.
-ghost use Rattle.claims_items.specs.Laws.{ArraysAreMovable, FunctionsAreMovable, SizesAreKept};
-
-/// The size of a function is the same wherever arrays lie.
-pub fn sizes_are_kept()
-    ensures { SizesAreKept }
-{}
+ghost use Rattle.claims_items.specs.Laws.{ArraysAreMovable, FunctionsAreMovable};
 
 /// The size of a function is a multiple of 4 and at least what it takes, and its instructions ascend.
 pub fn functions_are_movable()

@@ -2,14 +2,13 @@
 //!
 //! `specs/` has their numbers, sizes, regions, and the addresses at which they are fetched or accessed, the list of all
 //! that a program has (`Movables`), and what is promised of them (`Laws`). A function's size is that of its items in their
-//! longest forms, where every array is far: it doesn't depend on what was moved, and is at least what the function takes.
+//! longest forms, where every array is far (`asm_room`): it is at least what the function takes.
 //!
-//! Proved: [`sizes_are_kept`], [`functions_are_movable`] and [`arrays_are_movable`], the contracts of functions without a
-//! body.
+//! Proved: [`functions_are_movable`] and [`arrays_are_movable`], the contracts of functions without a body.
 //!
 //! This crate knows no gains and no choice.
 #![tactic(auto)]
 
 mod laws;
 
-pub use laws::{arrays_are_movable, functions_are_movable, sizes_are_kept};
+pub use laws::{arrays_are_movable, functions_are_movable};

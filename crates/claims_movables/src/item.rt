@@ -8,7 +8,7 @@ use wcc_base::Items;
 pub struct LaidItem {
     /// The number of the function; arrays have the numbers behind those of functions.
     pub id: u32,
-    /// In bytes; whatever else is moved, it takes no more.
+    /// In bytes, the same whatever is placed; it never takes more.
     pub size: u32,
     pub code: bool,
     /// Where it lies.

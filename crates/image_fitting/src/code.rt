@@ -119,8 +119,7 @@ fn spend_blocks(from: u64, blocks: &[Block]) -> Option<u64>
     Some(left)
 }
 
-/// Takes the room of a function.
-pub fn spend_function(from: u64, function: &Function) -> Option<u64>
+fn spend_function(from: u64, function: &Function) -> Option<u64>
     ensures { Spends from (function_room (function_of function.now)) result }
 {
     match spend(from, 64) {

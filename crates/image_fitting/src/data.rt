@@ -1,17 +1,16 @@
 // The bytes that frames, arrays and placed code take at most.
-ghost use Rattle.std.specs.Prelude.{◌≡◌, ◌*◌, map, slice_index_or, false};
+ghost use Rattle.std.specs.Prelude.{◌≡◌, map, slice_index_or, false};
 ghost use Rattle.low_ir.specs.Effects.{can_store};
 ghost use Rattle.low_ir.specs.Places.{place_functions};
 ghost use Rattle.low_ir.specs.Placings.{assignment_of};
-ghost use Rattle.low_ir.specs.Room.{function_room};
 ghost use Rattle.low_ir.specs.View.{function_of, object_of};
 ghost use Rattle.image_rows.specs.Rows.{room_of};
-ghost use Rattle.image_sizes.specs.Sizes.{arrays_placed, constants_room, frames_room, functions_placed, variables_room};
-ghost use Rattle.image_fitting.specs.Spending.{Spends, bytes_placed};
+ghost use Rattle.image_sizes.specs.Sizes.{constants_room, frames_room, sizes_placed, variables_room};
+ghost use Rattle.image_fitting.specs.Spending.{Spends};
 
-use super::code::{spend, spend_function};
+use super::code::spend;
+use low_ir::LowReg;
 use low_ir::object::{Object, Storage};
-use low_ir::{Function, LowReg};
 
 /// Whether a placement names a function or an array; what the list doesn't reach, it doesn't.
 pub fn is_placed(placed: &[bool], number: usize) -> bool
@@ -74,7 +73,7 @@ pub fn spend_variables(from: u64, objects: &[Object]) -> Option<u64>
 
 /// Takes the room of the arrays that are placed.
 pub fn spend_arrays(from: u64, placed: &[bool], objects: &[Object]) -> Option<u64>
-    ensures { Spends from (arrays_placed placed.now 0 (map object_of objects.now)) result }
+    ensures { Spends from (sizes_placed placed.now 0 (map room_of (map object_of objects.now))) result }
 {
     let mut left = from;
     for (number, object) in objects.iter().enumerate() {
@@ -111,34 +110,18 @@ pub fn spend_frames(from: u64, code: &LowReg) -> Option<u64>
     Some(left)
 }
 
-/// Takes four bytes for each instruction of a function in its longest form.
-pub fn spend_bytes(from: u64, each: &Function) -> Option<u64>
-    ensures { Spends from (4 * function_room (function_of each.now)) result }
-{
-    match spend_function(from / 4, each) {
-        None => None,
-        Some(left) => Some(from - 4 * (from / 4 - left)),
-    }
-}
-
-fn spend_functions_placed(from: u64, placed: &[bool], functions: &[Function]) -> Option<u64>
-    ensures { Spends from (bytes_placed placed.now 0 (map function_of functions.now)) result }
+/// Takes the sizes of the functions that are placed.
+pub fn spend_sizes(from: u64, placed: &[bool], sizes: &[u32]) -> Option<u64>
+    ensures { Spends from (sizes_placed placed.now 0 sizes.now) result }
 {
     let mut left = from;
-    for (number, each) in functions.iter().enumerate() {
+    for (number, size) in sizes.iter().enumerate() {
         if is_placed(placed, number) {
-            match spend_bytes(left, each) {
+            match spend(left, u64::from(*size)) {
                 None => return None,
                 Some(rest) => left = rest,
             }
         }
     }
     Some(left)
-}
-
-/// Takes the bytes of the functions that are placed.
-pub fn spend_placed(from: u64, placed: &[bool], code: &LowReg) -> Option<u64>
-    ensures { Spends from (functions_placed placed.now 0 (place_functions (assignment_of code.now) 0 (map function_of code.now.low.functions.items))) result }
-{
-    spend_functions_placed(from, placed, &code.low.functions)
 }

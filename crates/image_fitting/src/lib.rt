@@ -1,10 +1,11 @@
 //! Whether a program has room in memory, with the functions and arrays in the scratchpad that a placement names.
 //!
-//! The room is what code and data take at most (`low_ir`'s `Room` and `image_sizes`), so that nothing is laid out. Each sum is
-//! taken from what there is, and ends where that doesn't suffice. The time is linear in the code, the arrays and the functions.
+//! The room is what code and data take at most (`low_ir`'s `Room` and `image_sizes`), so that nothing is laid out; what placed
+//! functions take is said by their sizes, which any layout of the program lists. Each sum is taken from what there is, and ends
+//! where that doesn't suffice. The time is linear in the code, the arrays and the functions.
 //!
-//! Proved: [`has_sizes`] answers yes where the program keeps to the bounds of `image_sizes`, and no where it doesn't;
-//! [`object_room`] is the room of an array, and [`spend`] and [`spend_bytes`] take an amount and the bytes of a function.
+//! Proved: [`has_room`] and [`has_sizes`] answer yes where the program keeps to the bounds of `image_sizes`, whatever is placed
+//! and with a placement, and no where it doesn't; [`object_room`] is the size of an array, and [`spend`] takes an amount.
 //!
 //! The crate lays nothing.
 #![tactic(auto)]
@@ -14,5 +15,5 @@ mod data;
 mod sizes;
 
 pub use code::spend;
-pub use data::{object_room, spend_bytes};
-pub use sizes::has_sizes;
+pub use data::object_room;
+pub use sizes::{has_room, has_sizes};

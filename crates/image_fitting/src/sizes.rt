@@ -2,11 +2,20 @@
 ghost use Rattle.std.specs.Prelude.{◌≡◌, ◌+◌, ◌^◌, ◌<◌, ◌≤◌, true, false, length, slice_index_or};
 ghost use Rattle.low_ir.specs.Placings.{placed_of};
 ghost use Rattle.low_ir.specs.Room.{room};
-ghost use Rattle.image_sizes.specs.Sizes.{HasSizes, arrays_placed, constants_room, frames_room, functions_placed, variables_room};
+ghost use Rattle.image_sizes.specs.Sizes.{
+  HasRoom,
+  HasSizes,
+  array_sizes,
+  constants_room,
+  frames_room,
+  function_sizes,
+  sizes_placed,
+  variables_room,
+};
 
 use super::code::spend_functions;
 use super::data::{
-    is_placed, spend_arrays, spend_constants, spend_frames, spend_placed, spend_variables,
+    is_placed, spend_arrays, spend_constants, spend_frames, spend_sizes, spend_variables,
 };
 use image_memory::Placement;
 use low_ir::LowReg;
@@ -44,13 +53,13 @@ fn has_variables(code: &LowReg) -> bool
     }
 }
 
-fn has_placed(code: &LowReg, placement: &Placement) -> bool
-    ensures whole { result ≡ true → arrays_placed placement.now.objects 0 (placed_of code.now).objects + functions_placed placement.now.functions 0 (placed_of code.now).functions ≤ 2 ^ 16 }
-    ensures exact { result ≡ false → 2 ^ 16 < arrays_placed placement.now.objects 0 (placed_of code.now).objects + functions_placed placement.now.functions 0 (placed_of code.now).functions }
+fn has_placed(code: &LowReg, sizes: &[u32], placement: &Placement) -> bool
+    ensures whole { result ≡ true → sizes_placed placement.now.objects 0 (array_sizes (placed_of code.now)) + sizes_placed placement.now.functions 0 sizes.now ≤ 2 ^ 16 }
+    ensures exact { result ≡ false → 2 ^ 16 < sizes_placed placement.now.objects 0 (array_sizes (placed_of code.now)) + sizes_placed placement.now.functions 0 sizes.now }
 {
     match spend_arrays(0x1_0000, &placement.objects, &code.low.objects) {
         None => false,
-        Some(left) => match spend_placed(left, &placement.functions, code) {
+        Some(left) => match spend_sizes(left, &placement.functions, sizes) {
             None => false,
             Some(_) => true,
         },
@@ -65,11 +74,11 @@ fn is_start_placed(code: &LowReg, placement: &Placement) -> bool
     is_placed(&placement.functions, code.low.functions.len())
 }
 
-/// Whether a program has room, with the functions and arrays in the scratchpad that the placement names.
-#[tactic(auto, using(crate::proofs::RoomLemmas::has_all, crate::proofs::RoomLemmas::no_code, crate::proofs::RoomLemmas::no_constants, crate::proofs::RoomLemmas::no_variables, crate::proofs::RoomLemmas::no_placed))]
-pub fn has_sizes(code: &LowReg, placement: &Placement) -> bool
-    ensures whole { result ≡ true → HasSizes placement.now (placed_of code.now) }
-    ensures exact { HasSizes placement.now (placed_of code.now) → result ≡ true }
+/// Whether the code and the data of a program have room, whatever is placed.
+#[tactic(auto, using(crate::proofs::RoomLemmas::has_parts, crate::proofs::RoomLemmas::no_code, crate::proofs::RoomLemmas::no_constants, crate::proofs::RoomLemmas::no_variables))]
+pub fn has_room(code: &LowReg) -> bool
+    ensures whole { result ≡ true → HasRoom (placed_of code.now) }
+    ensures exact { HasRoom (placed_of code.now) → result ≡ true }
 {
     if !has_code(code) {
         return false;
@@ -80,7 +89,21 @@ pub fn has_sizes(code: &LowReg, placement: &Placement) -> bool
     if !has_variables(code) {
         return false;
     }
-    if !has_placed(code, placement) {
+    true
+}
+
+/// Whether a program has room, with the functions and arrays in the scratchpad that the placement names. The sizes are
+/// those of the functions.
+#[tactic(auto, using(crate::proofs::RoomLemmas::has_all, crate::proofs::RoomLemmas::no_room, crate::proofs::RoomLemmas::no_placed))]
+pub fn has_sizes(code: &LowReg, sizes: &[u32], placement: &Placement) -> bool
+    requires { sizes.now ≡ function_sizes (placed_of code.now) }
+    ensures whole { result ≡ true → HasSizes placement.now (placed_of code.now) }
+    ensures exact { HasSizes placement.now (placed_of code.now) → result ≡ true }
+{
+    if !has_room(code) {
+        return false;
+    }
+    if !has_placed(code, sizes, placement) {
         return false;
     }
     !is_start_placed(code, placement)

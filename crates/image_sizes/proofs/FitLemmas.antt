@@ -1,6 +1,7 @@
 -- The image of a small program has room.
-use Rattle.std.proofs.Common.{◌≡◌, ℕ, zero, suc, ◌+◌, ◌≤◌, Bool, true, false, List, [], ◌∷◌, length, ap, ◌∙◌, arith, if◌then◌else◌}
+use Rattle.std.proofs.Common.{◌≡◌, ℕ, zero, suc, ◌+◌, ◌≤◌, Bool, true, false, List, [], ◌∷◌, length, map, refl, ap, ◌∙◌, arith, if◌then◌else◌}
 use Rattle.std.specs.Prelude.{◌==◌, ◌&&◌, nat_le, slice_index_or}
+use Rattle.std.specs.List.{range_with_len}
 use Rattle.low_ir.specs.declared.object.Storage.{Storage}
 use Rattle.low_ir.specs.declared.object.Storage.TheVariants.{Constant as Fixed', Global, Local}
 use Rattle.low_ir.specs.Code.{Object}
@@ -8,18 +9,22 @@ use Rattle.low_ir.specs.Effects.{can_store}
 use Rattle.low_ir.specs.Places.{Placed}
 use Rattle.asm_program.specs.Numbers.{ram}
 use Rattle.asm_program.specs.Frames.{frame_end, no_frame}
-use Rattle.asm_program.specs.Functions.{PlacedFunction, no_function}
+use Rattle.asm_items.specs.Placings.{blocks_size}
+use Rattle.asm_forms.specs.Shorter.{blocks_longest}
+use Rattle.asm_program.specs.Functions.{PlacedFunction, function_items}
 use Rattle.asm_program.specs.Formed.{IsProgram}
+use Rattle.asm_room.proofs.FunctionLemmas.{sizes_kept}
+use Rattle.asm_room.proofs.SizeLemmas.{longest_has_room}
 use Rattle.image_rows.specs.declared.rows.Row.TheVariants.{Scratchpad}
 use Rattle.image_rows.specs.Rows.{room_of, small_room, row_by, row_of, row_number, row_room, spots}
 use Rattle.image_frames.specs.Needs.{saved_of, homes_of, written, housed, is_needed}
 use Rattle.image_frames.specs.Registers.{holds}
-use Rattle.image_frames.specs.Frames.{frame_at, frames_from, end_from}
+use Rattle.image_frames.specs.Frames.{frame_at, frames_from, frames_of, end_from}
 use Rattle.image_frames.specs.Memories.{Placement, memory_of}
 use Rattle.image_frames.proofs.TableLemmas.{chosen_few}
 use Rattle.image_definition.specs.Images.{FitsImage}
-use Rattle.image_sizes.specs.Sizes.{constants_room, variables_room, arrays_placed, frames_room, HasSizes, HasWords}
-use Rattle.image_sizes.proofs.CodeLemmas.{all_few, placed_few}
+use Rattle.image_sizes.specs.Sizes.{constants_room, variables_room, code_size, sizes_placed, frames_room, HasRoom, HasSizes, HasWords}
+use Rattle.image_sizes.proofs.CodeLemmas.{placed_few}
 
 abbrev gain : ℕ → ℕ → ℕ → ℕ
 gain r n k = if r == k then n else 0
@@ -49,7 +54,7 @@ variables_few : (placed : List Bool) (k : ℕ) (xs : List Object) → row_room 2
 variables_few placed k [] = omega arith
 variables_few placed k (x ∷ xs) = let h = (parts (slice_index_or placed k false) x).variables in let r = variables_few placed (suc k) xs in omega (arith, h, r)
 
-arrays_few : (placed : List Bool) (k : ℕ) (xs : List Object) → row_room 1 (spots placed k xs) ≤ arrays_placed placed k xs
+arrays_few : (placed : List Bool) (k : ℕ) (xs : List Object) → row_room 1 (spots placed k xs) ≤ sizes_placed placed k (map room_of xs)
 arrays_few placed k [] = omega arith
 arrays_few placed k (x ∷ xs) = let h = (parts (slice_index_or placed k false) x).arrays in let r = arrays_few placed (suc k) xs in omega (arith, h, r)
 
@@ -76,21 +81,39 @@ module _ (p : Placed) where
   own : (n : ℕ) → 0 + n ≡ n
   own n = omega arith
 
+  -- a function takes no more than its size, wherever a placement puts arrays
+  size_most : (pl : Placement) (f : ℕ) → blocks_size (blocks_longest (function_items (memory_of pl p) p f)) ≤ code_size p f
+  size_most pl f = let same = sizes_kept (frames_of p) (memory_of pl p).objects [] p f in omega (arith, same)
+
   pub fits : (pl : Placement) → IsProgram p → HasWords p → HasSizes pl p → FitsImage pl p
   fits pl formed words sizes =
       let c = constants_few pl.objects 0 p.objects in
       let v = variables_few pl.objects 0 p.objects in
       let a = arrays_few pl.objects 0 p.objects in
       let fr = frames_few ram 0 p.functions in
-      let code = sizes.code in
-      let constants = sizes.constants in
-      let variables = sizes.variables in
+      let code = sizes.room.code in
+      let constants = sizes.room.constants in
+      let variables = sizes.room.variables in
       let placed = sizes.placed in
-      let main = formed.main in
-      let all = all_few (memory_of pl p) p (λ f. frames_save ram 0 p.functions f) p.main p.functions (omega (arith, main)) (λ j. ap (λ n. slice_index_or p.functions n no_function) (own j)) words in
-      let there = placed_few (memory_of pl p) p (λ f. frames_save ram 0 p.functions f) pl.functions 0 p.main p.functions (λ j. ap (λ n. slice_index_or p.functions n no_function) (own j)) words (ap (λ n. slice_index_or pl.functions n false) (own (length p.functions)) ∙ sizes.start) in
+      let all = longest_has_room (memory_of pl p) p (record { program = formed; words = words; saved = λ f. frames_save ram 0 p.functions f }) in
+      let there = placed_few (memory_of pl p) p (size_most pl) pl.functions p.main 0 p.functions (ap (λ n. slice_index_or pl.functions n false) (own (length p.functions)) ∙ sizes.start) in
       record {
         memory = record { constants = omega (arith, c, constants); scratchpad = omega (arith, a, placed); ram = omega (arith, v, fr, variables) };
         flash = omega (arith, all, code);
         scratchpad = omega (arith, a, there, placed);
       }
+
+-- where nothing is placed
+none_there : (n : ℕ) → slice_index_or [] n false ≡ false
+none_there zero = refl
+none_there (suc n) = refl
+
+nothing_placed : (k : ℕ) (ns : List ℕ) → sizes_placed [] k ns ≡ 0
+nothing_placed k [] = refl
+nothing_placed k (n ∷ ns) = let this = ap (λ b. if b then n else 0) (none_there k) in let rest = nothing_placed (suc k) ns in omega (arith, this, rest)
+
+pub nothing_fits : (p : Placed) → HasRoom p → HasSizes (record { functions = []; objects = [] }) p
+nothing_fits p room =
+    let arrays = nothing_placed 0 (map room_of p.objects) in
+    let functions = nothing_placed 0 (map (code_size p) (range_with_len 0 (length p.functions))) in
+    record { room = room; placed = omega (arith, arrays, functions); start = none_there (length p.functions) }

@@ -43,6 +43,7 @@ use Rattle.simulation_kept.proofs.TotalLemmas.{placed_totals}
 use Rattle.simulation_kept.proofs.KeptLemmas.{claims_kept}
 use Rattle.layout_sizes.proofs.Counting.{claims_counted}
 use Rattle.layout_sizes.proofs.Filled.{all_filled}
+use Rattle.layout_sizes.proofs.Keeping.{sizes_stay}
 use Rattle.layout_sizes.proofs.Lying.{all_lie}
 use Rattle.layout_sizes.proofs.Taken.{all_small}
 use Rattle.claims_image.specs.Images.{HasClaims, laid_of}
@@ -114,6 +115,7 @@ module _ (pl : Placement) (ps : List Placing) (low : Low) (is : IsLow low) (fits
     marks = λ mark. places_hold l mark claimed.settled;
     apart = λ m n at h k. places_apart l claimed.settled m n at h k;
     ranges = ranges_hold l claimed.settled;
+    sizes = sizes_stay pl p;
     functions = λ f below. function_movable l claimed.settled f below;
     arrays = λ o x. array_movable l claimed.settled o x;
     room = subst (λ n. functions_size (functions_of l) ≤ 4 * n) (rooms_kept a low).room (chosen_has_room (memory_of pl p) p (rows_in pl p) (record { program = formed; words = words; saved = saved }));

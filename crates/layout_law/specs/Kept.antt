@@ -1,5 +1,5 @@
 -- What the image of a program in the low form keeps of it, with the claims on it.
-use Rattle.std.specs.Prelude.{◌≡◌, ℕ, suc, ◌+◌, ◌*◌, ◌%◌, ◌^◌, ◌<◌, ◌≤◌, pos, List, length, Some, All, Contains, slice_get, take}
+use Rattle.std.specs.Prelude.{◌≡◌, ℕ, suc, ◌+◌, ◌*◌, ◌%◌, ◌^◌, ◌<◌, ◌≤◌, pos, List, length, map, Some, All, Contains, slice_get, take}
 use Rattle.frac128.specs.Terms.{int_sum_by}
 use Rattle.rv_core.specs.declared.costs.Costs.{Costs}
 use Rattle.rv_core.specs.Images.{Image, AreLoadable}
@@ -33,13 +33,13 @@ use Rattle.claims_accesses.specs.Touches.{Touch}
 use Rattle.claims_definition.specs.Laws.{AreLoopClaims, AreRanges, HasPlaces, IsPlaceOf, Rise}
 use Rattle.claims_definition.specs.Listed.{Laid, accesses_of, claims_of, functions_of, places_of, placing, regions_of, touches_at}
 use Rattle.claims_items.specs.Laws.{IsMovable}
-use Rattle.claims_items.specs.Movables.{array_item}
+use Rattle.claims_items.specs.Movables.{array_item, movables_of}
 use Rattle.claims_bounds.specs.Flows.{KeepsBounds}
 use Rattle.claims_shapes.specs.Shapes.{AreShaped}
 use Rattle.claims_bounds.specs.Bounds.{CanTurn}
 use Rattle.simulation_marks.specs.Laws.{functions_marked}
 use Rattle.layout_sizes.specs.Segments.{AreFilled}
-use Rattle.layout_sizes.specs.Items.{HasElements, MovesItems}
+use Rattle.layout_sizes.specs.Items.{HasElements, MovesItems, item_sizes, sized}
 use Rattle.layout_sizes.specs.Laws.{AreCounted, AreSmall, LieWherePlaced}
 use Rattle.claims_image.specs.Images.{HasClaims, laid_of}
 use Rattle.path_search.specs.Conditions.{CanBound}
@@ -107,7 +107,8 @@ module _ (pl : Placement) (ps : List Placing) (low : Low) where
     pub standing : (mark : ℕ) → length (places_of laid mark) ≡ functions_marked mark over.functions
     pub apart : (m n a : ℕ) → IsPlaceOf laid m a → IsPlaceOf laid n a → m ≡ n
     pub ranges : AreRanges laid
-    -- what may be moved has a size in whole words, and addresses in ascending order
+    -- what may be moved has the same size under every placement, in whole words, and addresses in ascending order
+    pub sizes : map sized (movables_of laid) ≡ item_sizes over
     pub functions : (f : ℕ) → f < length over.functions → IsMovable laid f
     pub arrays : (o : ℕ) (x : Object) → ((array_item laid o x).size % 4 ≡ 0) × Rise 0 (array_item laid o x).at
     -- in bytes, four for each instruction

@@ -14,9 +14,9 @@ use Rattle.image_sizes.specs.Sizes.{HasWords}
 use Rattle.claims_definition.specs.Laws.{IsSettled}
 use Rattle.claims_definition.specs.Listed.{claims_of, placing, regions_of}
 use Rattle.claims_image.specs.Images.{laid_of}
-use Rattle.claims_items.specs.Movables.{Movable, array_item, code_region, function_item, movables_of}
+use Rattle.claims_items.specs.Movables.{array_item, code_region, function_item, movables_of}
 use Rattle.layout_sizes.specs.Segments.{AreFilled, bytes_kept, taken_in}
-use Rattle.layout_sizes.specs.Items.{HasElements, MovesItems, array_region, globals_size, instructions_in, scratchpad_size}
+use Rattle.layout_sizes.specs.Items.{HasElements, MovesItems, array_region, globals_size, instructions_in, item_sizes, scratchpad_size, sized}
 
 -- the image has a segment that isn't empty in each region that a line names
 abbrev pub RegionsAreFilled : Type 0
@@ -50,8 +50,5 @@ abbrev pub ClaimsAreCounted : Type 0
 ClaimsAreCounted = (pl : Placement) (p : Placed) → IsSettled (laid_of pl p) → AreCounted pl p
 
 -- items have their numbers and sizes whatever is placed
-abbrev pub sized : Movable → ℕ × ℕ
-sized m = (m.id, m.size)
-
 abbrev pub ItemsKeepSizes : Type 0
-ItemsKeepSizes = (before behind : Placement) (p : Placed) → map sized (movables_of (laid_of before p)) ≡ map sized (movables_of (laid_of behind p))
+ItemsKeepSizes = (pl : Placement) (p : Placed) → map sized (movables_of (laid_of pl p)) ≡ item_sizes p

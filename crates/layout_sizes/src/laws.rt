@@ -30,7 +30,7 @@ pub fn claims_are_counted()
     ensures { ClaimsAreCounted }
 {}
 
-/// Items have the same numbers and sizes whatever is placed.
+/// Items have the numbers and sizes that the program says, whatever is placed.
 pub fn items_keep_sizes()
     ensures { ItemsKeepSizes }
 {}

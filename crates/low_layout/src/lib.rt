@@ -7,7 +7,8 @@
 //!
 //! Proved: [`lay`] gives what `image_definition`, `claims_definition`, `claims_shapes` and `claims_items` define of the program over its
 //! places (`specs/Laid.antt`), wherever code and data keep to the bounds of `image_sizes`, or memory ran out; and the image
-//! and its claims then keep of the program what `layout_law` says in one record.
+//! and its claims then keep of the program what `layout_law` says in one record. An item's size is the same under every
+//! placement, so that one layout says what another one takes.
 #![tactic(auto)]
 
 mod laying;

@@ -1,13 +1,17 @@
 // What lies in the scratchpad.
-use image_fitting::{object_room, spend, spend_bytes};
+ghost use Rattle.std.specs.Prelude.{◌≡◌, []};
+
+use image_fitting::{object_room, spend};
 use image_memory::Placement;
+use low_ir::Low;
 use low_ir::object::Object;
-use low_ir::{Function, Low};
 use std::alloc::Global;
 use wcc_base::Memory;
 
 /// Nothing is placed.
-pub fn nothing(alloc: Global) -> Placement {
+pub fn nothing(alloc: Global) -> Placement
+    ensures { result ≡ record { functions = []; objects = [] } }
+{
     Placement {
         functions: Vec::new(alloc),
         objects: Vec::new(alloc),
@@ -37,12 +41,12 @@ fn choose_arrays(alloc: Global, from: u64, objects: &[Object]) -> Result<Chosen,
     Ok(Chosen { placed, left })
 }
 
-/// Functions, each whose longest form still has room.
-fn choose_functions(alloc: Global, from: u64, functions: &[Function]) -> Result<Chosen, Memory> {
+/// Functions of these sizes, each that still has room.
+fn choose_functions(alloc: Global, from: u64, sizes: &[u32]) -> Result<Chosen, Memory> {
     let mut left = from;
     let mut placed = Vec::new(alloc);
-    for function in functions {
-        match spend_bytes(left, function) {
+    for size in sizes {
+        match spend(left, u64::from(*size)) {
             None => placed.push(false)?,
             Some(rest) => {
                 left = rest;
@@ -53,10 +57,10 @@ fn choose_functions(alloc: Global, from: u64, functions: &[Function]) -> Result<
     Ok(Chosen { placed, left })
 }
 
-/// Arrays and then functions, in order, each that still has room in the scratchpad.
-pub fn everything(alloc: Global, low: &Low) -> Result<Placement, Memory> {
+/// Arrays and then functions, in order, each that still has room in the scratchpad; by the sizes of the functions.
+pub fn everything(alloc: Global, low: &Low, sizes: &[u32]) -> Result<Placement, Memory> {
     let arrays = choose_arrays(alloc, 65_536, &low.objects)?;
-    let functions = choose_functions(alloc, arrays.left, &low.functions)?;
+    let functions = choose_functions(alloc, arrays.left, sizes)?;
     Ok(Placement {
         functions: functions.placed,
         objects: arrays.placed,

@@ -11,7 +11,7 @@ use Rattle.low_layout.proofs.laying.lay.Goals as goal
 pub laid_whole-requires-clause-spots : goal.laid_whole-requires-clause-spots
 laid_whole-requires-clause-spots c =
     let low = low_of c.args.code.now.low in
-    let code = c.requires.code in
+    let code = c.requires.room.code in
     let same = (rooms_kept (assignment_of c.args.code.now) low).room in
     have_spots low.functions (omega (arith, code, same))
 

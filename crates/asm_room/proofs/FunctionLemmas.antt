@@ -15,7 +15,7 @@ use Rattle.asm_program.specs.Frames.{Frame, Memory, frame_of, object_at}
 use Rattle.asm_program.specs.Numbers.{first_free, is_near, load_upper, reach_code, reach_register, second_free}
 use Rattle.asm_program.specs.Operands.{address_code, address_offset, address_register, code_to, fetch_code, offset_code, operand_code, operand_register, place_register, result_code}
 use Rattle.asm_program.specs.Functions.{PlacedBlock, at_once, block_items, blocks_from, body_items, filled, function_in, instr_items, leaving_blocks, opening_items, own_frame, passed_in, singles}
-use Rattle.claims_items.specs.Movables.{function_size, near_base, near_blocks, near_code, near_instr}
+use Rattle.asm_room.specs.Functions.{function_size, near_base, near_blocks, near_code, near_instr}
 
 -- bytes in longest forms
 abbrev room : List Item → ℕ
