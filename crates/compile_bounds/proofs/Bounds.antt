@@ -17,17 +17,17 @@ use Rattle.high_pass.specs.Listing.{LoopEntry, listing_of}
 use Rattle.low_ir.specs.Code.{Low}
 use Rattle.low_ir.specs.Placings.{placed_of}
 use Rattle.low_ir.specs.Programs.{low_of}
-use Rattle.low_layout.specs.declared.laying.Laid as lays
+use Rattle.layout_laid.specs.declared.laid.Laid as lays
 use Rattle.claims_definition.specs.Listed.{Laid, claims_of}
 use Rattle.claims_image.specs.Images.{HasClaims, laid_of}
-use Rattle.layout_law.specs.Kept.{IsLight}
+use Rattle.layout_kept.specs.Kept.{IsLight}
 use Rattle.path_search.specs.Conditions.{CanBound}
 use Rattle.compile_claims.specs.Laws.{under}
 use Rattle.compile_claims.specs.Named.{named}
 use Rattle.compile_claims.proofs.Bounds.{bound_same}
 use Rattle.compile_claims.proofs.Systems.{system_same}
-use Rattle.compile_image.specs.declared.stages.Made.{Made}
-use Rattle.compile_image.specs.Made.{IsInMemory, IsMade}
+use Rattle.compile_made.specs.declared.made.Made.{Made}
+use Rattle.compile_made.specs.Made.{IsInMemory, IsMade}
 use Rattle.compile_sizes.specs.Limits.{nothing}
 use Rattle.compile_turns.proofs.Light.{source_light}
 use Rattle.compile_turns.proofs.Whole.{all_kept}

@@ -29,12 +29,12 @@ use Rattle.low_ir.specs.Code.{Loop}
 use Rattle.low_ir.specs.Placings.{assignment_of, placed_of}
 use Rattle.low_ir.specs.Programs.{low_of}
 use Rattle.asm_program.specs.Functions.{PlacedFunction, function_in, no_function}
-use Rattle.low_layout.specs.declared.laying.Laid as lays
+use Rattle.layout_laid.specs.declared.laid.Laid as lays
 use Rattle.claims_definition.specs.Laws.{AreLoopClaims, IsClaimOf}
 use Rattle.claims_definition.specs.Listed.{Laid, loops_of}
 use Rattle.claims_image.specs.Images.{laid_of}
-use Rattle.compile_image.specs.declared.stages.Made.{Made}
-use Rattle.compile_image.specs.Made.{IsInMemory, IsMade}
+use Rattle.compile_made.specs.declared.made.Made.{Made}
+use Rattle.compile_made.specs.Made.{IsInMemory, IsMade}
 use Rattle.compile_sizes.specs.Limits.{nothing}
 use Rattle.compile_turns.proofs.Lowering.{EachLoop, lowered_each, placed_each}
 use Rattle.compile_bounds.specs.Laws.{CanBeNamed}

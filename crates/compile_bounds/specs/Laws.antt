@@ -13,8 +13,8 @@ use Rattle.high_ir.specs.declared.copies.LoopCopies.{LoopCopies}
 use Rattle.high_pass.specs.Listing.{listing_of}
 use Rattle.path_search.specs.Conditions.{CanBound}
 use Rattle.compile_claims.specs.Named.{named}
-use Rattle.compile_image.specs.declared.stages.Made.{Made}
-use Rattle.compile_image.specs.Made.{IsMade}
+use Rattle.compile_made.specs.declared.made.Made.{Made}
+use Rattle.compile_made.specs.Made.{IsMade}
 
 -- loops have numbers below how many there are, in the claims, in their copies and in the source; there are no restrictions
 pub record CanBeNamed (m : Made) : Type 0 where

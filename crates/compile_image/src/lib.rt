@@ -6,4 +6,4 @@
 
 mod stages;
 
-pub use stages::{Made, build, read};
+pub use stages::{build, read};

@@ -10,12 +10,13 @@ ghost use Rattle.low_ir.specs.Programs.{low_of};
 ghost use Rattle.lower_law.specs.Programs.{KeepsProgram};
 ghost use Rattle.image_sizes.specs.Sizes.{HasSizes};
 ghost use Rattle.compile_sizes.specs.Limits.{nothing, slotted};
-ghost use Rattle.compile_image.specs.Made.{IsInMemory, IsMade};
+ghost use Rattle.compile_made.specs.Made.{IsInMemory, IsMade};
 ghost use Rattle.promise_compiler.specs.Refusals.{Fails};
 
+use compile_made::Made;
 use compile_sizes::sources_fit;
 use facts_front::{Source, read_source};
-use high_ir::{Carried, Copies, High};
+use high_ir::{Carried, High};
 use high_make::make;
 use image_memory::Placement;
 use low_ir::{LowReg, all_slots};
@@ -62,15 +63,6 @@ fn nothing(alloc: Global) -> Placement
         functions: Vec::new(alloc),
         objects: Vec::new(alloc),
     }
-}
-
-/// A program in memory, and what became in it of the marks and loops of the source.
-#[derive(Drop)]
-pub struct Made {
-    pub laid: Laid,
-    pub copies: Copies,
-    /// How many loops the program has.
-    pub loops: u32,
 }
 
 fn laid_of(alloc: Global, program: &High) -> Result<Laid, Memory>

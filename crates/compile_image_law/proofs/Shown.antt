@@ -26,7 +26,7 @@ use Rattle.image_frames.specs.Memories.{Placement}
 use Rattle.image_definition.specs.Images.{image_in}
 use Rattle.lower_program.specs.Kept.{IsKept, Keeps}
 use Rattle.simulation_kept.specs.Laws.{claims_on, run_of}
-use Rattle.layout_law.specs.Kept.{KeepsRun}
+use Rattle.layout_kept.specs.Kept.{KeepsRun}
 use Rattle.compile_image_law.specs.Laws.{EndsWithin, IsCompiled, passed}
 
 -- sums of counts

@@ -25,7 +25,7 @@ use Rattle.claims_definition.specs.Listed.{places_of}
 use Rattle.claims_image.specs.Images.{laid_of}
 use Rattle.lower_law.specs.Programs.{KeepsProgram}
 use Rattle.simulation_kept.specs.Laws.{claims_on, run_of, HasSystem}
-use Rattle.layout_law.specs.Kept.{KeepsLow}
+use Rattle.layout_kept.specs.Kept.{KeepsLow}
 
 -- how often a run of the machine passed a mark: the visits of all its addresses
 abbrev pub passed : Placement → Placed → Run → ℕ → ℤ

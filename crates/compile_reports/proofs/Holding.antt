@@ -24,8 +24,8 @@ use Rattle.types_tree.specs.Tree.{Program}
 use Rattle.low_ir.specs.Placings.{assignment_of}
 use Rattle.low_ir.specs.Programs.{low_of}
 use Rattle.asm_program.specs.Functions.{function_in}
-use Rattle.compile_image.specs.Made.{IsMade}
-use Rattle.compile_image.specs.declared.stages.Made.{Made}
+use Rattle.compile_made.specs.Made.{IsMade}
+use Rattle.compile_made.specs.declared.made.Made.{Made}
 use Rattle.compile_reports.proofs.Openings.{Opens, made_opens}
 use Rattle.compile_reports.specs.Reported.{AreShared, IsReported}
 use Rattle.compile_reports.proofs.Fitting.{shares_fit}

@@ -28,8 +28,8 @@ use Rattle.claims_lists.specs.Lists.{range_of}
 use Rattle.claims_places.specs.Places.{places_below}
 use Rattle.compile_names.specs.Laws.{IsNamed}
 use Rattle.compile_names.proofs.Counted.{counted_named}
-use Rattle.compile_image.specs.Made.{IsMade}
-use Rattle.compile_image.specs.declared.stages.Made.{Made}
+use Rattle.compile_made.specs.Made.{IsMade}
+use Rattle.compile_made.specs.declared.made.Made.{Made}
 use Rattle.compile_reports.specs.Reported.{AreShared, IsReported}
 use Rattle.compile_reports.proofs.Copies.{copy_lines}
 use Rattle.compile_reports.proofs.Laid.{claims_named, laid, system_sound}

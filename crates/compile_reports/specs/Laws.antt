@@ -12,8 +12,8 @@ use Rattle.report_text.specs.Reports.{Report}
 use Rattle.facts_definitions.specs.declared.facts.Facts.{Facts}
 use Rattle.facts_front.specs.Fronts.{IsSource}
 use Rattle.types_tree.specs.Tree.{Program}
-use Rattle.compile_image.specs.declared.stages.Made.{Made}
-use Rattle.compile_image.specs.Made.{IsMade}
+use Rattle.compile_made.specs.declared.made.Made.{Made}
+use Rattle.compile_made.specs.Made.{IsMade}
 use Rattle.compile_reports.specs.Reported.{IsReported}
 
 -- it has the form of a report

@@ -14,7 +14,7 @@ use Rattle.report_shares.specs.Shares.{with_sum}
 use Rattle.report_text.specs.declared.entries.Share.{Share}
 use Rattle.report_text.specs.Reports.{Report}
 use Rattle.compile_claims.specs.Named.{named}
-use Rattle.compile_image.specs.declared.stages.Made.{Made}
+use Rattle.compile_made.specs.declared.made.Made.{Made}
 
 -- a bound that a flow reaches is shared among the ranges of code
 abbrev pub AreShared : Kind → (with_parts : List Share) → List Share → Type 0

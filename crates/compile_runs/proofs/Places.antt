@@ -20,9 +20,9 @@ use Rattle.claims_definition.specs.Laws.{IsPlaceOf}
 use Rattle.claims_definition.specs.Listed.{Laid, places_of}
 use Rattle.claims_image.specs.Images.{laid_of}
 use Rattle.claims_places.specs.Places.{places_below}
-use Rattle.low_layout.specs.declared.laying.Laid as lays
+use Rattle.layout_laid.specs.declared.laid.Laid as lays
 use Rattle.compile_sizes.specs.Limits.{nothing}
-use Rattle.compile_image.specs.Made.{IsInMemory}
+use Rattle.compile_made.specs.Made.{IsInMemory}
 
 -- over places a block has the mark that it has over virtual registers
 in_blocks : (at : ℕ → Place) (kept : ℕ → List ℕ) (q : ℕ) (bs : List (Block ℕ Note)) (b : ℕ) → mark_in (slice_get (place_blocks at kept q bs) b) ≡ mark_in (slice_get bs b)

@@ -38,8 +38,8 @@ use Rattle.promise_report.specs.Runs.{RunsAs, RunsAsSource, visits_at}
 use Rattle.report_text.specs.declared.entries.CopyLine.{CopyLine}
 use Rattle.report_text.specs.Reports.{Report}
 use Rattle.compile_lines.specs.CopyLines.{places_at}
-use Rattle.compile_image.specs.declared.stages.Made.{Made}
-use Rattle.compile_image.specs.Made.{IsInMemory, IsMade}
+use Rattle.compile_made.specs.declared.made.Made.{Made}
+use Rattle.compile_made.specs.Made.{IsInMemory, IsMade}
 use Rattle.compile_reports.specs.Reported.{IsReported}
 use Rattle.compile_runs.proofs.Counting.{IsSummed, lines_summed}
 use Rattle.compile_runs.proofs.Places.{places_same}

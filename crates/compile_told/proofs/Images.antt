@@ -30,8 +30,8 @@ use Rattle.report_text.specs.Reports.{Report}
 use Rattle.compile_claims.specs.Laws.{under}
 use Rattle.compile_claims.specs.Named.{named}
 use Rattle.compile_claims.proofs.Systems.{system_same}
-use Rattle.compile_image.specs.declared.stages.Made.{Made}
-use Rattle.compile_image.specs.Made.{IsMade}
+use Rattle.compile_made.specs.declared.made.Made.{Made}
+use Rattle.compile_made.specs.Made.{IsMade}
 use Rattle.promise_report.specs.Compiled.{AreLined, IsLined, scratchpad_taken}
 use Rattle.compile_sizes.specs.Limits.{nothing}
 use Rattle.compile_reports.specs.Reported.{IsReported}

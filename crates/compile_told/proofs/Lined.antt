@@ -25,7 +25,7 @@ use Rattle.claims_accesses.specs.Touches.{Nothing, OfArrays, OfFrame, Touch, pro
 use Rattle.claims_accesses.proofs.Matching.{program_touched}
 use Rattle.claims_definition.specs.Listed.{Laid, accesses_of, claims_of, functions_of, placing, regions_of, touches_at}
 use Rattle.claims_image.specs.Images.{HasClaims}
-use Rattle.layout_law.specs.Kept.{IsListed}
+use Rattle.layout_kept.specs.Kept.{IsListed}
 use Rattle.layout_sizes.specs.Segments.{AreFilled}
 use Rattle.promise_report.specs.Compiled.{HasSegmentIn, IsLined}
 use Rattle.compile_told.proofs.Lists.{all_got, contained, got}

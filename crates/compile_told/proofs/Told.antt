@@ -32,8 +32,8 @@ use Rattle.report_shares.specs.Shares.{with_sum}
 use Rattle.report_text.specs.declared.entries.Share.{Share}
 use Rattle.report_text.specs.Reports.{Report}
 use Rattle.compile_claims.specs.Named.{named as renamed}
-use Rattle.compile_image.specs.declared.stages.Made.{Made}
-use Rattle.compile_image.specs.Made.{IsMade}
+use Rattle.compile_made.specs.declared.made.Made.{Made}
+use Rattle.compile_made.specs.Made.{IsMade}
 use Rattle.promise_report.specs.Facts.{AreFactLines, IsLoopLine, IsNeverLine, TellsFacts, places_told}
 use Rattle.compile_sizes.specs.Limits.{nothing}
 use Rattle.compile_reports.specs.Reported.{AreShared, IsReported}

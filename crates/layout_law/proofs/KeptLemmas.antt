@@ -48,7 +48,7 @@ use Rattle.layout_sizes.proofs.Lying.{all_lie}
 use Rattle.layout_sizes.proofs.Taken.{all_small}
 use Rattle.claims_image.specs.Images.{HasClaims, laid_of}
 use Rattle.claims_image.proofs.Whole.{has_claims}
-use Rattle.layout_law.specs.Kept.{IsLight, KeepsLow, Simulates}
+use Rattle.layout_kept.specs.Kept.{IsLight, KeepsLow, Simulates}
 use Rattle.layout_law.proofs.RoomLemmas.{rooms_kept, turns_same}
 
 saved_from : (fs : List Frame) (f : ℕ) → All IsSaving fs → length (slice_index_or fs f no_frame).saved ≤ 24

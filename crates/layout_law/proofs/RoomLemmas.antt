@@ -9,7 +9,7 @@ use Rattle.asm_program.specs.Functions.{PlacedFunction}
 use Rattle.claims_bounds.specs.Bounds.{CanTurn}
 use Rattle.low_placed_room.proofs.Rooms.{room_kept}
 use Rattle.low_placed_room.proofs.Weights.{reach_kept, weight_kept}
-use Rattle.layout_law.specs.Rooms.{KeepsRoom}
+use Rattle.layout_kept.specs.Rooms.{KeepsRoom}
 
 module _ (a : Assignment) where
   count_same : (k : ℕ) (fns : List (Function ℕ Note)) → length (place_functions a k fns) ≡ length fns

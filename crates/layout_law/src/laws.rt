@@ -1,5 +1,5 @@
 // The law of layouts.
-ghost use Rattle.layout_law.specs.Kept.{LayoutsKeep};
+ghost use Rattle.layout_kept.specs.Kept.{LayoutsKeep};
 
 /// The image of a program, with the claims on it, keeps what `specs/Kept.antt` says.
 pub fn layouts_keep()

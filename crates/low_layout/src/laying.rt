@@ -8,55 +8,27 @@ ghost use Rattle.image_saving.specs.Walks.{HaveSpots};
 ghost use Rattle.image_sizes.specs.Sizes.{HasSizes};
 ghost use Rattle.claims_lists.specs.Places.{IsRoomy};
 ghost use Rattle.claims_image.specs.Images.{laid_of};
-ghost use Rattle.layout_law.specs.Kept.{KeepsLow};
+ghost use Rattle.layout_kept.specs.Kept.{KeepsLow};
 ghost use Rattle.claims_definition.specs.Listed.{Laid as Whole};
 ghost use Rattle.claims_making.specs.Whole.{IsWhole};
 ghost use Rattle.image_frames.specs.Memories.{memory_of};
-ghost use Rattle.low_layout.specs.Laid.{AreClaimed, AreListed, IsLaid};
+ghost use Rattle.layout_laid.specs.Laid.{AreClaimed, AreListed, IsLaid};
 
 use super::words::has_words;
 use asm_data::Data;
-use claims_lists::{CodeRange, Laying, code_ranges, shapes_of, spans};
+use claims_lists::{Laying, code_ranges, shapes_of, spans};
 use claims_making::claims_of;
-use claims_movables::{LaidItem, items};
+use claims_movables::items;
 use claims_places::places_by_mark;
 use claims_touches::{Touch, touches_of};
-use code_flow_system::{Claims, LoopShape, Span};
+use code_flow_system::Claims;
 use image_making::{Assembly, array_regions, assemble};
 use image_memory::Placement;
+use layout_laid::{Claimed, Laid, Lists};
 use low_ir::LowReg;
-use rv_core::{Image, Region};
+use rv_core::Region;
 use std::alloc::Global;
 use wcc_base::{Items, Memory};
-
-/// What is claimed of the code of a program.
-#[derive(Drop)]
-pub struct Claimed {
-    pub claims: Claims,
-    /// By loop claim.
-    pub shapes: Vec<LoopShape>,
-}
-
-/// How the code and the arrays of a program lie.
-#[derive(Drop)]
-pub struct Lists {
-    /// By function, callees first and the start code last.
-    pub spans: Vec<Span>,
-    /// The code of functions, in the order of addresses.
-    pub ranges: Vec<CodeRange>,
-    /// By mark, the addresses of its blocks, in ascending order.
-    pub places: Vec<Items<u32>>,
-    /// What may be moved into the scratchpad: the functions, and then the arrays that aren't local.
-    pub items: Vec<LaidItem>,
-}
-
-/// A program in memory.
-#[derive(Drop)]
-pub struct Laid {
-    pub image: Image,
-    pub claimed: Claimed,
-    pub lists: Lists,
-}
 
 /// What there is of it beside the image.
 #[derive(Drop)]

@@ -6,7 +6,7 @@
 //! twice. The time is linear in the items, but for the calls and functions for each register.
 //!
 //! Proved: [`lay`] gives what `image_definition`, `claims_definition`, `claims_shapes` and `claims_items` define of the program over its
-//! places (`specs/Laid.antt`), wherever code and data keep to the bounds of `image_sizes`, or memory ran out; and the image
+//! places (`layout_laid`), wherever code and data keep to the bounds of `image_sizes`, or memory ran out; and the image
 //! and its claims then keep of the program what `layout_law` says in one record. An item's size is the same under every
 //! placement, so that one layout says what another one takes.
 #![tactic(auto)]
@@ -14,4 +14,5 @@
 mod laying;
 mod words;
 
-pub use laying::{Claimed, Laid, Lists, lay};
+pub use laying::lay;
+pub use layout_laid::{Claimed, Laid, Lists};

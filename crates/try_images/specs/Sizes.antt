@@ -3,7 +3,7 @@ use Rattle.std.specs.Prelude.{◌≡◌, ℕ, List, Option, Some, None, map, sli
 use Rattle.low_ir.specs.Places.{Placed}
 use Rattle.claims_movables.specs.Listed.{movable_of}
 use Rattle.layout_sizes.specs.Items.{item_sizes, sized}
-use Rattle.low_layout.specs.declared.laying.Laid.{Laid}
+use Rattle.layout_laid.specs.declared.laid.Laid.{Laid}
 
 abbrev pub size_listed : List (ℕ × ℕ) → ℕ → ℕ
 size_listed items k = (slice_index_or items k (0, 0)).1

@@ -3,7 +3,7 @@ ghost use Rattle.std.specs.Prelude.{◌≡◌, IfOk};
 ghost use Rattle.rv_core.specs.Table.{default_table};
 ghost use Rattle.rv_runs.specs.Ends.{IsRunOf};
 
-use low_layout::Laid;
+use layout_laid::Laid;
 use rv_runs::{ImageRun, run};
 use std::alloc::Global;
 use std::collections::BTreeMap;

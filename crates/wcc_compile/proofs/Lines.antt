@@ -13,8 +13,8 @@ use Rattle.plan_checked.proofs.Sources.{checked}
 use Rattle.high_pass.specs.Listing.{mark_entry}
 use Rattle.plan_formed.proofs.Facts.{says}
 use Rattle.plan_runs.specs.Kept.{same_mark}
-use Rattle.compile_image.specs.declared.stages.Made.{Made}
-use Rattle.compile_image.specs.Made.{IsMade}
+use Rattle.compile_made.specs.declared.made.Made.{Made}
+use Rattle.compile_made.specs.Made.{IsMade}
 
 pub as_many : (source : List ℕ) (names : List (List ℕ)) (program : Program) (facts : Facts) (m : Made) → IsSource source names program facts → IsMade names program facts m → length m.copies.marks.items ≡ length (facts.functions ++ facts.markers)
 as_many source names program facts m is made =

@@ -5,7 +5,7 @@ use Rattle.code_flow_system.specs.Certificates.{IsInForm}
 use Rattle.code_flow_system.specs.Systems.{IsSystemOf}
 use Rattle.facts_front.specs.declared.reading.Source.{Source}
 use Rattle.report_text.specs.Forms.{IsReport}
-use Rattle.compile_image.specs.declared.stages.Made.{Made}
+use Rattle.compile_made.specs.declared.made.Made.{Made}
 use Rattle.compile_reports.specs.Laws.{ReportedAreReports}
 use Rattle.wcc_compile.specs.declared.finding.Found.{Found}
 use Rattle.wcc_compile.specs.declared.telling.Told.{Told}

@@ -9,7 +9,7 @@ use Rattle.path_search.specs.Kinds.{IsMarked}
 use Rattle.compile_lines.specs.CopyLines.{AreLinesOf}
 use Rattle.report_shares.specs.Shares.{with_sum}
 use Rattle.report_text.specs.Reports.{Report, report_of}
-use Rattle.compile_image.specs.declared.stages.Made.{Made}
+use Rattle.compile_made.specs.declared.made.Made.{Made}
 use Rattle.compile_reports.specs.Reported.{AreShared}
 use Rattle.wcc_compile.specs.declared.finding.Found.{Found}
 use Rattle.wcc_compile.specs.declared.telling.Told.{Told}

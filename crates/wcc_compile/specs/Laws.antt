@@ -10,8 +10,8 @@ use Rattle.promise_report.specs.Compiled.{IsCompiled}
 use Rattle.facts_definitions.specs.declared.facts.Facts.{Facts}
 use Rattle.facts_front.specs.Fronts.{IsSource}
 use Rattle.types_tree.specs.Tree.{Program}
-use Rattle.compile_image.specs.declared.stages.Made.{Made}
-use Rattle.compile_image.specs.Made.{IsMade}
+use Rattle.compile_made.specs.declared.made.Made.{Made}
+use Rattle.compile_made.specs.Made.{IsMade}
 use Rattle.compile_reports.specs.Reported.{IsReported}
 
 -- the text of an image loads as that image

@@ -11,8 +11,8 @@ use Rattle.compile_lines.specs.Shares.{share_of}
 use Rattle.report_text.specs.declared.entries.Share.{Share}
 use Rattle.report_text.specs.Reports.{Report}
 use Rattle.compile_claims.specs.Named.{named}
-use Rattle.compile_image.specs.declared.stages.Made.{Made}
-use Rattle.compile_image.specs.Made.{IsMade}
+use Rattle.compile_made.specs.declared.made.Made.{Made}
+use Rattle.compile_made.specs.Made.{IsMade}
 use Rattle.compile_reports.specs.Reported.{IsReported}
 
 abbrev pub names_of : Source → List (List ℕ)

@@ -9,11 +9,12 @@ ghost use Rattle.wcc_compile.specs.Sources.{IsOf};
 
 use crate::laws::reported_are_compiled;
 use crate::reporting::reported;
-use compile_image::{Made, build, read};
+use compile_image::{build, read};
+use compile_made::Made;
 use elf_image::read_of_write;
 use facts_front::Source;
 use facts_laws::one_source;
-use low_layout::Laid;
+use layout_laid::Laid;
 use promise_compiler::{Built, Options, Refusal};
 use rv_core::{Costs, Image};
 use std::alloc::Global;

@@ -8,7 +8,7 @@ ghost use Rattle.wcc_compile.specs.Sources.{IsMadeOf, IsReportOn};
 
 use crate::finding::{Found, find};
 use crate::telling::{Told, tell};
-use compile_image::Made;
+use compile_made::Made;
 use compile_reports::reported_are_reports;
 use facts_front::Source;
 use path_enum::Bounded;

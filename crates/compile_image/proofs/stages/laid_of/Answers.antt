@@ -2,9 +2,9 @@ use Rattle.std.proofs.Common.{sym, subst}
 use Rattle.low_ir.specs.Places.{assignment, placed}
 use Rattle.low_ir.specs.Placings.{placed_of, placings_of}
 use Rattle.low_ir.specs.Programs.{low_of}
-use Rattle.low_layout.specs.Laid.{IsLaid}
+use Rattle.layout_laid.specs.Laid.{IsLaid}
 use Rattle.image_sizes.specs.Sizes.{HasSizes}
-use Rattle.layout_law.specs.Kept.{KeepsLow}
+use Rattle.layout_kept.specs.Kept.{KeepsLow}
 use Rattle.compile_sizes.specs.Limits.{nothing}
 use Rattle.compile_image.proofs.stages.laid_of.Goals as goal
 

@@ -43,7 +43,7 @@ use Rattle.layout_sizes.specs.Items.{HasElements, MovesItems, item_sizes, sized}
 use Rattle.layout_sizes.specs.Laws.{AreCounted, AreSmall, LieWherePlaced}
 use Rattle.claims_image.specs.Images.{HasClaims, laid_of}
 use Rattle.path_search.specs.Conditions.{CanBound}
-use Rattle.layout_law.specs.Rooms.{KeepsRoom}
+use Rattle.layout_kept.specs.Rooms.{KeepsRoom}
 
 -- no loop has to start more often than it may, and the numbers of a search stay small
 pub record IsLight (low : Low) : Type 0 where

@@ -13,11 +13,11 @@ use Rattle.low_ir.specs.Places.{in_slots}
 use Rattle.low_ir.specs.Placings.{placings_of}
 use Rattle.low_ir.specs.Programs.{low_of}
 use Rattle.lower_law.specs.Programs.{KeepsProgram}
-use Rattle.low_layout.specs.declared.laying.Laid.{Laid}
-use Rattle.low_layout.specs.Laid.{IsLaid}
-use Rattle.layout_law.specs.Kept.{KeepsLow}
+use Rattle.layout_laid.specs.declared.laid.Laid.{Laid}
+use Rattle.layout_laid.specs.Laid.{IsLaid}
+use Rattle.layout_kept.specs.Kept.{KeepsLow}
 use Rattle.compile_sizes.specs.Limits.{nothing}
-use Rattle.compile_image.specs.declared.stages.Made.{Made}
+use Rattle.compile_made.specs.declared.made.Made.{Made}
 
 -- a program in the low form with a slot for each register, and its image with nothing in the scratchpad
 pub record IsInMemory (program : Program) (y : Laid) : Type 0 where

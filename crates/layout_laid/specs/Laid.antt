@@ -13,9 +13,9 @@ use Rattle.claims_lists.specs.Lists.{range_of}
 use Rattle.claims_movables.specs.Listed.{movable_of}
 use Rattle.claims_places.specs.Places.{places_below}
 use Rattle.claims_image.specs.Images.{laid_of}
-use Rattle.low_layout.specs.declared.laying.Claimed.{Claimed}
-use Rattle.low_layout.specs.declared.laying.Lists.{Lists}
-use Rattle.low_layout.specs.declared.laying.Laid.{Laid}
+use Rattle.layout_laid.specs.declared.laid.Claimed.{Claimed}
+use Rattle.layout_laid.specs.declared.laid.Lists.{Lists}
+use Rattle.layout_laid.specs.declared.laid.Laid.{Laid}
 
 -- the claims on a laid program, and the shapes of its loops
 pub record AreClaimed (l : listed.Laid) (y : Claimed) : Type 0 where
