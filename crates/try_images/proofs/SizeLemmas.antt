@@ -1,12 +1,20 @@
 -- The sizes of functions are the first that a layout lists.
-use Rattle.std.proofs.Common.{◌≡◌, ℕ, zero, suc, ◌+◌, ◌<◌, List, [], ◌∷◌, ◌++◌, length, map, refl, sym, ap, ◌∙◌, arith}
-use Rattle.std.specs.Prelude.{slice_index_or}
+use Rattle.std.proofs.Common.{◌≡◌, ℕ, zero, suc, ◌+◌, ◌<◌, List, [], ◌∷◌, ◌++◌, length, map, Some, refl, sym, ap, ◌∙◌, arith}
+use Rattle.std.specs.Prelude.{slice_get, slice_index_or}
 use Rattle.std.specs.List.{range_with_len}
 use Rattle.std.proofs.lemmas.List.FromFn.{map-range_with_len_more}
 use Rattle.low_ir.specs.Places.{Placed}
 use Rattle.image_sizes.specs.Sizes.{code_size, function_sizes}
-use Rattle.layout_sizes.specs.Items.{arrays_sized, item_sizes}
+use Rattle.claims_movables.specs.declared.item.LaidItem.{LaidItem}
+use Rattle.claims_movables.specs.Listed.{movable_of}
+use Rattle.layout_sizes.specs.Items.{arrays_sized, item_sizes, sized}
 use Rattle.try_images.specs.Sizes.{size_listed}
+
+-- what is listed at a number
+pub size_read : (xs : List LaidItem) (k : ℕ) (x : LaidItem) → slice_get xs k ≡ Some x → x.size ≡ size_listed (map sized (map movable_of xs)) k
+size_read [] k x e = cc
+size_read (y ∷ xs) zero x e = let same : y ≡ x = cc in ap (λ (z : LaidItem). z.size) (sym same)
+size_read (y ∷ xs) (suc k) x e = size_read xs k x e
 
 -- one more
 pub sizes_step : (g : ℕ → ℕ) (n : ℕ) (old new : List ℕ) (x : ℕ) → new ≡ old ++ x ∷ [] → x ≡ g n → old ≡ map g (range_with_len 0 n) → new ≡ map g (range_with_len 0 (n + 1))
