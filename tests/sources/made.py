@@ -210,8 +210,31 @@ def long_numbers():
         f'_Pragma("flowrestriction {nines}*main >= 0*main") {MAIN}'), b""
 
 
+# Sources of up to a full MiB: what stands before, is repeated and stands behind, and how many nodes there are.
+FULL = [
+    ("statements", "int f() {", "x;", 524283, "}", 1048569),
+    ("empty statements", "int f(){", ";", 1048567, "}", 1048570),
+    ("values", "int a[] ={", "1,", 524282, "};", 524285),
+    ("arguments", "int x=f(", "1,", 524282, "1);", 524287),
+    ("objects", "int ", "a,", 524285, "a;", 524288),
+    ("declarations", "    ", "int x;", 174762, "", 349525),
+    ("statements in 250 blocks", "int f(){" + "{" * 250, "x;", 524000, "}" * 251, 1048253),
+    ("arguments of 250 calls", "int x=" + "f(" * 250, "1,", 523000, "1" + ")" * 250 + ";", 523254),
+]
+# Tokens and what is none, repeated up to a full MiB, and where no unit goes on.
+REPEATED = [("++", 524288, 0), ("a ", 524288, 0), ("#1\n", 349525, 1048575), ("#/**/\n", 174762, 1048572), ("/**/", 262144, 1048576),
+            ("'\\x41'", 174762, 0), ('_Pragma("marker m")\n', 52428, 0)]
+
+
+def full_sources():
+    for name, before, part, times, behind, found in FULL:
+        yield f"full: {name}", f"limit nodes {found}", before + part * times + behind, b""
+    for part, times, place in REPEATED:
+        yield f"full: {times} times {part!r}", f"refused syntax at {place}", part * times, b""
+
+
 def made():
     for rows in (source_length, input_length, depth, nodes, functions, parameters, markers, restrictions, global_bytes,
-                 local_bytes, executions, long_programs, long_numbers):
+                 local_bytes, executions, long_programs, long_numbers, full_sources):
         for name, line, source, data in rows():
             yield name, line, source.encode(), data

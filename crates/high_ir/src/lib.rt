@@ -19,8 +19,6 @@ mod measure;
 pub mod object;
 pub mod operator;
 pub mod statement;
-#[cfg(test)]
-mod tests;
 
 pub use copies::{Carried, Copies, LoopCopies, LoopCopy, MarkCopies, NeverMark};
 pub use high::{Function, High};

@@ -2,4 +2,3 @@ pub mod Listing
 pub mod Carries
 pub mod Law
 pub mod Composing
-pub mod Sample

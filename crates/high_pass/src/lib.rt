@@ -13,8 +13,6 @@ mod chaining;
 mod compose;
 pub mod origin;
 mod pass;
-#[cfg(test)]
-mod tests;
 
 pub use chaining::{Chained, chain};
 pub use pass::Pass;

@@ -1,18 +1,16 @@
+// A pass behind another.
 ghost use Rattle.std.specs.Prelude.{◌≡◌, IfOk, IfSome};
 ghost use Rattle.high_ir.specs.Programs.{program_of};
 ghost use Rattle.high_ir.specs.Tree.{Constant, Return};
 ghost use Rattle.high_ir.specs.View.{function_of};
 ghost use Rattle.high_pass.specs.Listing.{listing_of};
-ghost use Rattle.high_pass.specs.Sample.{returning, same_again};
+ghost use Rattle.high_cases.specs.Sample.{returning, same_again};
 
-use super::chaining::chain;
-use super::compose::compose;
-use super::pass::Pass;
 use high_ir::expression::Expr;
 use high_ir::statement::Statement;
-use high_ir::{Carried, Copies, Function, High, LoopCopies, LoopCopy, MarkCopies, NeverMark};
+use high_ir::{Carried, Copies, Function, High, MarkCopies};
+use high_pass::{Pass, chain};
 use std::alloc::Global;
-use std::test::Fail;
 use wcc_base::Memory;
 
 /// A program that returns a word at once.
@@ -100,9 +98,8 @@ impl Pass for Again {
     }
 }
 
-#[test]
-fn a_pass_behind_another(rt: HostRuntime) -> Result<(), Fail> {
-    let alloc = rt.alloc();
+/// The copies of a pass that makes the same again, behind one that made one copy of mark 5.
+pub fn chained(alloc: Global) -> Result<Copies, Memory> {
     let program = returning(alloc, 7)?;
     let mut marks = Vec::new(alloc);
     marks.push(MarkCopies {
@@ -114,77 +111,5 @@ fn a_pass_behind_another(rt: HostRuntime) -> Result<(), Fail> {
         loops: Vec::new(alloc),
         nevers: Vec::new(alloc),
     };
-    let chained = chain(alloc, &program, &whole, &Again)?;
-    assert_eq!(rt; chained.whole.marks.len(), 1);
-    let mark = &chained.whole.marks[0];
-    assert_eq!(rt; mark.old, 5);
-    assert_eq!(rt; mark.new.as_slice(), [0].as_slice());
-    Ok(())
-}
-
-#[test]
-fn copies_of_copies(rt: HostRuntime) -> Result<(), Fail> {
-    let alloc = rt.alloc();
-    let mut marks = Vec::new(alloc);
-    marks.push(MarkCopies {
-        old: 3,
-        new: vec![in alloc; 1, 0]?,
-    })?;
-    let mut loops = Vec::new(alloc);
-    loops.push(LoopCopies {
-        old: 1,
-        new: vec![in alloc; LoopCopy { id: 0, factor: 2 }]?,
-    })?;
-    let whole = Copies {
-        marks,
-        loops,
-        nevers: vec![in alloc;
-            NeverMark {
-                mark: 1,
-                old: 9,
-                factor: 4
-            },
-        ]?,
-    };
-    let mut marks = Vec::new(alloc);
-    marks.push(MarkCopies {
-        old: 0,
-        new: vec![in alloc; 2]?,
-    })?;
-    marks.push(MarkCopies {
-        old: 1,
-        new: vec![in alloc; 0, 3]?,
-    })?;
-    let mut loops = Vec::new(alloc);
-    loops.push(LoopCopies {
-        old: 0,
-        new: vec![in alloc; LoopCopy { id: 1, factor: 3 }]?,
-    })?;
-    let step = Copies {
-        marks,
-        loops,
-        nevers: vec![in alloc;
-            NeverMark {
-                mark: 4,
-                old: 0,
-                factor: 5
-            },
-        ]?,
-    };
-    let made = compose(alloc, 1, &whole, &step)?;
-    assert_eq!(rt; made.marks.len(), 1);
-    let mark = &made.marks[0];
-    assert_eq!(rt; mark.old, 3);
-    assert_eq!(rt; mark.new.as_slice(), [0, 3, 2].as_slice());
-    assert_eq!(rt; made.loops.len(), 1);
-    let entry = &made.loops[0];
-    assert_eq!(rt; entry.old, 1);
-    assert_eq!(rt; entry.new.len(), 1);
-    assert_eq!(rt; [entry.new[0].id, entry.new[0].factor], [1, 6]);
-    assert_eq!(rt; made.nevers.len(), 3);
-    let [first, second, third] = [made.nevers[0], made.nevers[1], made.nevers[2]];
-    assert_eq!(rt; [first.mark, first.old, first.factor], [0, 9, 4]);
-    assert_eq!(rt; [second.mark, second.old, second.factor], [3, 9, 4]);
-    assert_eq!(rt; [third.mark, third.old, third.factor], [4, 1, 10]);
-    Ok(())
+    Ok(chain(alloc, &program, &whole, &Again)?.whole)
 }
