@@ -22,6 +22,14 @@ use std::alloc::Global;
 use std::mem;
 use wcc_base::Memory;
 
+/// What an instruction calls, and the register that gets the value, if it is wanted.
+#[derive(Clone, Copy)]
+struct Called<'a> {
+    function: u32,
+    arguments: &'a [Operand],
+    into: Option<u32>,
+}
+
 /// A run that goes on.
 #[derive(Drop)]
 pub struct Running<'a> {
@@ -227,12 +235,15 @@ impl<'a> Running<'a> {
         code: &'a LowReg,
         mask: u32,
         rest: Rest<'a>,
-        callee: u32,
-        arguments: &[Operand],
-        into: Option<u32>,
+        called: Called<'_>,
     ) -> Result<bool, Memory>
-        ensures { IfOk result (λ goes. call places (running_of self.old) (rest_of (table_of self.old.top.table) rest.entry) (option_map (place_in (table_of self.old.top.table)) into) callee (registers_of machine_registers mask) (slice_get (placed_of code.now).functions callee) (values places self.old.top.file (map (place_operand (place_in (table_of self.old.top.table))) (map operand_of arguments.now))) ≡ going_if goes (running_of self.new)) }
+        ensures { IfOk result (λ goes. call places (running_of self.old) (rest_of (table_of self.old.top.table) rest.entry) (option_map (place_in (table_of self.old.top.table)) called.entry.into) called.entry.function (registers_of machine_registers mask) (slice_get (placed_of code.now).functions called.entry.function) (values places self.old.top.file (map (place_operand (place_in (table_of self.old.top.table))) (map operand_of called.entry.arguments.now))) ≡ going_if goes (running_of self.new)) }
     {
+        let Called {
+            function: callee,
+            arguments,
+            into,
+        } = called;
         let Some((function, table)) = placed_function(code, callee) else {
             return Ok(false);
         };
@@ -298,7 +309,14 @@ impl<'a> Running<'a> {
                 function,
                 arguments,
                 into,
-            } => self.call(code, mask, rest, *function, arguments, *into),
+            } => {
+                let called = Called {
+                    function: *function,
+                    arguments,
+                    into: *into,
+                };
+                self.call(code, mask, rest, called)
+            }
         }
     }
 

@@ -122,6 +122,13 @@ fn kept_value<'a>(kind: Kind, value: &'a Expr) -> &'a Expr
     }
 }
 
+/// An array that is there: the kind of its elements, and where it begins.
+#[derive(Clone, Copy)]
+struct There {
+    kind: Kind,
+    base: Base,
+}
+
 /// An element, where its array is there.
 pub fn keep_code(
     scope: &Scope,
@@ -136,30 +143,33 @@ pub fn keep_code(
     let shares = keep_shares(scope, array, index, value, free)?;
     let mut coder = begun(scope, &shares, free)?;
     if let Some(base) = base_of(scope, array.base)? {
-        store(scope, &shares, array.kind, base, index, value, &mut coder)?;
+        let there = There {
+            kind: array.kind,
+            base,
+        };
+        store(scope, &shares, there, index, value, &mut coder)?;
         return Ok(coder);
     }
     Ok(coder)
 }
 
-/// A value into an element of an array that begins at a base.
+/// A value into an element of an array that is there.
 fn store(
     scope: &Scope,
     shares: &[Share],
-    kind: Kind,
-    base: Base,
+    array: There,
     index: &Expr,
     value: &Expr,
     coder: &mut Coder,
 ) -> Result<(), Memory>
-    ensures { IfOk result (λ _. (free : ℕ) → coded_of coder.new ≡ after (code_of coder.old) (store_at (Some (base_at base)) kind free (offset_of (shares_said shares.now) (scale_of kind) (index_of (scope_of scope.now) (shares_said shares.now) (expr_of index.now) coder.old.free)) (operand (scope_of scope.now) (shares_said shares.now) (expr_of value.now)))) }
+    ensures { IfOk result (λ _. (free : ℕ) → coded_of coder.new ≡ after (code_of coder.old) (store_at (Some (base_at array.base)) array.kind free (offset_of (shares_said shares.now) (scale_of array.kind) (index_of (scope_of scope.now) (shares_said shares.now) (expr_of index.now) coder.old.free)) (operand (scope_of scope.now) (shares_said shares.now) (expr_of value.now)))) }
 {
     let index = index_of(scope, shares, index, coder)?;
-    let offset = offset_of(shares, kind, index, coder)?;
+    let offset = offset_of(shares, array.kind, index, coder)?;
     let value = operand(scope, shares, value, coder)?;
     coder.push(Instr::Store {
-        kind: kind_of(kind),
-        address: offset.at(base),
+        kind: kind_of(array.kind),
+        address: offset.at(array.base),
         value,
     })?;
     Ok(())

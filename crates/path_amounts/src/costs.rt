@@ -16,23 +16,35 @@ use path_walks::{Priced, Settled};
 use rv_core::Costs;
 use std::alloc::{AllocError, Global};
 
-/// The moves of the flow of a system at the costs of its moves, where a block is worth `low` and the walks found these
-/// worths and weights.
+/// A system whose moves have prices by their costs.
+#[derive(Clone, Copy)]
+pub struct Costed<'a> {
+    pub system: &'a System,
+    pub shapes: &'a [LoopShape],
+    pub costs: &'a Costs,
+    /// The worth of a block.
+    pub low: i128,
+}
+
+/// The moves of the flow of a system at the costs of its moves, where the walks found these worths and weights.
 pub fn cost_flow(
     alloc: Global,
-    system: &System,
-    costs: &Costs,
-    shapes: &[LoopShape],
+    costed: Costed,
     spans: &[Span],
-    low: i128,
     settled: &Settled,
 ) -> Result<Vec<Part>, AllocError>
-    requires whole { IsReachedWhole system.now shapes.now spans.now }
-    requires small { AllStaySmall system.now shapes.now (costs_at (table_of costs.now) system.now low) (blank (length system.now.moves) low) spans.now }
-    requires level { level_of settled.now.worths settled.now.weights ≡ final_level system.now shapes.now spans.now (costs_at (table_of costs.now) system.now low) }
-    requires fits { All (λ u. u < 2 ^ 127) (amounts_of system.now shapes.now spans.now (costs_at (table_of costs.now) system.now low)) }
-    ensures { IfOk result (λ v. v.items ≡ parts_of system.now.moves (amounts_of system.now shapes.now spans.now (costs_at (table_of costs.now) system.now low))) }
+    requires whole { IsReachedWhole costed.system.now costed.shapes.now spans.now }
+    requires small { AllStaySmall costed.system.now costed.shapes.now (costs_at (table_of costed.costs.now) costed.system.now costed.low) (blank (length costed.system.now.moves) costed.low) spans.now }
+    requires level { level_of settled.now.worths settled.now.weights ≡ final_level costed.system.now costed.shapes.now spans.now (costs_at (table_of costed.costs.now) costed.system.now costed.low) }
+    requires fits { All (λ u. u < 2 ^ 127) (amounts_of costed.system.now costed.shapes.now spans.now (costs_at (table_of costed.costs.now) costed.system.now costed.low)) }
+    ensures { IfOk result (λ v. v.items ≡ parts_of costed.entry.system.now.moves (amounts_of costed.entry.system.now costed.entry.shapes.now spans.now (costs_at (table_of costed.entry.costs.now) costed.entry.system.now costed.entry.low))) }
 {
+    let Costed {
+        system,
+        shapes,
+        costs,
+        low,
+    } = costed;
     let prices = prices(alloc, system, costs)?;
     let priced = Priced {
         system,

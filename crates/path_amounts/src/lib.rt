@@ -19,5 +19,5 @@ mod put;
 mod sums;
 mod system;
 
-pub use costs::cost_flow;
+pub use costs::{Costed, cost_flow};
 pub use system::flow;

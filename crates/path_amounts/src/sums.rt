@@ -22,13 +22,19 @@ fn start_called(moves: &[Move], step: &Move, count: u128, starts: &mut [u128])
     }
 }
 
+/// How often each step of a function is made, and how many of these counts are used.
+#[derive(Clone, Copy)]
+struct Counts<'a> {
+    all: &'a [u128],
+    used: usize,
+}
+
 /// Adds the next count to a move's, if a walk goes through its address, and says how many counts are used then.
 fn add_move(
     priced: Priced,
     place: usize,
     step: &Move,
-    counts: &[u128],
-    used: usize,
+    counts: Counts,
     amounts: &mut [u128],
     starts: &mut [u128],
 ) -> usize
@@ -36,17 +42,18 @@ fn add_move(
     requires back { GoesBack priced.shapes.now step.now }
     requires place { place < length amounts.now }
     requires long { length priced.system.now.moves < length starts.now }
-    ensures { HasCounted priced.entry.system.now.moves (counts_next priced.entry.system.now.claims priced.entry.shapes.now step.now.at counts.now used) step.now place (slice_index_or counts.now used 0) used amounts.old starts.old result amounts.new starts.new }
+    ensures { HasCounted priced.entry.system.now.moves (counts_next priced.entry.system.now.claims priced.entry.shapes.now step.now.at counts.entry.all.now counts.entry.used) step.now place (slice_index_or counts.entry.all.now counts.entry.used 0) counts.entry.used amounts.old starts.old result amounts.new starts.new }
 {
+    let Counts { all, used } = counts;
     let moves = priced.system.moves();
-    if used >= counts.len() {
+    if used >= all.len() {
         return used;
     }
     if !is_open(priced.system.claims(), priced.shapes, step) {
         return used;
     }
-    add(amounts, place, counts[used]);
-    start_called(moves, step, counts[used], starts);
+    add(amounts, place, all[used]);
+    start_called(moves, step, all[used], starts);
     used + 1
 }
 
@@ -69,7 +76,8 @@ pub(crate) fn add_counts(
     let end = place_of(moves, span.end);
     let mut used = 0;
     for i in first..end {
-        used = add_move(priced, i, &moves[i], counts, used, amounts, starts);
+        let next = Counts { all: counts, used };
+        used = add_move(priced, i, &moves[i], next, amounts, starts);
     }
 }
 

@@ -14,7 +14,7 @@ use crate::marking::{kind_of, marked};
 use crate::unmarked::unmarked_cert;
 use code_flow_lookup::potential;
 use code_flow_system::{Cert, Flow, LoopClaim, LoopShape, Mark, Part, Span, System};
-use path_amounts::cost_flow;
+use path_amounts::{Costed, cost_flow};
 use path_answer::Bounded;
 use path_values::settle_costs;
 use rv_core::Costs;
@@ -77,7 +77,13 @@ fn certificate(
     if is_negative(worth) {
         return Ok(marked(cert, Mark::Empty, 0, no_flow(alloc)));
     }
-    let parts = cost_flow(alloc, system, costs, shapes, spans, BLOCK, &settled)?;
+    let costed = Costed {
+        system,
+        shapes,
+        costs,
+        low: BLOCK,
+    };
+    let parts = cost_flow(alloc, costed, spans, &settled)?;
     Ok(marked(cert, Mark::Greatest, cycles(worth), one_flow(parts)))
 }
 

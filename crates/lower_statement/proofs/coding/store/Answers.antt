@@ -17,7 +17,7 @@ returns c = λ free.
     let offset = offset_in c.offset_of.new.coder c.in_ok-offset.offset in
     let value = valued_of c.operand.new.coder c.in_ok-value.value in
     let stored : Kind → Address ℕ → Coded = λ (kind : Kind) (a : Address ℕ). record { code = value.code ++ only (Do (Store kind a value.value)); free = value.free } in
-    element_stores shares c.args.kind (index_of scope shares (expr_of c.args.index.now) c.args.coder.now.free) (code_of c.args.coder.now) (base_of c.args.base) free offset (operand scope shares (expr_of c.args.value.now)) value _
-    (c.in_ok-offset.ensures ∙ ap (offset_of shares (scale_of c.args.kind)) c.in_ok-index.ensures)
+    element_stores shares c.args.array.kind (index_of scope shares (expr_of c.args.index.now) c.args.coder.now.free) (code_of c.args.coder.now) (base_of c.args.array.base) free offset (operand scope shares (expr_of c.args.value.now)) value _
+    (c.in_ok-offset.ensures ∙ ap (offset_of shares (scale_of c.args.array.kind)) c.in_ok-index.ensures)
     c.in_ok-value.ensures
     (c.in_ok-push.ensures ∙ ap (λ k. stored k (address_of c.at.result)) c.kind_of.ensures ∙ ap (stored _) (c.at.ensures c.offset_of.new.coder))

@@ -16,9 +16,9 @@ returns c =
     let t = table_of self.top.table in
     let own = table_of c.in-Some.table in
     let fn = laid_function own (function_of c.in-Some.function.now) in
-    let below : nat_lt c.args.callee self.top.function ≡ true = grind (arith, nat_tests, c.if-callee-self.false) in
+    let below : nat_lt c.args.called.function self.top.function ≡ true = grind (arith, nat_tests, c.if-callee-self.false) in
     if_ok c.enter.result _ _ c.enter.ensures (λ goes entered.
-    called_run (running_of self) (running_of c.wait.new.self) (rest_of t c.args.rest) (option_map (place_in t) c.args.into) c.args.callee (registers_of machine_registers c.args.mask) _ _ fn c.in-Some-2.values.items c.in-Some-3.file
+    called_run (running_of self) (running_of c.wait.new.self) (rest_of t c.args.rest) (option_map (place_in t) c.args.called.into) c.args.called.function (registers_of machine_registers c.args.mask) _ _ fn c.in-Some-2.values.items c.in-Some-3.file
     (c.placed_function.ensures ∙ ap (option_map (λ f. laid_function (table_of f.1) (function_of f.0.now))) c.in-Some.is)
     (c.in_ok-values.ensures ∙ ap items_of c.in-Some-2.is)
     below
