@@ -1,4 +1,4 @@
-//! A program for tests: it says what fractions, sums, and stores and sinks in memory come to.
+//! Says what fractions, sums, and stores and sinks in memory come to: a program for tests.
 //!
 //! A line of the input is a command and its numbers, and the answer is a line, too:
 //!

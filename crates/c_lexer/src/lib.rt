@@ -116,6 +116,3 @@ pub fn one_cut()
     ensures apart { (source : List ℕ) (tokens : List Token) (fault : LexFault) → HasTokens source tokens → StopsAt fault source → fault ≡ LexFault.Memory }
     ensures faults { (source : List ℕ) (fault other : LexFault) → StopsAt fault source → StopsAt other source → fault ≢ LexFault.Memory → other ≢ LexFault.Memory → fault ≡ other }
 {}
-
-#[cfg(test)]
-mod tests;

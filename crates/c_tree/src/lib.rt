@@ -21,8 +21,6 @@ mod measure;
 pub mod pragma;
 pub mod size;
 pub mod statement;
-#[cfg(test)]
-mod tests;
 pub mod token;
 pub mod tokens;
 pub mod unit;

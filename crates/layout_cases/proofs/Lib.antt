@@ -1,4 +1,2 @@
 pub mod Registered
-pub mod Rooming
-pub mod Formed
 pub mod Examples

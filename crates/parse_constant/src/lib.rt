@@ -12,8 +12,6 @@
 
 mod digits;
 mod form;
-#[cfg(test)]
-mod tests;
 mod value;
 
 pub use form::{is_character, is_integer};

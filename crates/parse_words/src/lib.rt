@@ -13,8 +13,6 @@
 #![tactic(auto)]
 
 mod numbering;
-#[cfg(test)]
-mod tests;
 mod word;
 
 pub use parse_lexeme::Word;

@@ -20,8 +20,6 @@ ghost use Rattle.path_fit.specs.Fitting.{LoopsFit};
 mod loops;
 mod nest;
 mod spans;
-#[cfg(test)]
-mod tests;
 
 use code_flow_system::{LoopShape, Span, System};
 
