@@ -1,2 +1,4 @@
 pub mod Registered
+pub mod Rooming
+pub mod Formed
 pub mod Examples

@@ -1,32 +1,14 @@
 // An assignment of machine registers.
-ghost use Rattle.std.specs.Prelude.{◌≡◌, IfOk, IfSome, map};
+ghost use Rattle.std.specs.Prelude.{◌≡◌, IfOk, map};
 ghost use Rattle.std.specs.List.{range_with_len};
 ghost use Rattle.low_ir.specs.Places.{placing_of};
-ghost use Rattle.low_ir.specs.View.{block_of, function_of};
-ghost use Rattle.image_saving.specs.Walks.{spots_in};
+ghost use Rattle.low_ir.specs.View.{function_of};
 ghost use Rattle.layout_cases.specs.Registers.{place_at, in_registers};
 
-use low_ir::{Block, Function, Low, LowReg, Place, Placing};
+use crate::rooms::spots;
+use low_ir::{Function, Low, LowReg, Place, Placing};
 use std::alloc::Global;
 use wcc_base::Memory;
-
-/// How many places code has at most.
-const MOST: u32 = 0x4000;
-
-/// How many places code has.
-fn spots(blocks: &[Block]) -> Option<u32>
-    ensures { IfSome result (λ n. n ≡ spots_in (map block_of blocks.now)) }
-{
-    let mut sum = 0;
-    for block in blocks {
-        let code = block.code.len();
-        if code >= 0x4000 || sum >= MOST {
-            return None;
-        }
-        sum += code as u32 + 1;
-    }
-    Some(sum)
-}
 
 fn place_at(register: u32) -> Place
     ensures { result ≡ place_at register }
