@@ -31,6 +31,15 @@ PLAIN = re.compile(rb"0|[1-9][0-9]*")
 NAME = re.compile(rb"(?<![\w.])[A-Za-z_]\w*")
 BITS = 31
 
+# What stands in many programs and isn't in the language, by the part of docs/PORTING.md that says what to write instead.
+OUTSIDE = {
+    "Names of types": ("typedef",), "enum": ("enum",), "struct": ("struct",), "union and bit-fields": ("union",),
+    "float and double": ("float", "double"), "Strings": ('"',), "sizeof": ("sizeof",), "goto": ("goto",), "_Bool": ("_Bool",),
+    "volatile": ("volatile",), "Functions of any number of arguments": ("...",), "Assembler": ("asm", "__asm", "__asm__"),
+    "Words for the compiler": ("register", "restrict", "_Noreturn", "_Alignas", "__attribute__", "__inline", "__inline__"),
+}
+PIECE = re.compile(rb"""(?P<quoted>"(?:[^"\\]|\\.)*")|'(?:[^'\\]|\\.)*'|\.\.\.(?=\s*\))|[A-Za-z_]\w*""")
+
 
 class Failed(Exception):
     """Why no source is written, and the status."""
@@ -95,21 +104,42 @@ def shown(file, number):
     return f"{os.fsdecode(name_in_marker(file))}:{number}"
 
 
+def placed(lines):
+    """Each line with its index, and the file and the number that the line markers before it say."""
+    file, number = b"", 0
+    for index, line in enumerate(lines):
+        number += 1
+        if marker := LINE_MARKER.match(line):
+            file, number = marker[2], int(marker[1]) - 1
+        else:
+            yield index, line, (file, number)
+
+
 class Annotations:
     """The lines of a preprocessed text, in whose annotations numbers may be expressions."""
 
     def __init__(self, text):
-        self.lines, self.files, self.asked = text.split(b"\n"), set(), []
+        self.lines, self.asked = text.split(b"\n"), []
         # The parts of each line that has an expression, which are texts and numbers of what is asked.
         self.parts = {}
-        file, number = b"", 0
-        for index, line in enumerate(self.lines):
-            number += 1
-            if marker := LINE_MARKER.match(line):
-                file, number = marker[2], int(marker[1]) - 1
-                self.files.add(name_in_marker(file))
-            elif annotation := ANNOTATION.fullmatch(line.rstrip(b"\r")):
-                self.note(index, annotation[1], annotation[2], (file, number))
+        for index, line, place in placed(self.lines):
+            if annotation := ANNOTATION.fullmatch(line.rstrip(b"\r")):
+                self.note(index, annotation[1], annotation[2], place)
+
+    def files(self):
+        """The names of all files that were read."""
+        return sorted({name_in_marker(it[2]) for it in map(LINE_MARKER.match, self.lines) if it})
+
+    def outside(self):
+        """What isn't in the language, by the part of the page on it: the places at which it stands."""
+        parts = {word: part for part, words in OUTSIDE.items() for word in words}
+        found = {}
+        for _, line, place in placed(self.lines):
+            for it in PIECE.finditer(line) if not line.lstrip().startswith(b"#") else ():
+                word = '"' if it["quoted"] else it[0].decode()
+                if word in parts:
+                    found.setdefault(parts[word], []).append((place, "a string" if it["quoted"] else f"`{word}`"))
+        return found
 
     def note(self, index, kind, text, place):
         """Keeps what is an expression in an annotation. One of another form is left to the compiler to refuse."""
@@ -169,15 +199,16 @@ def write(path, data):
         return
     path = os.path.realpath(path)
     apart = f"{path}.{os.getpid()}"
+    file = open(apart, "xb")
     try:
-        with open(apart, "xb") as file:
+        with file:
             file.write(data)
         if os.path.exists(path):
             os.chmod(apart, stat.S_IMODE(os.stat(path).st_mode))
         os.replace(apart, path)
-    finally:
-        if os.path.lexists(apart):
-            os.unlink(apart)
+    except BaseException:
+        os.unlink(apart)
+        raise
 
 
 def prepare(asked):
@@ -189,12 +220,15 @@ def prepare(asked):
         raise Failed(READ_FAULT, f"{asked.file} can't be read: {why(error)}") from error
     refuse_aliases(asked.source, [asked.file])
     text = Annotations(preprocessor.run(asked.file))
-    refuse_aliases(asked.source, sorted(text.files))
+    refuse_aliases(asked.source, text.files())
     data = text.filled(preprocessor.values(text.asked) if text.asked else [])
     try:
         write(asked.source, data)
     except OSError as error:
         raise Failed(WRITE_FAULT, f"{asked.source} can't be written: {why(error)}") from error
+    for part, found in text.outside().items():
+        (place, what), places = found[0], f" ({len(found)} places)" if len(found) > 1 else ""
+        print(f"{shown(*place)}: {what} is outside the language{places}: see \"{part}\" in docs/PORTING.md", file=sys.stderr)
 
 
 def main(words):
