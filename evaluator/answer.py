@@ -28,11 +28,11 @@ def within(word, most, data):
         raise Limit(word, most + 1)
 
 
-def program_of(source, data):
+def program_of(source, data, kind=Program):
     within("source", MOST_SOURCE, source)
     within("input", MOST_INPUT, data)
     checker = check(unit_of(tokens_of(source), len(source)))
-    return Program(checker, Facts(checker).run(), data)
+    return kind(checker, Facts(checker).run(), data)
 
 
 def answer(source, data):
