@@ -11,6 +11,7 @@ from .tokens import Refused, tokens_of
 MOST_SOURCE = 1048576
 MOST_INPUT = 16777216
 DONE, REFUSED, LIMIT, STOPPED = 0, 1, 3, 8
+FAULTS = (Refused, RuleFault, TooDeep, Limit, Undefined, Broken)
 
 
 @dataclass
@@ -28,27 +29,43 @@ def within(word, most, data):
         raise Limit(word, most + 1)
 
 
+def checked(source, need_bounds=True):
+    """The checker of a source and its facts, or a fault."""
+    within("source", MOST_SOURCE, source)
+    checker = check(unit_of(tokens_of(source), len(source)))
+    return checker, Facts(checker, need_bounds).run()
+
+
 def program_of(source, data, kind=Program):
+    # Both files are read before anything is said of the source.
     within("source", MOST_SOURCE, source)
     within("input", MOST_INPUT, data)
-    checker = check(unit_of(tokens_of(source), len(source)))
-    return kind(checker, Facts(checker).run(), data)
+    return kind(*checked(source), data)
+
+
+def line_of(fault):
+    """The line and the status of a fault."""
+    if isinstance(fault, Refused):
+        return f"refused {fault.word} at {fault.at}", REFUSED
+    if isinstance(fault, RuleFault):
+        return f"refused type-{fault.code} at {fault.at}", REFUSED
+    if isinstance(fault, TooDeep):
+        return f"limit depth {MOST_DEPTH + 1}", LIMIT
+    if isinstance(fault, Limit):
+        return f"limit {fault.word} {fault.found}", LIMIT
+    if isinstance(fault, Undefined):
+        return f"undefined {fault.rule} at {fault.at}", STOPPED
+    return f"broken at {fault.at}", STOPPED
+
+
+def value_line(value, output):
+    return f"value {value} bytes {len(output)}"
 
 
 def answer(source, data):
     try:
         program = program_of(source, data)
         value, output = program.run()
-        return Answer(f"value {value} bytes {len(output)}", DONE, output, program.counts)
-    except Refused as fault:
-        return Answer(f"refused {fault.word} at {fault.at}", REFUSED)
-    except RuleFault as fault:
-        return Answer(f"refused type-{fault.code} at {fault.at}", REFUSED)
-    except TooDeep:
-        return Answer(f"limit depth {MOST_DEPTH + 1}", LIMIT)
-    except Limit as limit:
-        return Answer(f"limit {limit.word} {limit.found}", LIMIT)
-    except Undefined as event:
-        return Answer(f"undefined {event.rule} at {event.at}", STOPPED)
-    except Broken as event:
-        return Answer(f"broken at {event.at}", STOPPED)
+        return Answer(value_line(value, output), DONE, output, program.counts)
+    except FAULTS as fault:
+        return Answer(*line_of(fault))

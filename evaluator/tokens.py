@@ -1,6 +1,6 @@
 """From bytes to tokens: the longest piece is taken at each place (C11 6.4, paragraph 4)."""
 import re
-from dataclasses import dataclass
+from typing import NamedTuple
 
 KEYWORDS = frozenset(
     "break case char const continue default do else extern for if inline int long return short signed static switch "
@@ -15,6 +15,7 @@ SIGN = re.compile(b"|".join(re.escape(it.encode()) for it in sorted(SIGNS | OUTS
 PRAGMAS = ("loopbound", "marker", "flowrestriction")
 
 BLANKS = b"\t\n\v\f\r "
+BLANK = re.compile(rb"[\t\n\v\f\r ]+")
 WORD = re.compile(rb"[A-Za-z_][A-Za-z_0-9]*")
 NUMBER = re.compile(rb"\.?[0-9](?:[eEpP][+-]|[A-Za-z_0-9.])*")
 INTEGER = re.compile(rb"(0[xX][0-9a-fA-F]+|0[0-7]*|[1-9][0-9]*)([uU]?[lL]?|[lL][uU])")
@@ -33,8 +34,7 @@ class Refused(Exception):
         self.word, self.at, self.wanted = word, at, wanted
 
 
-@dataclass(frozen=True)
-class Token:
+class Token(NamedTuple):
     """`kind` is a keyword, a sign, a pragma's first word, or one of name, number and character."""
     kind: str
     at: int
@@ -99,9 +99,10 @@ class Lexer:
         at, source = self.place, self.source
         byte = source[at:at + 1]
         if byte in BLANKS:
-            self.place += 1
-            self.fresh = self.fresh or byte == b"\n"
-        elif source.startswith((b"/*", b"//"), at):
+            blanks = BLANK.match(source, at)
+            self.place = blanks.end()
+            self.fresh = self.fresh or b"\n" in blanks.group()
+        elif byte == b"/" and source.startswith((b"/*", b"//"), at):
             self.comment()
         elif byte == b"#" and self.fresh:
             self.directive()

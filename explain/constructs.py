@@ -57,7 +57,7 @@ def number(text):
         return whole_number(*whole.groups())
     if FLOATING.fullmatch(text):
         return ("floating constant",)
-    return ("octal", text) if re.fullmatch(r"0[0-9]+[uUlL]*", text) else None
+    return ("octal", text) if re.fullmatch(r"0[0-9]+[uUlL]*", text) else ("no number", text[:40])
 
 
 def whole_number(digits, suffix):
@@ -283,8 +283,10 @@ def name(spot, wanted):
 
 def outer_name(spot):
     """A name with which an item of file level begins."""
-    if spot.kind(1) in ("name", "*") or spot.kind(1) in SPECS:
+    if spot.kind(1) in ("name", "*"):
         return type_name(spot.text())
+    if spot.kind(1) in SPECS:
+        return "unknown word", spot.text()
     if spot.kind(1) in ("=", "[", ","):
         return "implicit int", spot.text()
     closing = spot.closing(1) if spot.kind(1) == "(" else None
@@ -297,11 +299,17 @@ def param_name(spot):
     """A name where a parameter's type must stand."""
     if spot.kind(1) in ("name", "*", "[") or spot.kind(1) in SPECS:
         return type_name(spot.text())
-    closing = spot.closing(spot.opening(0))
+    opening = spot.opening(0)
+    closing = spot.closing(opening)
     if closing is None or spot.kind(1) not in (",", ")"):
         return None
     behind = spot.kind(closing + 1)
-    return ("old definition",) if behind in ("{", "name") or behind in SPECS else type_name(spot.text())
+    if behind == "{":
+        return "implicit int", spot.text()
+    if behind == ";":
+        return type_name(spot.text())
+    are_names = all(spot.kind(it) in ("name", ",") for it in range(opening + 1, closing))
+    return ("old definition",) if are_names and (behind == "name" or behind in SPECS) else None
 
 
 def behind_name(spot, wanted):

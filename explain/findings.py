@@ -256,7 +256,15 @@ def unwritten(files, _):
         yield "file", files.writes[0], "writing it failed"
 
 
+def other_main(files, _):
+    """A `main` of another type."""
+    node = next((it for it in unit(files).items if isinstance(it, tree.Function) and it.name == "main"), None)
+    if node:
+        yield "main", files.at(node.name_at)
+
+
 FINDERS = {
+    "refused type-13": other_main,
     "refused recursion": cycle, "refused bound": dropped, "refused pragma": pragma_fault, "undefined": run_to, "broken": run_to,
     "limit nodes": largest_part, "limit globals": largest_object(False), "limit locals": largest_object(True),
     "limit parameters": many_parameters, "read fault": unread, "write fault": unwritten,
