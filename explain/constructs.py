@@ -224,7 +224,7 @@ def cast_to(spot, opening):
 def brace(spot, wanted):
     before = spot.kind(-1)
     if wanted == OPERAND and before == "(":
-        return ("statement expression",)
+        return ("statement expression",) if spot.kind(-2) not in HEADS | OPERANDS else None
     if wanted == OPERAND and before in ("{", ",") and spot.in_list():
         return ("nested list",)
     if before != ")":
@@ -272,7 +272,9 @@ def closing_round(spot, wanted):
 
 
 def label_word(spot, wanted):
-    return ("nested label",) if wanted == OPERAND and spot.begins_statement(0) else None
+    if wanted != OPERAND or not spot.begins_statement(0):
+        return None
+    return ("nested label",) if spot.in_switch() else ("lone label",)
 
 
 def name(spot, wanted):
@@ -355,7 +357,7 @@ def words_of_type(spot):
     if words.count("long") > 1:
         return ("long long",)
     if words and not set(words) - QUALIFIERS:
-        return "implicit int", spot.text(behind) if spot.kind(behind) == "name" else words[-1]
+        return ("implicit int", spot.text(behind)) if spot.kind(behind) == "name" else None
     around = spot.opening(0)
     is_object = spot.kind(behind) == "name" and spot.kind(behind + 1) != "("
     in_head = around is not None and spot.kind(around) == "(" and spot.kind(around - 1) != "for"

@@ -134,6 +134,14 @@ def construct_of(table, construct):
     return [filled(it, [printable(it) for it in words]) for it in texts] + ([] if is_mistake else table["construct"])
 
 
+def included(table, place):
+    """How the file of a place comes into the source."""
+    if includers := ", and that at ".join(place.includers()):
+        yield filled(table["found included"][0], [includers])
+        if place.file.of_system:
+            yield table["found system"][0]
+
+
 def explained(table, line, words):
     """What there is to say of a line, but for `usage`."""
     call = Call(line, words)
@@ -147,8 +155,7 @@ def explained(table, line, words):
     if call.at is None:
         return [f"wcc: {headline}", *facts, *more]
     place = call.lines.place(call.at)
-    included = [filled(table["found included"][0], [", and that at ".join(place.includers())])] if any(place.includers()) else []
-    return [f"{place}: {headline}", *place.shown(), *included, *facts, *more]
+    return [f"{place}: {headline}", *place.shown(), *included(table, place), *facts, *more]
 
 
 def number_of(count):

@@ -11,7 +11,7 @@ PIECE = re.compile(
 MARKER = re.compile(rb'#[ \t]*(?:line[ \t]+)?([0-9]+)(?:[ \t]+"((?:[^"\\\n]|\\[^\n])*)"((?:[ \t]+[1-4])*))?(?![^\s/])')
 ESCAPE = re.compile(rb"\\([0-7]{1,3}|.)")
 # What a preprocessor adds to a marker: a file begins, which another one includes, and that one goes on.
-BEGINS, GOES_ON = b"1", b"2"
+BEGINS, GOES_ON, OF_SYSTEM = b"1", b"2", b"3"
 
 
 def printable(text):
@@ -26,14 +26,24 @@ def name_in_marker(name):
 
 
 class Line:
-    """A line's beginning in the source, its number and file, and the line that includes the file, or None."""
-    __slots__ = ("start", "number", "file", "includer")
+    """A line's beginning in the source, its number and its file."""
+    __slots__ = ("start", "number", "file")
 
-    def __init__(self, start, number, file, includer):
-        self.start, self.number, self.file, self.includer = start, number, file, includer
+    def __init__(self, start, number, file):
+        self.start, self.number, self.file = start, number, file
 
     def __str__(self):
         return f"{self.file}:{self.number}"
+
+
+class File:
+    """A file's name, the line that includes it, or None, and whether it is a header of the system."""
+
+    def __init__(self, name, includer=None, of_system=False):
+        self.name, self.includer, self.of_system = name, includer, of_system
+
+    def __str__(self):
+        return self.name
 
 
 class Lines:
@@ -41,7 +51,7 @@ class Lines:
 
     def __init__(self, path, source):
         self.source = source
-        self.lines = [Line(0, 1, printable(path), None)]
+        self.lines = [Line(0, 1, File(printable(path)))]
         self.read = 0
         # Whether nothing but blanks and comments stands before what is read on its line.
         self.fresh = True
@@ -58,7 +68,7 @@ class Lines:
         if b"\n" in piece:
             last = self.lines[-1]
             for number, match in enumerate(re.finditer(rb"\n", piece), last.number + 1):
-                self.lines.append(Line(self.read + match.end(), number, last.file, last.includer))
+                self.lines.append(Line(self.read + match.end(), number, last.file))
         self.fresh = piece == b"\n" or self.fresh and (piece.isspace() or piece.startswith((b"/*", b"//")))
         self.read += len(piece)
 
@@ -72,17 +82,22 @@ class Lines:
             return
         last = self.lines[-1]
         if not marker:
-            self.lines.append(Line(end + 1, last.number + 1, last.file, last.includer))
+            self.lines.append(Line(end + 1, last.number + 1, last.file))
             return
-        file = last.file if marker[2] is None else printable(name_in_marker(marker[2]))
-        includer, flags = last.includer, (marker[3] or b"").split()
+        file = last.file if marker[2] is None else self.file(printable(name_in_marker(marker[2])), (marker[3] or b"").split())
+        self.lines.append(Line(end + 1, int(marker[1][-18:]), file))
+
+    def file(self, name, flags):
+        """The file that a marker behind the last line names."""
+        last = self.lines[-1]
+        includer = last.file.includer
         if BEGINS in flags:
             includer = last
         elif GOES_ON in flags:
-            while includer is not None and includer.file != file:
-                includer = includer.includer
-            includer = includer and includer.includer
-        self.lines.append(Line(end + 1, int(marker[1][-18:]), file, includer))
+            while includer is not None and includer.file.name != name:
+                includer = includer.file.includer
+            includer = includer and includer.file.includer
+        return File(name, includer, OF_SYSTEM in flags)
 
     def line_at(self, at):
         self.read_up_to(at)
@@ -104,7 +119,7 @@ class Place:
         end = source.find(b"\n", line.start)
         text = source[line.start:len(source) if end < 0 else end].rstrip(b"\r")
         before = printable(text[:at - line.start].decode(errors="replace"))
-        self.file, self.number, self.includer, self.column = line.file, line.number, line.includer, len(before) + 1
+        self.file, self.number, self.column = line.file, line.number, len(before) + 1
         self.line = before + printable(text[at - line.start:].decode(errors="replace"))
 
     def __str__(self):
@@ -112,10 +127,10 @@ class Place:
 
     def includers(self):
         """The lines that include the file of the place, from the nearest one on: those of files, not of a command."""
-        line = self.includer
-        while line is not None and not line.file.startswith("<"):
+        line = self.file.includer
+        while line is not None and not line.file.name.startswith("<"):
             yield str(line)
-            line = line.includer
+            line = line.file.includer
 
     def shown(self):
         """The line, cut where it is long, and a caret below the place."""

@@ -87,6 +87,15 @@ class Spot:
         kinds = [it.kind for it in self.tokens[:self.index]]
         return kinds.count("{") > kinds.count("}")
 
+    def in_switch(self):
+        """Whether the place stands within the braces of a switch."""
+        opening = 0
+        while (opening := self.opening(opening)) is not None:
+            head = self.opening(opening - 1) if self.kinds(opening - 1, ")", "{") else None
+            if head is not None and self.kind(head - 1) == "switch":
+                return True
+        return False
+
     def specs(self, ahead):
         """The words of a declaration from this distance on, and the distance behind them."""
         words = []
