@@ -1,7 +1,8 @@
 """Says to people what a line of wcc means: `explain.py OUTPUT WORD..`, where the words are those that wcc was called with.
 
 Beside the text of texts.txt it shows the place in the source: the file, line and column that the line markers of a
-preprocessed source say, and the source line with a caret. What it can't find out it leaves out, and it never fails.
+preprocessed source say, and the source line with a caret; and what findings.py finds out from the files of the call. What
+can't be found out is left out, and nothing here fails the call.
 """
 import os
 import re
@@ -9,7 +10,11 @@ import stat
 import sys
 from pathlib import Path
 
-TEXTS = Path(__file__).resolve().parent / "texts.txt"
+HERE = Path(__file__).resolve().parent
+sys.path[:0] = [str(HERE), str(HERE.parent)]
+from places import Lines, printable  # noqa: E402
+
+TEXTS = HERE / "texts.txt"
 COMMANDS = ("compile", "run", "eval", "check", "report", "make")
 # Lines of these kinds end with a byte place in the source, unless they speak of another file.
 PLACED = ("refused", "undefined", "broken")
@@ -17,18 +22,14 @@ ELSEWHERE = ("image-", "report-", "table-")
 FROM_SOURCE = ("compile", "eval")
 # The options of commands, each with the greatest number that it takes, or None where it takes a file's name.
 OPTIONS = {"compile": {"--table": None}, "run": {"--limit": 1 << 62, "--table": None}, "check": {"--table": None}}
+# Which of the files that the words name by their places are read, and which are written.
+READ = {"compile": slice(1), "run": slice(2), "eval": slice(2), "check": slice(2), "report": slice(1)}
+WRITTEN = {"compile": slice(1, 3), "run": slice(2, 3), "eval": slice(2, 3), "make": slice(1, 4)}
 # The greatest number that `make` takes as its first word, from 1 on.
 MOST_MADE = 100
 MOST_SOURCE = 1048576
-WIDEST = 100
-
-# Pieces of a source in which no other one begins: a line marker begins a line, but for blanks and comments. What isn't
-# closed goes on as far as it can, so that no byte is looked at again and again.
-PIECE = re.compile(
-    rb"""/\*.*?(?:\*/|\Z)|//[^\n]*|"(?:[^"\\\n]|\\[^\n])*"?|'(?:[^'\\\n]|\\[^\n])*'?"""
-    rb"""|\n|[ \t\v\f\r]+|[^\s/"'#]+|.""", re.DOTALL)
-MARKER = re.compile(rb'#[ \t]*(?:line[ \t]+)?([0-9]+)(?:[ \t]+"((?:[^"\\\n]|\\[^\n])*)")?(?![^\s/])')
-ESCAPE = re.compile(rb"\\([0-7]{1,3}|.)")
+# Of a chain of calls so many are shown at each end.
+MOST_CALLS = 6
 
 
 def entries():
@@ -43,72 +44,12 @@ def entries():
     return table
 
 
-def printable(text):
-    return "".join(it if it.isprintable() or it == "\t" else "?" for it in text)
-
-
-def name_in_marker(name):
-    """A file's name as a line marker quotes it: a backslash and octal digits are a byte."""
-    def byte(match):
-        return bytes([int(match[1], 8) & 255]) if match[1][:1].isdigit() else match[1]
-    return ESCAPE.sub(byte, name).decode(errors="replace")
-
-
-def end_of_line(source, at):
-    end = source.find(b"\n", at)
-    return len(source) if end < 0 else end
-
-
-def line_of(source, at):
-    """The file and the number of the line that holds a place, as the line markers before it say, and where it begins."""
-    file, number, start = None, 1, 0
-    # Whether nothing but blanks and comments stands before the place on its line.
-    place, fresh = 0, True
-    while place < at:
-        if fresh and source.startswith(b"#", place):
-            end = end_of_line(source, place)
-            marker = MARKER.match(source, place, end)
-            if marker and end < at:
-                # It is the line behind the marker that has this number.
-                number = int(marker[1][-18:]) - 1
-                file = file if marker[2] is None else name_in_marker(marker[2])
-            place = min(end, at)
-            continue
-        piece = PIECE.match(source, place)[0]
-        lines = source.count(b"\n", place, min(place + len(piece), at))
-        if lines:
-            number += lines
-            start = source.rindex(b"\n", place, min(place + len(piece), at)) + 1
-        fresh = piece == b"\n" or fresh and (piece.isspace() or piece.startswith((b"/*", b"//")))
-        place += len(piece)
-    return file, number, start
-
-
-class Place:
-    """A byte place in a source, as people name it."""
-
-    def __init__(self, path, source, at):
-        if at == len(source):
-            # Behind the end: the end of the last line that has something.
-            at = len(source.rstrip())
-        file, self.number, start = line_of(source, at)
-        line = source[start:end_of_line(source, at)].rstrip(b"\r")
-        before = printable(line[:at - start].decode(errors="replace"))
-        self.column = len(before) + 1
-        self.file = printable(path if file is None else file)
-        self.line = before + printable(line[at - start:].decode(errors="replace"))
-
-    def __str__(self):
-        return f"{self.file}:{self.number}:{self.column}"
-
-    def shown(self):
-        """The line, cut where it is long, and a caret below the place."""
-        first = max(0, self.column - WIDEST // 2) if len(self.line) > WIDEST else 0
-        line, behind = self.line[first:first + WIDEST], len(self.line) > first + WIDEST
-        dots = "..." if first else ""
-        blanks = "".join("\t" if it == "\t" else " " for it in self.line[first:self.column - 1])
-        head = f"{self.number:5} | "
-        return [f"{head}{dots}{line}{'...' if behind else ''}", " " * (len(head) - 2) + "| " + " " * len(dots) + blanks + "^"]
+def quietly(work):
+    """What the work gives, or None where it fails."""
+    try:
+        return work()
+    except (Exception, SystemExit):
+        return None
 
 
 def source_of(path):
@@ -119,16 +60,47 @@ def source_of(path):
         return file.read(MOST_SOURCE + 1)
 
 
-def place_of(line, words):
-    """The source and the place in it that a line names, or None."""
-    if not words[1:] or words[0] not in FROM_SOURCE or line[0] not in PLACED or line[1].startswith(ELSEWHERE):
-        return None
-    try:
-        source = source_of(words[1])
-    except OSError:
-        return None
-    at = int(line[-1])
-    return None if source is None or at > len(source) else (source, at)
+class Call:
+    """A line of wcc and the call that it answers: the lines of the source, if there is one, and the place in it, or None."""
+
+    def __init__(self, line, words):
+        self.line, self.command = line.split(), words[0] if words else None
+        placed, named, _ = parted(OPTIONS.get(self.command, {}), words[1:])
+        self.reads = placed[READ.get(self.command, slice(0))] + named
+        self.writes = placed[WRITTEN.get(self.command, slice(0))]
+        source = quietly(lambda: source_of(placed[0])) if self.command in FROM_SOURCE else None
+        self.lines = None if source is None else Lines(placed[0], source)
+        self.at = self.place()
+
+    def place(self):
+        """The place in the source that the line names."""
+        line = self.line
+        if self.lines is None or line[0] not in PLACED or line[1].startswith(ELSEWHERE):
+            return None
+        at = int(line[-1])
+        return at if at <= len(self.lines.source) else None
+
+    def asked(self):
+        """The words by which the line is looked up: what is broken, and whether a source ends too early, among them."""
+        line = list(self.line)
+        source = b"" if self.at is None else self.lines.source
+        if line[0] == "broken":
+            is_pragma = source[self.at or 0:].startswith((b"#", b"_Pragma"))
+            line.insert(1, "restriction" if is_pragma else "loop")
+        if line[:2] == ["refused", "syntax"] and self.at is not None and self.at == len(source):
+            line.insert(2, "end")
+        return line
+
+    def found_out(self):
+        """The construct at the place, or None, and the facts that the files show; None where nothing can be found out."""
+        from evaluator import with_deep_stack
+        import findings
+        files = findings.Files(self.lines, self.reads, self.writes)
+
+        def both():
+            construct = quietly(lambda: self.at is not None and findings.construct(self.line, files, self.at))
+            return construct or None, quietly(lambda: findings.facts(self.line, files, self.at)) or []
+        return with_deep_stack(both)
 
 
 def entry_of(table, line):
@@ -140,26 +112,50 @@ def entry_of(table, line):
 
 
 def filled(text, words):
-    return re.sub(r"\{(\d)\}", lambda it: words[int(it[1]) - 1], text)
+    return re.sub(r"\{([1-9])\}", lambda it: words[int(it[1]) - 1], text)
+
+
+def chain_of(table, calls):
+    """A chain of calls, shown at both its ends where it is long."""
+    said = [filled(table["found call"][0], it) for it in calls]
+    return ", ".join(said if len(said) <= 2 * MOST_CALLS else said[:MOST_CALLS] + ["..."] + said[-MOST_CALLS:])
+
+
+def fact_of(table, fact):
+    key, *words = fact
+    return filled(table[f"found {key}"][0], [printable(it) if isinstance(it, str) else chain_of(table, it) for it in words])
+
+
+def construct_of(table, construct):
+    """The lines of a construct, and where it is one of C, the page that says what to write."""
+    key, *words = construct
+    is_mistake = f"mistake {key}" in table
+    texts = table[f"mistake {key}" if is_mistake else f"construct {key}"]
+    return [filled(it, [printable(it) for it in words]) for it in texts] + ([] if is_mistake else table["construct"])
+
+
+def included(table, place):
+    """How the file of a place comes into the source."""
+    if includers := ", and that at ".join(place.includers()):
+        yield filled(table["found included"][0], [includers])
+        if place.file.of_system:
+            yield table["found system"][0]
 
 
 def explained(table, line, words):
     """What there is to say of a line, but for `usage`."""
-    line = line.split()
-    found = place_of(line, words)
-    if line[0] == "broken":
-        is_pragma = found is not None and found[0][found[1]:].startswith((b"#", b"_Pragma"))
-        line.insert(1, "restriction" if is_pragma else "loop")
-    if line[:2] == ["refused", "syntax"] and found is not None and found[1] == len(found[0]):
-        line.insert(2, "end")
-    texts, rest = entry_of(table, line)
+    call = Call(line, words)
+    texts, rest = entry_of(table, call.asked())
     if texts is None:
         return []
-    headline, *more = [filled(it, rest) for it in texts]
-    if found is None:
-        return [f"wcc: {headline}", *more]
-    place = Place(words[1], *found)
-    return [f"{place}: {headline}", *place.shown(), *more]
+    construct, facts = quietly(call.found_out) or (None, [])
+    said = construct and quietly(lambda: construct_of(table, construct)) or [filled(it, rest) for it in texts]
+    facts = [it for it in (quietly(lambda: fact_of(table, fact)) for fact in facts) if it]
+    headline, *more = said
+    if call.at is None:
+        return [f"wcc: {headline}", *facts, *more]
+    place = call.lines.place(call.at)
+    return [f"{place}: {headline}", *place.shown(), *included(table, place), *facts, *more]
 
 
 def number_of(count):

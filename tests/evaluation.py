@@ -5,11 +5,13 @@ The output is None where no file was written. A built wcc also compiles a source
 import os
 import resource
 import subprocess
+import sys
 import tempfile
 from collections import namedtuple
 from pathlib import Path
 
-from evaluator import answer
+sys.path.insert(0, str(Path(__file__).resolve().parent.parent))
+from evaluator import answer  # noqa: E402
 
 SECONDS = 120
 # The deepest legal chain of calls must be evaluated within it.

@@ -1,6 +1,6 @@
 """From bytes to tokens: the longest piece is taken at each place (C11 6.4, paragraph 4)."""
 import re
-from dataclasses import dataclass
+from typing import NamedTuple
 
 KEYWORDS = frozenset(
     "break case char const continue default do else extern for if inline int long return short signed static switch "
@@ -11,29 +11,30 @@ OUTSIDE_WORDS = frozenset(
 SIGNS = frozenset(
     "[ ] ( ) { } ++ -- & * + - ~ ! / % << >> < > <= >= == != ^ | && || ? : ; = *= /= %= += -= <<= >>= &= ^= |= ,".split())
 OUTSIDE_SIGNS = frozenset(". -> ... # ## <: :> <% %> %: %:%:".split())
-LONGEST_FIRST = sorted(SIGNS | OUTSIDE_SIGNS, key=len, reverse=True)
+SIGN = re.compile(b"|".join(re.escape(it.encode()) for it in sorted(SIGNS | OUTSIDE_SIGNS, key=len, reverse=True)))
 PRAGMAS = ("loopbound", "marker", "flowrestriction")
 
 BLANKS = b"\t\n\v\f\r "
+BLANK = re.compile(rb"[\t\n\v\f\r ]+")
 WORD = re.compile(rb"[A-Za-z_][A-Za-z_0-9]*")
 NUMBER = re.compile(rb"\.?[0-9](?:[eEpP][+-]|[A-Za-z_0-9.])*")
 INTEGER = re.compile(rb"(0[xX][0-9a-fA-F]+|0[0-7]*|[1-9][0-9]*)([uU]?[lL]?|[lL][uU])")
 # A backslash takes the next byte with it, but no line end.
 CHARACTER = re.compile(rb"'((?:[^'\\\n]|\\[^\n])*)'")
+DIRECTIVE_PRAGMA = re.compile(rb"pragma(?![A-Za-z_0-9])")
 STRING = re.compile(rb'"((?:[^"\\\n]|\\[^\n])*)"')
 ESCAPES = {b"'": 39, b'"': 34, b"?": 63, b"\\": 92, b"a": 7, b"b": 8, b"f": 12, b"n": 10, b"r": 13, b"t": 9, b"v": 11}
 
 
 class Refused(Exception):
-    """A source that is refused: the word of the line that says so, and the place."""
+    """A source that is refused: the word of the line that says so, the place, and for `syntax` what may stand there."""
 
-    def __init__(self, word, at):
+    def __init__(self, word, at, wanted=None):
         super().__init__(word, at)
-        self.word, self.at = word, at
+        self.word, self.at, self.wanted = word, at, wanted
 
 
-@dataclass(frozen=True)
-class Token:
+class Token(NamedTuple):
     """`kind` is a keyword, a sign, a pragma's first word, or one of name, number and character."""
     kind: str
     at: int
@@ -98,9 +99,10 @@ class Lexer:
         at, source = self.place, self.source
         byte = source[at:at + 1]
         if byte in BLANKS:
-            self.place += 1
-            self.fresh = self.fresh or byte == b"\n"
-        elif source.startswith((b"/*", b"//"), at):
+            blanks = BLANK.match(source, at)
+            self.place = blanks.end()
+            self.fresh = self.fresh or b"\n" in blanks.group()
+        elif byte == b"/" and source.startswith((b"/*", b"//"), at):
             self.comment()
         elif byte == b"#" and self.fresh:
             self.directive()
@@ -120,24 +122,23 @@ class Lexer:
         at = self.place
         end = self.source.find(b"\n", at)
         end = len(self.source) if end < 0 else end
-        line = self.source[:end]
-        word = gap_end(line, at + 1)
+        word = gap_end(self.source, at + 1, end)
         self.place = end
         self.fresh = False
-        pragma = re.compile(rb"pragma(?![A-Za-z_0-9])").match(line, word)
+        pragma = DIRECTIVE_PRAGMA.match(self.source, word, end)
         if pragma:
-            text = line[pragma.end():]
+            text = self.source[pragma.end():end]
             self.keep(pragma_token(text[:-1] if text.endswith(b"\r") else text, at))
-        elif not (word == end or line[word:word + 1].isdigit() or line.startswith(b"line", word)):
+        elif not (word == end or self.source[word:word + 1].isdigit() or self.source.startswith(b"line", word, end)):
             raise Refused("outside", at)
 
     def token(self):
         at, source = self.place, self.source
-        if WORD.match(source, at):
-            return self.word(WORD.match(source, at).group())
-        if NUMBER.match(source, at):
-            self.place = NUMBER.match(source, at).end()
-            return self.keep(number_of(source[at:self.place], at))
+        if word := WORD.match(source, at):
+            return self.word(word.group())
+        if number := NUMBER.match(source, at):
+            self.place = number.end()
+            return self.keep(number_of(number.group(), at))
         if source[at:at + 1] == b"'":
             return self.character()
         if source[at:at + 1] == b'"':
@@ -183,35 +184,38 @@ class Lexer:
 
     def sign(self):
         at = self.place
-        for text in LONGEST_FIRST:
-            if self.source.startswith(text.encode(), at):
-                if text in OUTSIDE_SIGNS:
-                    raise Refused("outside", at)
-                self.place += len(text)
-                return self.keep(Token(text, at))
-        raise Refused("bad", at)
+        sign = SIGN.match(self.source, at)
+        if not sign:
+            raise Refused("bad", at)
+        text = sign.group().decode()
+        if text in OUTSIDE_SIGNS:
+            raise Refused("outside", at)
+        self.place = sign.end()
+        self.keep(Token(text, at))
 
     def keep(self, token):
         if token:
             self.tokens.append(token)
 
 
-def comment_end(source, at):
-    """Where the comment that begins there ends, or None."""
+def comment_end(source, at, before=None):
+    """Where the comment that begins there ends, or None: in the source up to `before`."""
+    before = len(source) if before is None else before
     if source.startswith(b"//", at):
-        end = source.find(b"\n", at)
-        return len(source) if end < 0 else end
-    end = source.find(b"*/", at + 2)
+        end = source.find(b"\n", at, before)
+        return before if end < 0 else end
+    end = source.find(b"*/", at + 2, before)
     return None if end < 0 else end + 2
 
 
-def gap_end(source, at):
-    """Where the blanks and whole comments that begin there end."""
-    while at < len(source):
+def gap_end(source, at, end=None):
+    """Where the blanks and whole comments that begin there end, before `end`."""
+    end = len(source) if end is None else end
+    while at < end:
         if source[at:at + 1] in BLANKS:
             at += 1
-        elif source.startswith((b"/*", b"//"), at) and comment_end(source, at) is not None:
-            at = comment_end(source, at)
+        elif source.startswith((b"/*", b"//"), at) and comment_end(source, at, end) is not None:
+            at = comment_end(source, at, end)
         else:
             break
     return at

@@ -14,6 +14,8 @@ LEVELS = {
     "*": 3, "/": 3, "%": 3, "+": 4, "-": 4, "<<": 5, ">>": 5, "<": 6, ">": 6, "<=": 6, ">=": 6, "==": 7, "!=": 7,
     "&": 8, "^": 9, "|": 10, "&&": 11, "||": 12,
 }
+# What a refusal says that it wanted, where that is no token of one kind.
+TYPE, LOOP, OPERAND = "a type", "a loop", "an operand"
 CAST_LEVEL, COND_LEVEL, ASSIGN_LEVEL, COMMA_LEVEL = 2, 13, 14, 15
 
 
@@ -46,12 +48,12 @@ class Parser:
     def at(self):
         return self.token().at if self.token() else self.end
 
-    def refuse(self):
-        raise Refused("syntax", self.at())
+    def refuse(self, wanted):
+        raise Refused("syntax", self.at(), wanted)
 
     def take(self, kind=None):
         if self.token() is None or kind not in (None, self.kind()):
-            self.refuse()
+            self.refuse(kind)
         self.next += 1
         return self.tokens[self.next - 1]
 
@@ -92,7 +94,7 @@ class Parser:
         while self.kind() in SPECS:
             words.append(self.take().kind)
         if not words:
-            self.refuse()
+            self.refuse(TYPE)
         return words
 
     def declaration(self, depth, may_define=False):
@@ -191,7 +193,7 @@ class Parser:
         if kind == "loopbound":
             bound = self.take()
             if self.kind() not in ("while", "do", "for"):
-                self.refuse()
+                self.refuse(LOOP)
             return self.loop(depth, bound)
         if kind in ("while", "do", "for"):
             return self.loop(depth, None)
@@ -357,7 +359,7 @@ class Parser:
         token = self.token()
         kind = self.kind()
         if kind not in ("number", "character", "name", "("):
-            self.refuse()
+            self.refuse(OPERAND)
         self.take()
         self.reach(depth)
         if kind == "number":

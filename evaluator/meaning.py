@@ -20,11 +20,11 @@ class Back:
 
 
 class Broken(Exception):
-    """A loop or a restriction whose annotation doesn't hold."""
+    """A restriction that doesn't hold, or a loop whose bound doesn't, and how often it started its body in the entry at hand."""
 
-    def __init__(self, at):
+    def __init__(self, at, loop=None, starts=0):
         super().__init__(at)
-        self.at = at
+        self.at, self.loop, self.starts = at, loop, starts
 
 
 def written(cells, index, at):
@@ -42,6 +42,8 @@ class Program:
         self.counts = {it.name: 0 for it in facts.functions}
         self.counts.update((it, 0) for it in facts.markers)
         self.relations = facts.relations
+        # The calls that the run is in, the outermost first.
+        self.calls = []
         self.main = checker.routines["main"]
         # The result type of the function at hand.
         self.result = None
@@ -56,9 +58,30 @@ class Program:
         self.counts["main"] += 1
         ended = self.bodies[self.main]()
         for relation in self.relations:
-            if not relation.holds(self.counts):
-                raise Broken(relation.at)
+            self.ends(relation)
         return (ended.value if ended else 0), bytes(self.output)
+
+    # What a run is asked for on its way
+
+    def enters(self, call):
+        """The run enters the function that is called."""
+        self.counts[call.name] += 1
+        self.calls.append(call)
+
+    def starts_body(self, loop, starts):
+        """The run is about to start the body of the loop, after so many starts in this entry."""
+        if starts == loop.limits[1]:
+            raise Broken(loop.at, loop, starts)
+
+    def leaves(self, loop, starts):
+        """The run leaves the loop after so many starts in this entry."""
+        if starts < loop.limits[0]:
+            raise Broken(loop.at, loop, starts)
+
+    def ends(self, relation):
+        """The run has ended, and the restriction speaks of it."""
+        if not relation.holds(self.counts):
+            raise Broken(relation.at)
 
     # Functions and blocks
 
@@ -184,29 +207,22 @@ class Program:
         return whole
 
     def loop(self, node, test, step, first_tested):
-        """A loop starts its body at most `most` times in one entry, and isn't left with fewer than `least` starts."""
         body = self.statement(node.body)
-        least, most = node.limits
-
-        def left(starts, ended):
-            if starts < least:
-                raise Broken(node.at)
-            return ended
 
         def run():
             starts = 0
             while True:
                 if (starts or first_tested) and not test():
-                    return left(starts, None)
-                if starts == most:
-                    raise Broken(node.at)
+                    break
+                self.starts_body(node, starts)
                 starts += 1
                 ended = body()
-                if ended is LEAVE:
-                    return left(starts, None)
-                if isinstance(ended, Back):
-                    return left(starts, ended)
+                if ended is LEAVE or isinstance(ended, Back):
+                    self.leaves(node, starts)
+                    return None if ended is LEAVE else ended
                 step()
+            self.leaves(node, starts)
+            return None
         return run
 
     def switch(self, node):
@@ -323,8 +339,9 @@ class Program:
             cells = [it() for it in arguments]
             for thing, its_cells in zip(things, cells):
                 thing.cells = its_cells
-            self.counts[routine.name] += 1
+            self.enters(expr)
             ended = self.bodies[routine]()
+            self.calls.pop()
             value = ended.value if ended else None
             if must_give and value is None:
                 raise Undefined(8, expr.at)

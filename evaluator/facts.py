@@ -41,8 +41,12 @@ class Relation:
     def terms(self):
         return self.left + self.right
 
+    def sides(self, counts):
+        """The values of its two sides."""
+        return [sum(number * counts[name] for number, name in side) for side in (self.left, self.right)]
+
     def holds(self, counts):
-        left, right = (sum(number * counts[name] for number, name in side) for side in (self.left, self.right))
+        left, right = self.sides(counts)
         return {"<=": left <= right, ">=": left >= right, "=": left == right}[self.operator]
 
 
@@ -91,8 +95,10 @@ def filling(node):
 
 
 class Facts:
-    def __init__(self, checker):
-        self.checker = checker
+    """What the annotations say. Where runs don't need bounds, loops may lack theirs, and nothing limits what is executed."""
+
+    def __init__(self, checker, need_bounds=True):
+        self.checker, self.need_bounds = checker, need_bounds
         self.functions = checker.definitions
         self.nodes = list(tree.nodes_of(checker.unit))
         self.markers = []
@@ -101,6 +107,8 @@ class Facts:
     def run(self):
         self.refuse_recursion()
         self.read()
+        if not self.need_bounds:
+            return self
         most = self.most(self.checker.routines["main"].node, {}, in_function=False)
         if most > MOST_EXECUTIONS:
             raise Limit("most", min(most, CUT))
@@ -134,7 +142,7 @@ class Facts:
         if isinstance(node, tree.Loop):
             node.limits = None if node.bound is None else limits_of(node)
             if node.bound is None:
-                yield node.at, "bound"
+                yield from [(node.at, "bound")] if self.need_bounds else []
             elif node.limits is None:
                 yield node.bound_at, "pragma"
         elif isinstance(node, tree.Marker):

@@ -1,0 +1,451 @@
+"""Which construct that the language lacks stands at a place where a source is refused.
+
+Each function answers the words of an entry of texts.txt and what fills it, or None where it can't be sure.
+"""
+import re
+
+from evaluator.parser import LOOP, OPERAND, SPECS, TYPE
+from evaluator.tokens import OUTSIDE_WORDS, PRAGMAS
+from names import ASSEMBLY, ATTRIBUTES, HEADERS_OF_OTHERS, HEADERS_OF_TYPES, is_compiler_word
+from spot import OUTSIDE
+
+# What stands before a bracket that is none of an expression, and what an operand ends with.
+HEADS, OPERANDS = {"if", "while", "for", "switch"}, {"name", ")", "]"}
+QUALIFIERS = {"static", "extern", "inline", "const"}
+# What may stand between `asm` and its bracket.
+OF_ASSEMBLY = {"volatile", "__volatile__", "__volatile", "goto", "inline", "__inline__"}
+KEYWORDS = {"double": "float", "_Imaginary": "_Complex", "_Alignof": "_Alignas"}
+FLOATING = re.compile(
+    r"(?:(?:[0-9]*\.[0-9]+|[0-9]+\.)(?:[eE][+-]?[0-9]+)?|[0-9]+[eE][+-]?[0-9]+|0[xX][0-9a-fA-F]*\.?[0-9a-fA-F]*[pP][+-]?[0-9]+)[fFlLiIjJ]*")
+WHOLE = re.compile(r"(0[xX][0-9a-fA-F]+|0[bB][01]+|0[0-7]*|[1-9][0-9]*)([uU]?(?:ll|LL|[lL])?|(?:ll|LL|[lL])[uU])")
+DIRECTIVE = re.compile(r"#[ \t]*(\w*)")
+DIRECTIVES = set("include include_next import define undef if ifdef ifndef elif elifdef elifndef else endif".split())
+DIGRAPHS = {"<:", ":>", "<%", "%>", "%:", "%:%:"}
+# Escapes of which a character has at most 255.
+NUMBERED = re.compile(r"'\\(?:x[0-9a-fA-F]+|[0-7]{3})'")
+
+
+# What is outside by its tokens
+
+def outside(spot):
+    text = spot.text()
+    if text.startswith("#"):
+        return directive(spot, text)
+    if text[:1].isdigit() or text[:1] == "." and text[1:2].isdigit():
+        return number(text)
+    if text.endswith(("'", '"')):
+        return quoted(spot, text)
+    if text in (".", "->"):
+        is_designator = text == "." and spot.kind(-1) in ("{", ",") and spot.kind(1) == "name" and spot.text(2) in ("=", ".", "[")
+        return ("designator",) if is_designator else ("member",)
+    if text == "...":
+        return dots(spot)
+    if text in DIGRAPHS:
+        return "digraph", text
+    return keyword(spot, text) if text in OUTSIDE_WORDS else None
+
+
+def directive(spot, text):
+    if not spot.begins_line():
+        return ("paste",)
+    word = DIRECTIVE.match(text)[1]
+    return ("directive", word) if word in DIRECTIVES else None
+
+
+def number(text):
+    if whole := WHOLE.fullmatch(text):
+        return whole_number(*whole.groups())
+    if FLOATING.fullmatch(text):
+        return ("floating constant",)
+    return ("octal", text) if re.fullmatch(r"0[0-9]+[uUlL]*", text) else ("no number", text[:40])
+
+
+def whole_number(digits, suffix):
+    base = {"0x": 16, "0b": 2}.get(digits[:2].lower(), 8 if digits[0] == "0" else 10)
+    value = int(digits, base) if len(digits) < 100 else 1 << 64
+    if value >= 1 << 32 or "ll" in suffix.lower():
+        return ("64-bit constant",)
+    return ("binary constant", hex(value)) if base == 2 else ("unsigned constant", digits)
+
+
+def quoted(spot, text):
+    if text[0] in "LuU":
+        return ("wide",)
+    if text[0] == "'":
+        if NUMBERED.fullmatch(text):
+            return ("character value",)
+        return ("characters",) if re.fullmatch(r"'(?:[^'\\\x00-\x1f\x7f-\uffff]|\\['\"?\\abfnrtv]){2,}'", text) else None
+    if spot.kind(-1) == "extern":
+        return ("extern C",)
+    called = before_bracket(spot, spot.opening(0))
+    if called in ASSEMBLY:
+        return ("asm",)
+    return ("static assertion",) if called == "static_assert" else ("string",)
+
+
+def before_bracket(spot, opening):
+    """The name before an open bracket, or before what may stand between `asm` and its bracket."""
+    if opening is None or spot.kind(opening) != "(":
+        return None
+    place = opening - 1
+    while spot.text(place) in OF_ASSEMBLY:
+        place -= 1
+    return spot.text(place) if spot.kind(place) == "name" and (place == opening - 1 or spot.text(place) in ASSEMBLY) else None
+
+
+def dots(spot):
+    opening = spot.opening(0)
+    around = None if opening is None else spot.kind(opening)
+    if around == "(" and spot.kind(-1) in (",", "(") and spot.kind(1) == ")":
+        return ("variadic",)
+    if around == "[" and spot.kind(opening - 1) in ("{", ","):
+        return ("designator",)
+    ahead = -1
+    while spot.kind(ahead) not in (None, ";", ":", "{", "}", "case"):
+        ahead -= 1
+    return ("case range",) if spot.kind(ahead) == "case" else None
+
+
+def keyword(spot, word):
+    place = -1
+    while spot.text(place) in OF_ASSEMBLY:
+        place -= 1
+    if word in OF_ASSEMBLY and spot.text(place) in ASSEMBLY:
+        return ("asm",)
+    if word == "struct" and has_bit_field(spot):
+        return ("bit-field",)
+    return (KEYWORDS.get(word, word),)
+
+
+def has_bit_field(spot):
+    """Whether a member of the structure that begins here has a width."""
+    ahead = 2 if spot.kind(1) == "name" else 1
+    if spot.kind(ahead) != "{":
+        return False
+    end = spot.closing(ahead) or ahead
+    return any(spot.kind(it) == ":" and spot.kind(it + 2) in (";", ",") for it in range(ahead, end))
+
+
+# What is outside by its grammar
+
+def syntax(spot):
+    wanted = spot.wanted()
+    if wanted is None:
+        return None
+    if wanted == LOOP:
+        return ("lone bound",)
+    if spot.kind() in PRAGMAS:
+        return ("misplaced " + spot.kind(),)
+    if wanted == "{":
+        return ("switch",)
+    return compiler_word(spot) or SIGNS.get(spot.kind(), lambda *_: None)(spot, wanted)
+
+
+def compiler_word(spot):
+    """A word of a compiler at the place, before it, or before the brackets around it or before it."""
+    heads = [0, -1]
+    opening = 0
+    while (opening := spot.opening(opening)) is not None and spot.kind(opening) == "(":
+        heads.append(opening - 1)
+    if spot.kind(-1) == ")":
+        heads.append(spot.opening(-1) - 1)
+    for name in [spot.text(it) for it in heads if spot.kind(it) == "name"]:
+        if name in ATTRIBUTES:
+            return ("attribute",)
+        if name in ASSEMBLY:
+            return ("asm",)
+        if is_compiler_word(name) and not name.startswith("__builtin_") or name == "typeof":
+            return "compiler word", name
+    return None
+
+
+def star(spot, wanted):
+    if spot.kinds(-1, "[", "*", "]"):
+        return ("size in brackets",)
+    return ("pointer",) if wanted in (OPERAND, "name") or spot.kind(-1) in SPECS else None
+
+
+def ampersand(spot, wanted):
+    return ("address",) if wanted == OPERAND else None
+
+
+def two_ampersands(spot, wanted):
+    return ("goto",) if wanted == OPERAND and spot.kind(1) == "name" and spot.kind(-1) in ("=", "(", ",", "{") else None
+
+
+def square(spot, wanted):
+    before = spot.kind(-1)
+    if wanted in (OPERAND, TYPE) and spot.kind(1) == "[":
+        return ("attribute",)
+    if wanted == OPERAND:
+        return ("designator",) if before in ("{", ",") and spot.in_list() else None
+    if before == "]":
+        return ("matrix",)
+    if before in SPECS:
+        closing = spot.closing(0)
+        return ("compound literal",) if closing is not None and spot.kinds(closing + 1, ")", "{") else None
+    return ("indexed expression",) if before == ")" and not spot.is_declarator(-1) else None
+
+
+def round_bracket(spot, wanted):
+    before = spot.kind(-1)
+    if before in SPECS:
+        return bracketed_declarator(spot)
+    if before == "name" and wanted == ")":
+        return ("function pointer",)
+    if before == "name" and wanted == ";" and spot.kind(-2) == ",":
+        return ("several functions",)
+    if before == "]":
+        return ("function pointer",)
+    if before != ")" or wanted == OPERAND or spot.is_declarator(-1):
+        return None
+    opening = spot.opening(-1)
+    if spot.kind(opening - 1) in HEADS:
+        return None
+    is_cast = opening == -3 and spot.kind(-2) == "name" and spot.kind(opening - 1) not in OPERANDS
+    return cast_to(spot, opening) if is_cast else ("called expression",)
+
+
+def bracketed_declarator(spot):
+    closing = spot.closing(0)
+    if spot.kind(1) == "*" and closing is not None:
+        return ("function pointer",) if spot.kind(closing + 1) == "(" else ("pointer",)
+    return ("bracketed declarator",) if spot.kinds(1, "name", ")") else None
+
+
+def cast_to(spot, opening):
+    """`(name)` before an operand, which only a cast would be, or before a bracket, which a call could be too."""
+    name = spot.text(opening + 1)
+    if name in HEADERS_OF_TYPES:
+        return "header type", name, HEADERS_OF_TYPES[name]
+    return ("called expression",) if spot.kind() == "(" else ("type name", name)
+
+
+def brace(spot, wanted):
+    before = spot.kind(-1)
+    if wanted == OPERAND and before == "(":
+        return ("statement expression",) if spot.kind(-2) not in HEADS | OPERANDS else None
+    if wanted == OPERAND and before in ("{", ",") and spot.in_list():
+        return ("nested list",)
+    if before != ")":
+        return None
+    if wanted == OPERAND and spot.kind(spot.opening(-1) + 1) in SPECS:
+        return ("compound literal",)
+    return ("nested function",) if wanted == ";" and spot.in_block() and spot.is_declarator(-1) else None
+
+
+def closing_brace(spot, wanted):
+    return ("empty list",) if wanted == OPERAND and spot.kinds(-2, "=", "{") else None
+
+
+def colon(spot, wanted):
+    if spot.kind(-1) == "?":
+        return ("omitted operand",)
+    is_label = wanted == ";" and spot.kind(-1) == "name" and spot.begins_statement(-1)
+    return ("label",) if is_label and spot.kind(1) != ":" else None
+
+
+def semicolon(spot, wanted):
+    return ("lone semicolon",) if wanted == TYPE and spot.opening(0) is None else None
+
+
+def comma(spot, wanted):
+    return ("several functions",) if wanted == ";" and spot.kind(-1) == ")" and spot.is_declarator(-1) else None
+
+
+def equals(spot, wanted):
+    """`T *p = e`, where `T` is no type: read as a product, to which nothing is assigned."""
+    is_pointer = spot.kinds(-3, "name", "*", "name") and spot.begins_statement(-3)
+    return type_name(spot.text(-3)) if wanted == ";" and is_pointer else None
+
+
+def specs_word(spot, wanted):
+    """`a[static 3]`, and `T *const p` where `T` is no type."""
+    if wanted == OPERAND and spot.kind(-1) == "[":
+        return ("size in brackets",)
+    return type_name(spot.text(-2)) if spot.kinds(-2, "name", "*") and spot.begins_statement(-2) else None
+
+
+def closing_round(spot, wanted):
+    """`(T *)e`, where `T` is no type."""
+    return type_name(spot.text(-2)) if spot.kinds(-3, "(", "name", "*") and spot.kind(1) in ("name", "(", "&", "number") else None
+
+
+def label_word(spot, wanted):
+    if wanted != OPERAND or not spot.begins_statement(0):
+        return None
+    return ("nested label",) if spot.in_switch() else ("lone label",)
+
+
+def name(spot, wanted):
+    if wanted == TYPE:
+        return param_name(spot) if spot.opening(0) is not None else outer_name(spot)
+    return behind_name(spot, wanted)
+
+
+def outer_name(spot):
+    """A name with which an item of file level begins."""
+    if spot.kind(1) in ("name", "*"):
+        return type_name(spot.text())
+    if spot.kind(1) in SPECS:
+        return "unknown word", spot.text()
+    if spot.kind(1) in ("=", "[", ","):
+        return "implicit int", spot.text()
+    closing = spot.closing(1) if spot.kind(1) == "(" else None
+    if closing is None or not (spot.kind(closing + 1) == "{" or spot.kind(closing + 1) in SPECS):
+        return None
+    return "implicit int", spot.text()
+
+
+def param_name(spot):
+    """A name where a parameter's type must stand."""
+    if spot.kind(1) in ("name", "*", "[") or spot.kind(1) in SPECS:
+        return type_name(spot.text())
+    opening = spot.opening(0)
+    closing = spot.closing(opening)
+    if closing is None or spot.kind(1) not in (",", ")"):
+        return None
+    behind = spot.kind(closing + 1)
+    if behind == "{":
+        return "implicit int", spot.text()
+    if behind == ";":
+        return type_name(spot.text())
+    are_names = all(spot.kind(it) in ("name", ",") for it in range(opening + 1, closing))
+    return ("old definition",) if are_names and (behind == "name" or behind in SPECS) else None
+
+
+def behind_name(spot, wanted):
+    """A name behind another one, which only a type's name could be; or behind a name in brackets, as behind a cast."""
+    if spot.kind(-1) == "name" and spot.on_one_line(-1, 0):
+        if spot.begins_statement(-1) or spot.kind(-2) in QUALIFIERS and only_qualifiers(spot):
+            return type_name(spot.text(-1))
+    return operand_behind(spot, wanted)
+
+
+def operand_behind(spot, wanted):
+    is_cast = wanted != OPERAND and spot.kinds(-3, "(", "name", ")") and spot.kind(-4) not in HEADS | OPERANDS
+    return cast_to(spot, -3) if is_cast else None
+
+
+def only_qualifiers(spot):
+    """Whether the words before the name before the place name no type."""
+    ahead = -2
+    while spot.kind(ahead) in QUALIFIERS:
+        ahead -= 1
+    return spot.kind(ahead) not in SPECS
+
+
+def type_name(text):
+    return ("header type", text, HEADERS_OF_TYPES[text]) if text in HEADERS_OF_TYPES else ("type name", text)
+
+
+SIGNS = {"*": star, "&": ampersand, "&&": two_ampersands, "[": square, "(": round_bracket, "{": brace, "}": closing_brace, ")": closing_round,
+         ":": colon, ";": semicolon, ",": comma, "=": equals, "name": name, "case": label_word, "default": label_word,
+         "number": operand_behind, "character": operand_behind, **dict.fromkeys(SPECS, specs_word)}
+
+
+# What is outside by its types and names
+
+def typed(spot, rule):
+    return RULES.get(rule, lambda _: None)(spot)
+
+
+def words_of_type(spot):
+    """Rule 1: words that spell no type, or stand where they may not."""
+    is_cast = spot.kind() == "("
+    words, behind = spot.specs(1 if is_cast else 0)
+    if words.count("long") > 1:
+        return ("long long",)
+    if words and not set(words) - QUALIFIERS:
+        return ("implicit int", spot.text(behind)) if spot.kind(behind) == "name" else None
+    around = spot.opening(0)
+    is_object = spot.kind(behind) == "name" and spot.kind(behind + 1) != "("
+    in_head = around is not None and spot.kind(around) == "(" and spot.kind(around - 1) != "for"
+    if is_cast or not is_object or in_head or len(words) > len(set(words)):
+        return None
+    if "static" in words and around is not None:
+        return ("static local",)
+    return ("extern object",) if "extern" in words else None
+
+
+def undeclared(spot):
+    """Rule 2: a name that isn't declared."""
+    text = spot.text()
+    if spot.kind() != "name":
+        return None
+    if text in ATTRIBUTES or text in ASSEMBLY:
+        return ("attribute",) if text in ATTRIBUTES else ("asm",)
+    if is_compiler_word(text):
+        return "compiler word", text
+    if text in HEADERS_OF_TYPES:
+        return type_name(text)
+    if text in HEADERS_OF_OTHERS:
+        return "header name", text, HEADERS_OF_OTHERS[text]
+    is_pointer = spot.kinds(0, "name", "*", "name") and spot.kind(3) in (";", ",") and spot.begins_statement(0)
+    return type_name(text) if is_pointer else None
+
+
+def not_constant(spot):
+    """Rule 4: a name stands in what must be constant: in an array's size, in a label, or in a value at file level."""
+    if spot.kind() == "case":
+        ahead = 1
+        while spot.kind(ahead) not in (None, ":", ";", "name"):
+            ahead += 1
+        return ("constant name", spot.text(ahead)) if spot.kind(ahead) == "name" else None
+    ahead = 0 if spot.kind() == "name" else spot.specs(0)[1]
+    is_local = spot.in_block() or spot.kind() != "name"
+    behind = ahead + 1
+    if spot.kind(behind) == "[":
+        behind = (spot.closing(behind) or behind) + 1
+    if not is_local:
+        while spot.kind(behind) not in (None, ",", ";"):
+            behind = (spot.closing(behind) or behind) + 1 if spot.kind(behind) in ("{", "(") else behind + 1
+    names = [it for it in range(ahead + 1, behind) if spot.kind(it) == "name"]
+    if not names:
+        return None
+    return ("variable array",) if is_local else ("constant name", spot.text(names[0]))
+
+
+def array_value(spot):
+    """Rule 6 at an array's name, and not at an index of what is no array."""
+    return ("array value",) if spot.kind() == "name" and spot.kind(1) != "[" else None
+
+
+def function_value(spot):
+    """Rule 7 at a function's name that isn't called."""
+    return ("function pointer",) if spot.kind() == "name" and spot.kind(1) != "(" else None
+
+
+RULES = {1: words_of_type, 2: undeclared, 4: not_constant, 6: array_value, 7: function_value}
+
+
+# What no token begins with
+
+def bad(source, at):
+    """A byte or a piece with which no token begins."""
+    rest = source[at:at + 200]
+    if rest.startswith(b"\xef\xbb\xbf") and not at:
+        return ("byte order mark",)
+    if rest.startswith(b"/*"):
+        return ("open comment",)
+    if rest.startswith((b'"', b"'")):
+        return ("empty character",) if rest.startswith(b"''") else ("open quote",)
+    if re.match(rb"\\[ \t\r]*\n", rest):
+        return ("joined line",)
+    if rest.startswith(b"_Pragma"):
+        return ("pragma operator",)
+    return ("other letter",) if rest[:1] >= b"\x80" else ("dollar",) if rest.startswith(b"$") else None
+
+
+def found(line, source, at, spot):
+    """The construct that a line of refusal speaks of, or None. `spot` makes the tokens around the place."""
+    if line[1] == "bad":
+        return bad(source, at)
+    here = spot(source, at)
+    if not here.found:
+        return None
+    if line[1] == "outside":
+        return outside(here)
+    if line[1] == "syntax":
+        return syntax(here)
+    return typed(here, int(line[1][5:])) if line[1].startswith("type-") else None

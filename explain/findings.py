@@ -1,0 +1,271 @@
+"""What the files of a call show beside its line: the construct that is refused, and facts that the line doesn't say.
+
+A fact is the words of an entry of texts.txt and what fills it. All is worked out by the second evaluator from the same files,
+and what it can't be sure of is left out.
+"""
+import os
+import re
+import stat
+import time
+
+import constructs
+from evaluator import tree
+from evaluator.answer import program_of
+from evaluator.kinds import Undefined
+from evaluator.meaning import Broken, Program
+from evaluator.parser import unit_of
+from evaluator.rules import MOST, Checker, check, count_params
+from evaluator.tokens import comment_end, tokens_of
+from spot import Spot
+
+# A run is followed for so long.
+SECONDS = 1.0
+BOUND, SIMILAR = "loopbound", 2
+DROPPED = re.compile(rb'(?:#[ \t]*pragma|_Pragma[ \t]*\([ \t]*")[ \t]*([^ \t"\n\r]+)[ \t]*([^ \t"\n\r]*)')
+NUMBERS = re.compile(rb"(?:min|max)[ \t]+([A-Za-z_][A-Za-z_0-9]*)")
+
+
+class Files:
+    """The files of a call: the source with its lines, and the names of those that it reads and writes."""
+
+    def __init__(self, lines, reads, writes):
+        self.lines, self.reads, self.writes = lines, reads, writes
+        self.source = lines and lines.source
+
+    def at(self, place):
+        return str(self.lines.place(place))
+
+
+def construct(line, files, at):
+    """The entry of what is refused at a place, or None."""
+    return constructs.found(line, files.source, at, Spot)
+
+
+def facts(line, files, at):
+    finder = FINDERS.get(" ".join(line[:2])) or FINDERS.get(line[0])
+    return list(finder(files, at)) if finder else []
+
+
+# Calls
+
+def calls_below(function):
+    return [it for it in tree.nodes_of(function) if isinstance(it, tree.Call) and it.refers.node is not None]
+
+
+def chain(files, steps):
+    """A fact for a chain of calls: each the name of who calls, and the call."""
+    parts = [(caller, call.name, files.at(call.at)) for caller, call in steps]
+    return [("chain", parts)] if parts else []
+
+
+def cycle(files, at):
+    """How the function that is named at the place calls itself, by as few calls as can be."""
+    checker = check(unit_of(tokens_of(files.source), len(files.source)))
+    start = next(it for it in checker.definitions if it.node.name_at == at)
+    ways, seen = [(start, [])], set()
+    for routine, way in ways:
+        for call in calls_below(routine.node):
+            steps = way + [(routine.name, call)]
+            if call.refers is start:
+                return chain(files, steps)
+            if call.refers not in seen:
+                seen.add(call.refers)
+                ways.append((call.refers, steps))
+    return []
+
+
+class Late(Exception):
+    """The run takes too long to be followed."""
+
+
+class Followed(Program):
+    """A run that notes the calls that it is in, for some time."""
+
+    def __init__(self, checker, facts, data):
+        self.ends_at = time.monotonic() + SECONDS
+        super().__init__(checker, facts, data)
+
+    def starts_body(self, loop, starts):
+        self.in_time()
+        super().starts_body(loop, starts)
+
+    def enters(self, call):
+        self.in_time()
+        super().enters(call)
+
+    def in_time(self):
+        if time.monotonic() > self.ends_at:
+            raise Late
+
+
+def run_to(files, at):
+    """How the run comes to the place where it ends: the calls that it is in."""
+    with open(files.reads[1], "rb") as file:
+        data = file.read()
+    run = program_of(files.source, data, Followed)
+    try:
+        run.run()
+    except (Undefined, Broken) as event:
+        if event.at == at:
+            callers = ["main", *(it.name for it in run.calls)]
+            yield from chain(files, list(zip(callers, run.calls)))
+            yield from how_broken(event)
+    except Late:
+        return
+
+
+def how_broken(event):
+    """How often a loop started that doesn't keep its bound: as often as it may and once more, or too seldom."""
+    loop = getattr(event, "loop", None)
+    if loop is not None:
+        yield "starts" if event.starts == loop.limits[1] else "too few", str(event.starts)
+
+
+# Limits
+
+def named(node):
+    """The name and the place of a part of file level."""
+    if isinstance(node, tree.Function):
+        return node.name, node.name_at
+    if isinstance(node, tree.Declaration):
+        return node.objects[0].name, node.objects[0].at
+    return getattr(node, "name", "flowrestriction"), node.at
+
+
+def unit(files):
+    return unit_of(tokens_of(files.source), len(files.source))
+
+
+def largest_part(files, _):
+    sizes = [(sum(1 for _ in tree.nodes_of(it)), it) for it in unit(files).items]
+    size, item = max(sizes, key=lambda it: it[0])
+    name, at = named(item)
+    yield "largest", name, files.at(at), str(size)
+
+
+def largest_object(in_function):
+    def find(files, _):
+        """The object of the most bytes, at file level or within functions."""
+        checker = Checker(unit(files))
+        checker.run()
+        nodes = [node for item in checker.unit.items if isinstance(item, tree.Function) == in_function
+                 for node in tree.nodes_of(item) if isinstance(node, tree.Object)]
+        node = max(nodes, key=lambda it: it.declared.bytes())
+        yield "largest object", node.name, files.at(node.at), str(node.declared.bytes())
+    return find
+
+
+def many_parameters(files, _):
+    node = next(it for it in tree.nodes_of(unit(files))
+                if isinstance(it, (tree.Function, tree.Prototype)) and count_params(it) > MOST["parameters"])
+    yield "function", node.name, files.at(node.at)
+
+
+# Pragmas
+
+def differences(one, other):
+    """How many letters are put in, left out or changed to make one word of another."""
+    row = list(range(len(other) + 1))
+    for number, letter in enumerate(one, 1):
+        before, row[0] = row[0], number
+        for place, it in enumerate(other, 1):
+            before, row[place] = row[place], min(row[place] + 1, row[place - 1] + 1, before + (letter != it))
+    return row[-1]
+
+
+def is_misspelt(first, second):
+    """Whether the words of a dropped pragma are those of a bound in another spelling."""
+    plain = [it.lower().replace("_", "").replace("-", "").rstrip(":,;") for it in (first, first + second)]
+    return any(len(it) < 20 and differences(it, BOUND) <= SIMILAR for it in plain)
+
+
+def dropped(files, at):
+    """A pragma right before the loop that was meant as its bound, and is none."""
+    spot = Spot(files.source, at)
+    if not spot.found:
+        return
+    place = spot.token(-1).at if spot.token(-1) else 0
+    for match in list(pragmas(files.source, place, at)):
+        first, second = (it.decode(errors="replace") for it in match.groups())
+        if first != BOUND and is_misspelt(first, second):
+            yield "misspelt", first if differences(first.lower(), BOUND) <= SIMILAR + 1 else f"{first} {second}", files.at(match.start())
+
+
+def pragmas(source, place, end):
+    """The pragmas between two places, outside of comments."""
+    while place < end:
+        if source.startswith((b"/*", b"//"), place):
+            place = comment_end(source, place) or end
+            continue
+        match = DROPPED.match(source, place, end)
+        if match:
+            yield match
+        place = match.end() if match else place + 1
+
+
+def pragma_fault(files, at):
+    """What is wrong with a pragma, where it is a bound."""
+    end = files.source.find(b"\n", at)
+    text = files.source[at:len(files.source) if end < 0 else end]
+    match = re.match(rb'(?:#[ \t]*pragma|_Pragma[ \t]*\([ \t]*")[ \t]*loopbound[ \t]+min[ \t]+(\w+)[ \t]+max[ \t]+(\w+)[ \t\r]*(?:$|")', text)
+    if not match:
+        return
+    least, most = match.groups()
+    word = next((it.decode() for it in (least, most) if not it.isdigit()), None)
+    if word and re.fullmatch(r"[A-Za-z_]\w*", word):
+        yield "macro", word
+    elif least.isdigit() and most.isdigit() and int(least[-99:]) > int(most[-99:]):
+        yield "above", least.decode(), most.decode()
+
+
+# Faults of files
+
+def unread(files, _):
+    """The first file that can't be read now."""
+    for name in files.reads:
+        try:
+            if stat.S_ISREG(os.stat(name).st_mode) or os.path.isdir(name):
+                with open(name, "rb") as file:
+                    file.read(1)
+        except OSError as error:
+            yield "file", name, error.strerror
+            return
+
+
+def why_unwritten(name):
+    """Why a file can't be written, as far as that is seen without writing; or None."""
+    folder = os.path.dirname(name) or "."
+    if not name:
+        return "the name is empty"
+    if os.path.isdir(name):
+        return os.strerror(21)
+    if not os.path.isdir(folder):
+        return os.strerror(20 if os.path.exists(folder) else 2)
+    if not os.access(name if os.path.exists(name) else folder, os.W_OK):
+        return os.strerror(13)
+    return None
+
+
+def unwritten(files, _):
+    """The first file that can't be written, or the only one that is written."""
+    for name in files.writes:
+        if reason := why_unwritten(name):
+            yield "file", name, reason
+            return
+    if len(files.writes) == 1:
+        yield "file", files.writes[0], "writing it failed"
+
+
+def other_main(files, _):
+    """A `main` of another type."""
+    node = next((it for it in unit(files).items if isinstance(it, tree.Function) and it.name == "main"), None)
+    if node:
+        yield "main", files.at(node.name_at)
+
+
+FINDERS = {
+    "refused type-13": other_main,
+    "refused recursion": cycle, "refused bound": dropped, "refused pragma": pragma_fault, "undefined": run_to, "broken": run_to,
+    "limit nodes": largest_part, "limit globals": largest_object(False), "limit locals": largest_object(True),
+    "limit parameters": many_parameters, "read fault": unread, "write fault": unwritten,
+}
