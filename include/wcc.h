@@ -1,8 +1,8 @@
 /*
  * The annotations of the language as macros. Here macros are replaced within them, as they aren't in #pragma, and
- * `./wcc prepare` computes what is a constant expression of the preprocessor's kind: whole numbers, their operators,
- * `? :` and brackets. It has no sizeof, casts, names of objects and character constants other than plain ones.
- * Whoever preprocesses in another way has to end with decimal numbers.
+ * `./wcc prepare` computes what is a constant expression of the preprocessor's kind: whole numbers and characters, their
+ * operators, `? :` and brackets, without sizeof, casts and names of objects. Whoever preprocesses in another way has to
+ * end with decimal numbers.
  *
  *     LOOPBOUND(0, SAMPLES * 2)
  *     for (i = 0; i < n; i++) { .. }

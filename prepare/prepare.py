@@ -26,9 +26,10 @@ ESCAPE = re.compile(rb"\\([0-7]{1,3}|.)")
 ANNOTATION = re.compile(rb"[ \t]*#[ \t]*pragma[ \t]+(loopbound|flowrestriction)\b(.*)")
 BOUND = re.compile(rb"\s*min\s+(\S.*?)\s+max\s+(\S.*?)\s*")
 # A number and what it counts, and what stands behind: names stand there alone.
-TERM = re.compile(rb"\s*((?:\d\w*|[^\w])+?)\s*\*\s*([A-Za-z_]\w*)\s*(<=|>=|=|\+|$)")
+TERM = re.compile(rb"\s*((?:(?<!\w)\d\w*(?!\w)|[^\w])+?)\s*\*\s*([A-Za-z_]\w*)\s*(<=|>=|=|\+|$)")
 PLAIN = re.compile(rb"0|[1-9][0-9]*")
 NAME = re.compile(rb"(?<![\w.])[A-Za-z_]\w*")
+CHARACTER = re.compile(rb"'(?:[^'\\]|\\.)*'")
 BITS = 31
 
 # What stands in many programs and isn't in the language, by the part of docs/PORTING.md that says what to write instead.
@@ -162,7 +163,7 @@ class Annotations:
         """The text where it is a number, and else its place among what is asked."""
         if PLAIN.fullmatch(text):
             return text
-        if name := NAME.search(text):
+        if name := NAME.search(CHARACTER.sub(b"0", text)):
             raise Failed(REFUSED, f"{shown(*place)}: `{name[0].decode()}` is no number. In #pragma no macro is replaced: "
                                   "write LOOPBOUND or RESTRICTION of <wcc.h>, which docs/PORTING.md explains")
         self.asked.append((text, place))
