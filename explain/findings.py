@@ -11,9 +11,10 @@ import time
 import constructs
 from evaluator import tree
 from evaluator.answer import program_of
+from evaluator.facts import marker_name, relation_of
 from evaluator.kinds import Undefined
 from evaluator.meaning import Broken, Program
-from evaluator.parser import unit_of
+from evaluator.parser import Parser, TooDeep, unit_of
 from evaluator.rules import MOST, Checker, check, count_params
 from evaluator.tokens import comment_end, tokens_of
 from spot import Spot
@@ -22,7 +23,8 @@ from spot import Spot
 SECONDS = 1.0
 BOUND, SIMILAR = "loopbound", 2
 DROPPED = re.compile(rb'(?:#[ \t]*pragma|_Pragma[ \t]*\([ \t]*")[ \t]*([^ \t"\n\r]+)[ \t]*([^ \t"\n\r]*)')
-NUMBERS = re.compile(rb"(?:min|max)[ \t]+([A-Za-z_][A-Za-z_0-9]*)")
+NUMBERS = re.compile(rb"[ \t]*loopbound[ \t]+min[ \t]+(\w+)[ \t]+max[ \t]+(\w+)[ \t]*")
+PRAGMAS = (tree.Loop, tree.Marker, tree.Restriction)
 
 
 class Files:
@@ -155,6 +157,14 @@ def largest_object(in_function):
     return find
 
 
+def too_deep(files, _):
+    parser = Parser(tokens_of(files.source), len(files.source))
+    try:
+        parser.unit()
+    except TooDeep:
+        yield "deep", files.at(parser.tokens[parser.next - 1].at)
+
+
 def many_parameters(files, _):
     node = next(it for it in tree.nodes_of(unit(files))
                 if isinstance(it, (tree.Function, tree.Prototype)) and count_params(it) > MOST["parameters"])
@@ -204,18 +214,44 @@ def pragmas(source, place, end):
 
 
 def pragma_fault(files, at):
-    """What is wrong with a pragma, where it is a bound."""
-    end = files.source.find(b"\n", at)
-    text = files.source[at:len(files.source) if end < 0 else end]
-    match = re.match(rb'(?:#[ \t]*pragma|_Pragma[ \t]*\([ \t]*")[ \t]*loopbound[ \t]+min[ \t]+(\w+)[ \t]+max[ \t]+(\w+)[ \t\r]*(?:$|")', text)
+    """What is wrong with a pragma: the numbers of a bound, or the name of a marker."""
+    node = next(it for it in tree.nodes_of(unit(files)) if at == getattr(it, "bound_at", it.at) and isinstance(it, PRAGMAS))
+    return marker_fault(files, node) if isinstance(node, tree.Marker) else bound_fault(node) if isinstance(node, tree.Loop) else []
+
+
+def bound_fault(loop):
+    match = NUMBERS.fullmatch(loop.bound)
     if not match:
         return
-    least, most = match.groups()
-    word = next((it.decode() for it in (least, most) if not it.isdigit()), None)
-    if word and re.fullmatch(r"[A-Za-z_]\w*", word):
+    least, most = (it.decode() for it in match.groups())
+    word = next((it for it in (least, most) if not it.isdigit()), None)
+    if word is None and int(least[-99:]) > int(most[-99:]):
+        yield "above", least, most
+    elif word and word.isidentifier():
         yield "macro", word
-    elif least.isdigit() and most.isdigit() and int(least[-99:]) > int(most[-99:]):
-        yield "above", least.decode(), most.decode()
+
+
+def marker_fault(files, marker):
+    """Another marker, or a function, of the same name."""
+    name = marker_name(marker)
+    for node in tree.nodes_of(unit(files)) if name else []:
+        is_marker = isinstance(node, tree.Marker) and marker_name(node) == name and node.at != marker.at
+        is_function = isinstance(node, (tree.Function, tree.Prototype)) and node.name == name
+        if is_marker or is_function:
+            yield "same name", name, files.at(node.at)
+            return
+
+
+def unknown_name(files, at):
+    """What a restriction names and nothing is."""
+    nodes = list(tree.nodes_of(unit(files)))
+    known = {it.name for it in nodes if isinstance(it, tree.Function)} | {marker_name(it) for it in nodes if isinstance(it, tree.Marker)}
+    relation = next(relation_of(it) for it in nodes if isinstance(it, tree.Restriction) and it.at == at)
+    yield "unknown", next(name for _, name in relation.terms() if name not in known)
+
+
+def first_restriction(files, _):
+    yield "restriction", files.at(next(it.at for it in tree.nodes_of(unit(files)) if isinstance(it, tree.Restriction)))
 
 
 # Faults of files
@@ -266,6 +302,6 @@ def other_main(files, _):
 FINDERS = {
     "refused type-13": other_main,
     "refused recursion": cycle, "refused bound": dropped, "refused pragma": pragma_fault, "undefined": run_to, "broken": run_to,
-    "limit nodes": largest_part, "limit globals": largest_object(False), "limit locals": largest_object(True),
+    "refused name": unknown_name, "form": first_restriction, "limit depth": too_deep, "limit nodes": largest_part, "limit globals": largest_object(False), "limit locals": largest_object(True),
     "limit parameters": many_parameters, "read fault": unread, "write fault": unwritten,
 }
