@@ -31,6 +31,7 @@ PLAIN = re.compile(rb"0|[1-9][0-9]*")
 NAME = re.compile(rb"(?<![\w.])[A-Za-z_]\w*")
 CHARACTER = re.compile(rb"'(?:[^'\\]|\\.)*'")
 BITS = 31
+RANGE = b"an annotation takes numbers from 0 to 2147483647"
 
 # What stands in many programs and isn't in the language, by the part of docs/PORTING.md that says what to write instead.
 OUTSIDE = {
@@ -74,18 +75,23 @@ class Preprocessor:
 
     def values(self, asked):
         """The values of constant expressions, each given with its file and line: the bits that #if sees."""
-        lines = []
+        tests, bits = [], []
         for text, (file, number) in asked:
             at = b'# %d "%s"' % (number, file)
-            lines += [at, b"#if (%s) < 0 || (%s) >> %d" % (text, text, BITS), at,
-                      b"#error an annotation takes numbers from 0 to 2147483647", b"#endif", b"value"]
+            tests += [at, b"#if (%s) < 0 || (%s) >> %d" % (text, text, BITS), at, b"#error " + RANGE, b"#endif"]
+            bits += [b"value"]
             for bit in reversed(range(BITS)):
-                lines += [at, b"#if (%s) >> %d & 1" % (text, bit), b"1", b"#else", b"0", b"#endif"]
+                bits += [b"#if (%s) >> %d & 1" % (text, bit), b"1", b"#else", b"0", b"#endif"]
+        # What is wrong with one is told once, before its bits are asked for.
+        self.evaluated(tests)
+        return [b"%d" % int(it, 2) for it in b"".join(self.evaluated(bits).split()).split(b"value")[1:]]
+
+    def evaluated(self, lines):
+        """What it makes of lines of its own."""
         ran = subprocess.run([*self.words, "-P", "-"], input=b"\n".join(lines) + b"\n", stdout=PIPE)
         if ran.returncode:
             raise Failed(REFUSED, "an annotation isn't one of constants, as said above")
-        found = b"".join(ran.stdout.split()).split(b"value")[1:]
-        return [b"%d" % int(it, 2) for it in found]
+        return ran.stdout
 
 
 def headers():
@@ -223,7 +229,7 @@ def prepare(asked):
     made, is_whole = preprocessor.run(asked.file)
     tell_outside(made)
     if not is_whole:
-        raise Failed(REFUSED, f"{asked.file} isn't prepared, for what {preprocessor.words[0]} says above. Of the C library there are "
+        raise Failed(REFUSED, f"{asked.file} isn't prepared, for what {preprocessor.words[0]} says above. The headers are "
                               f"{headers()}; docs/PORTING.md says what to write in place of others")
     text = Annotations(made)
     refuse_aliases(asked.source, text.files())
