@@ -78,7 +78,8 @@ class Preprocessor:
         tests, bits = [], []
         for text, (file, number) in asked:
             at = b'# %d "%s"' % (number, file)
-            tests += [at, b"#if (%s) < 0 || (%s) >> %d" % (text, text, BITS), at, b"#error " + RANGE, b"#endif"]
+            # What is negative keeps its sign.
+            tests += [at, b"#if (%s) >> %d" % (text, BITS), at, b"#error " + RANGE, b"#endif"]
             bits += [b"value"]
             for bit in reversed(range(BITS)):
                 bits += [b"#if (%s) >> %d & 1" % (text, bit), b"1", b"#else", b"0", b"#endif"]
