@@ -6,7 +6,7 @@
 #define ptrdiff_t int
 #define wchar_t int
 
-#define NULL _Pragma("GCC error \"there are no pointers, and so no NULL: docs/PORTING.md says what to write\"") NULL
-#define offsetof(type, member) _Pragma("GCC error \"there are no structs: docs/PORTING.md says what to write\"") 0
+#define NULL _Pragma("GCC error \"NULL is a pointer, and there are none: docs/PORTING.md says what to write\"") NULL
+#define offsetof(type, member) _Pragma("GCC error \"offsetof takes a struct, and there are none: docs/PORTING.md says what to write\"") 0
 
 #endif

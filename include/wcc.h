@@ -9,8 +9,8 @@
  *
  *     RESTRICTION(1*taken <= (TASKS + 1)*main)
  *
- * Another compiler passes over all of them, but for a warning of unknown pragmas. A marker is a statement, and none to
- * another compiler: put it between braces with what it counts.
+ * No semicolon stands behind them. Another compiler passes over all of them, but for a warning of unknown pragmas. A
+ * marker is a statement, and none to another compiler: put it between braces with what it counts.
  */
 #ifndef WCC_H
 #define WCC_H

@@ -21,7 +21,7 @@
 #define MUL_HIGH(a, b) ((int)(UMUL_HIGH(a, b) - ((a) < 0 ? (unsigned)(b) : 0u) - ((b) < 0 ? (unsigned)(a) : 0u)))
 #define MUL_SHIFT(a, b, n) ((int)((unsigned)MUL_HIGH(a, b) << (32 - (n)) | (unsigned)(a) * (unsigned)(b) >> (n)))
 
-static unsigned umul_high(unsigned a, unsigned b)
+static inline unsigned umul_high(unsigned a, unsigned b)
 {
     unsigned al = a & 0xFFFF, ah = a >> 16;
     unsigned bl = b & 0xFFFF, bh = b >> 16;
@@ -30,7 +30,7 @@ static unsigned umul_high(unsigned a, unsigned b)
     return ah * bh + (middle >> 16) + ((al * bh + (middle & 0xFFFF)) >> 16);
 }
 
-static int mul_high(int a, int b)
+static inline int mul_high(int a, int b)
 {
     unsigned high = umul_high((unsigned)a, (unsigned)b);
 
@@ -41,13 +41,13 @@ static int mul_high(int a, int b)
     return (int)high;
 }
 
-static int mul_shift(int a, int b, int n)
+static inline int mul_shift(int a, int b, int n)
 {
     return (int)((unsigned)mul_high(a, b) << (32 - n) | (unsigned)a * (unsigned)b >> n);
 }
 
 /* Long division: a bit of the quotient each turn, and high is what remains. */
-static unsigned udiv_wide(unsigned high, unsigned low, unsigned b)
+static inline unsigned udiv_wide(unsigned high, unsigned low, unsigned b)
 {
     int bit;
 
@@ -65,7 +65,7 @@ static unsigned udiv_wide(unsigned high, unsigned low, unsigned b)
     return low;
 }
 
-static int div_shift(int a, int b, int n)
+static inline int div_shift(int a, int b, int n)
 {
     unsigned size = a < 0 ? 0u - (unsigned)a : (unsigned)a;
     unsigned by = b < 0 ? 0u - (unsigned)b : (unsigned)b;

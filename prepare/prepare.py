@@ -31,6 +31,7 @@ PLAIN = re.compile(rb"0|[1-9][0-9]*")
 NAME = re.compile(rb"(?<![\w.])[A-Za-z_]\w*")
 CHARACTER = re.compile(rb"'(?:[^'\\]|\\.)*'")
 BITS = 31
+RANGE = b"an annotation takes numbers from 0 to 2147483647"
 
 # What stands in many programs and isn't in the language, by the part of docs/PORTING.md that says what to write instead.
 OUTSIDE = {
@@ -66,29 +67,32 @@ class Preprocessor:
         self.asked = [*(f"-I{it}" for it in (*folders, INCLUDE)), *(f"-D{it}" for it in macros)]
 
     def run(self, path):
-        """What it makes of a file."""
+        """What it makes of a file, as far as it comes, and whether it says that this is all."""
         # A name that begins so would be an option.
         named = f"./{path}" if path.startswith("-") else path
         ran = subprocess.run([*self.words, *self.asked, named], stdin=DEVNULL, stdout=PIPE)
-        if ran.returncode:
-            raise Failed(REFUSED, f"{path} isn't prepared, for what {self.words[0]} says above. Of the C library there are "
-                                  f"{headers()}; docs/PORTING.md says what to write in place of others")
-        return ran.stdout
+        return ran.stdout, ran.returncode == 0
 
     def values(self, asked):
         """The values of constant expressions, each given with its file and line: the bits that #if sees."""
-        lines = []
+        tests, bits = [], []
         for text, (file, number) in asked:
             at = b'# %d "%s"' % (number, file)
-            lines += [at, b"#if (%s) < 0 || (%s) >> %d" % (text, text, BITS), at,
-                      b"#error an annotation takes numbers from 0 to 2147483647", b"#endif", b"value"]
+            # What is negative keeps its sign.
+            tests += [at, b"#if (%s) >> %d" % (text, BITS), at, b"#error " + RANGE, b"#endif"]
+            bits += [b"value"]
             for bit in reversed(range(BITS)):
-                lines += [at, b"#if (%s) >> %d & 1" % (text, bit), b"1", b"#else", b"0", b"#endif"]
+                bits += [b"#if (%s) >> %d & 1" % (text, bit), b"1", b"#else", b"0", b"#endif"]
+        # What is wrong with one is told once, before its bits are asked for.
+        self.evaluated(tests)
+        return [b"%d" % int(it, 2) for it in b"".join(self.evaluated(bits).split()).split(b"value")[1:]]
+
+    def evaluated(self, lines):
+        """What it makes of lines of its own."""
         ran = subprocess.run([*self.words, "-P", "-"], input=b"\n".join(lines) + b"\n", stdout=PIPE)
         if ran.returncode:
             raise Failed(REFUSED, "an annotation isn't one of constants, as said above")
-        found = b"".join(ran.stdout.split()).split(b"value")[1:]
-        return [b"%d" % int(it, 2) for it in found]
+        return ran.stdout
 
 
 def headers():
@@ -130,17 +134,6 @@ class Annotations:
     def files(self):
         """The names of all files that were read."""
         return sorted({name_in_marker(it[2]) for it in map(LINE_MARKER.match, self.lines) if it})
-
-    def outside(self):
-        """What isn't in the language, by the part of the page on it: the places at which it stands."""
-        parts = {word: part for part, words in OUTSIDE.items() for word in words}
-        found = {}
-        for _, line, place in placed(self.lines):
-            for it in PIECE.finditer(line) if not line.lstrip().startswith(b"#") else ():
-                word = '"' if it["quoted"] else it[0].decode()
-                if word in parts:
-                    found.setdefault(parts[word], []).append((place, "a string" if it["quoted"] else f"`{word}`"))
-        return found
 
     def note(self, index, kind, text, place):
         """Keeps what is an expression in an annotation. One of another form is left to the compiler to refuse."""
@@ -212,6 +205,20 @@ def write(path, data):
         raise
 
 
+def tell_outside(text):
+    """Says on standard error what isn't in the language, by the part of the page that is about it, and where it stands first."""
+    parts = {word: part for part, words in OUTSIDE.items() for word in words}
+    found = {}
+    for _, line, place in placed(text.split(b"\n")):
+        for it in PIECE.finditer(line) if not line.lstrip().startswith(b"#") else ():
+            word = '"' if it["quoted"] else it[0].decode()
+            if word in parts:
+                found.setdefault(parts[word], []).append((place, "a string" if it["quoted"] else f"`{word}`"))
+    for part, stands in found.items():
+        (place, what), places = stands[0], f" ({len(stands)} places)" if len(stands) > 1 else ""
+        print(f"{shown(*place)}: {what} is outside the language{places}: see \"{part}\" in docs/PORTING.md", file=sys.stderr)
+
+
 def prepare(asked):
     preprocessor = Preprocessor(asked.folders, asked.macros)
     try:
@@ -220,16 +227,18 @@ def prepare(asked):
     except OSError as error:
         raise Failed(READ_FAULT, f"{asked.file} can't be read: {why(error)}") from error
     refuse_aliases(asked.source, [asked.file])
-    text = Annotations(preprocessor.run(asked.file))
+    made, is_whole = preprocessor.run(asked.file)
+    tell_outside(made)
+    if not is_whole:
+        raise Failed(REFUSED, f"{asked.file} isn't prepared, for what {preprocessor.words[0]} says above. The headers are "
+                              f"{headers()}; docs/PORTING.md says what to write in place of others")
+    text = Annotations(made)
     refuse_aliases(asked.source, text.files())
     data = text.filled(preprocessor.values(text.asked) if text.asked else [])
     try:
         write(asked.source, data)
     except OSError as error:
         raise Failed(WRITE_FAULT, f"{asked.source} can't be written: {why(error)}") from error
-    for part, found in text.outside().items():
-        (place, what), places = found[0], f" ({len(found)} places)" if len(found) > 1 else ""
-        print(f"{shown(*place)}: {what} is outside the language{places}: see \"{part}\" in docs/PORTING.md", file=sys.stderr)
 
 
 def main(words):
