@@ -127,11 +127,11 @@ def fact_of(table, fact):
 
 
 def construct_of(table, construct):
-    """The lines of a construct, and where it is one of C, the page that says what to write."""
+    """The lines of a construct, and the page that says what to write, unless they say all."""
     key, *words = construct
-    is_mistake = f"mistake {key}" in table
-    texts = table[f"mistake {key}" if is_mistake else f"construct {key}"]
-    return [filled(it, [printable(it) for it in words]) for it in texts] + ([] if is_mistake else table["construct"])
+    is_other = f"other {key}" in table
+    texts = table[f"other {key}" if is_other else f"construct {key}"]
+    return [filled(it, [printable(it) for it in words]) for it in texts] + ([] if is_other else table["construct"])
 
 
 def included(table, place):
