@@ -162,6 +162,9 @@ def compiler_word(spot):
 def star(spot, wanted):
     if spot.kinds(-1, "[", "*", "]"):
         return ("size in brackets",)
+    opening = spot.opening(0)
+    if opening is not None and spot.opening(opening) is None and spot.text(opening - 1) == "main" and spot.kind(opening) == "(":
+        return ("main parameters",)
     return ("pointer",) if wanted in (OPERAND, "name") or spot.kind(-1) in SPECS else None
 
 

@@ -15,7 +15,7 @@ from evaluator.facts import marker_name, relation_of
 from evaluator.kinds import Undefined
 from evaluator.meaning import Broken, Program
 from evaluator.parser import Parser, TooDeep, unit_of
-from evaluator.rules import MOST, Checker, check, count_params
+from evaluator.rules import MOST, Checker, Routine, RuleFault, Thing, check, count_params
 from evaluator.tokens import comment_end, tokens_of
 from spot import Spot
 
@@ -171,6 +171,44 @@ def many_parameters(files, _):
     yield "function", node.name, files.at(node.at)
 
 
+# Rules
+
+def misfit(files, _):
+    """Why a call doesn't fit: what is called, the number of arguments, or an argument for an array parameter."""
+    checker = Checker(unit(files))
+    try:
+        checker.run()
+    except RuleFault:
+        order, *_ = min(checker.faults)
+        call = next(it for it in tree.nodes_of(checker.unit) if it.order == order)
+        return misfit_of(call) if isinstance(call, tree.Call) else []
+    return []
+
+
+def misfit_of(call):
+    routine = call.refers
+    if not isinstance(routine, Routine):
+        yield "no function", call.name
+    elif len(routine.params) != len(call.arguments):
+        yield "arguments", call.name, str(len(routine.params)), str(len(call.arguments))
+    else:
+        wrong = (argument_fault(number, *it) for number, it in enumerate(zip(call.arguments, routine.params), 1))
+        yield from [it for it in wrong if it][:1]
+
+
+def argument_fault(number, argument, param):
+    """What is wrong with an argument for an array parameter."""
+    kind, is_array, is_const = param
+    thing = argument.refers if isinstance(argument, tree.Name) else None
+    if not is_array:
+        return None
+    if not (isinstance(thing, Thing) and thing.is_array):
+        return "array argument", str(number), kind.name
+    if thing.kind != kind:
+        return "other array", str(number), thing.kind.name, kind.name
+    return ("const array", str(number)) if thing.is_const and not is_const else None
+
+
 # Pragmas
 
 def differences(one, other):
@@ -300,7 +338,7 @@ def other_main(files, _):
 
 
 FINDERS = {
-    "refused type-13": other_main,
+    "refused type-7": misfit, "refused type-13": other_main,
     "refused recursion": cycle, "refused bound": dropped, "refused pragma": pragma_fault, "undefined": run_to, "broken": run_to,
     "refused name": unknown_name, "form": first_restriction, "limit depth": too_deep, "limit nodes": largest_part, "limit globals": largest_object(False), "limit locals": largest_object(True),
     "limit parameters": many_parameters, "read fault": unread, "write fault": unwritten,
