@@ -16,7 +16,8 @@ QUALIFIERS = {"static", "extern", "inline", "const"}
 OF_ASSEMBLY = {"volatile", "__volatile__", "__volatile", "goto", "inline", "__inline__"}
 KEYWORDS = {"double": "float", "_Imaginary": "_Complex", "_Alignof": "_Alignas"}
 FLOATING = re.compile(
-    r"(?:(?:[0-9]*\.[0-9]+|[0-9]+\.)(?:[eE][+-]?[0-9]+)?|[0-9]+[eE][+-]?[0-9]+|0[xX][0-9a-fA-F]*\.?[0-9a-fA-F]*[pP][+-]?[0-9]+)[fFlLiIjJ]*")
+    r"(?:(?:[0-9]*\.[0-9]+|[0-9]+\.)(?:[eE][+-]?[0-9]+)?|[0-9]+[eE][+-]?[0-9]+"
+    r"|0[xX][0-9a-fA-F]*\.?[0-9a-fA-F]*[pP][+-]?[0-9]+)[fFlLiIjJ]*")
 WHOLE = re.compile(r"(0[xX][0-9a-fA-F]+|0[bB][01]+|0[0-7]*|[1-9][0-9]*)([uU]?(?:ll|LL|[lL])?|(?:ll|LL|[lL])[uU])")
 DIRECTIVE = re.compile(r"#[ \t]*(\w*)")
 DIRECTIVES = set("include include_next import define undef if ifdef ifndef elif elifdef elifndef else endif".split())
@@ -271,7 +272,8 @@ def specs_word(spot, wanted):
 
 def closing_round(spot, wanted):
     """`(T *)e`, where `T` is no type."""
-    return type_name(spot.text(-2)) if spot.kinds(-3, "(", "name", "*") and spot.kind(1) in ("name", "(", "&", "number") else None
+    is_cast = spot.kinds(-3, "(", "name", "*") and spot.kind(1) in ("name", "(", "&", "number")
+    return type_name(spot.text(-2)) if is_cast else None
 
 
 def label_word(spot, wanted):
@@ -342,8 +344,8 @@ def type_name(text):
     return ("header type", text, HEADERS_OF_TYPES[text]) if text in HEADERS_OF_TYPES else ("type name", text)
 
 
-SIGNS = {"*": star, "&": ampersand, "&&": two_ampersands, "[": square, "(": round_bracket, "{": brace, "}": closing_brace, ")": closing_round,
-         ":": colon, ";": semicolon, ",": comma, "=": equals, "name": name, "case": label_word, "default": label_word,
+SIGNS = {"*": star, "&": ampersand, "&&": two_ampersands, "[": square, "(": round_bracket, "{": brace, "}": closing_brace,
+         ")": closing_round, ":": colon, ";": semicolon, ",": comma, "=": equals, "name": name, "case": label_word, "default": label_word,
          "number": operand_behind, "character": operand_behind, **dict.fromkeys(SPECS, specs_word)}
 
 

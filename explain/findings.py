@@ -21,10 +21,9 @@ from spot import Spot
 
 # A run is followed for so long.
 SECONDS = 1.0
-BOUND, SIMILAR = "loopbound", 2
-DROPPED = re.compile(rb'(?:#[ \t]*pragma|_Pragma[ \t]*\([ \t]*")[ \t]*([^ \t"\n\r]+)[ \t]*([^ \t"\n\r]*)')
-NUMBERS = re.compile(rb"[ \t]*loopbound[ \t]+min[ \t]+(\w+)[ \t]+max[ \t]+(\w+)[ \t]*")
-PRAGMAS = (tree.Loop, tree.Marker, tree.Restriction)
+BOUND = "loopbound"
+PRAGMA = re.compile(rb'(?:#[ \t]*pragma|_Pragma[ \t]*\([ \t]*")[ \t]*([^ \t"\n\r]+)[ \t]*([^ \t"\n\r]*)')
+BOUNDS = re.compile(rb"[ \t]*loopbound[ \t]+min[ \t]+(\w+)[ \t]+max[ \t]+(\w+)[ \t]*")
 
 
 class Files:
@@ -100,10 +99,19 @@ class Followed(Program):
             raise Late
 
 
+def input_of(name):
+    """The bytes of an input that can be read again, or None."""
+    if not (stat.S_ISREG(os.stat(name).st_mode) or os.path.samefile(name, os.devnull)):
+        return None
+    with open(name, "rb") as file:
+        return file.read()
+
+
 def run_to(files, at):
     """How the run comes to the place where it ends: the calls that it is in."""
-    with open(files.reads[1], "rb") as file:
-        data = file.read()
+    data = input_of(files.reads[1])
+    if data is None:
+        return
     run = program_of(files.source, data, Followed)
     try:
         run.run()
@@ -173,15 +181,22 @@ def many_parameters(files, _):
 
 # Rules
 
-def misfit(files, _):
+def other_main(files, _):
+    """A `main` of another type."""
+    node = next((it for it in unit(files).items if isinstance(it, tree.Function) and it.name == "main"), None)
+    if node:
+        yield "main", files.at(node.name_at)
+
+
+def misfit(files, at):
     """Why a call doesn't fit: what is called, the number of arguments, or an argument for an array parameter."""
     checker = Checker(unit(files))
     try:
         checker.run()
-    except RuleFault:
+    except RuleFault as fault:
         order, *_ = min(checker.faults)
         call = next(it for it in tree.nodes_of(checker.unit) if it.order == order)
-        return misfit_of(call) if isinstance(call, tree.Call) else []
+        return misfit_of(call) if fault.at == at and isinstance(call, tree.Call) else []
     return []
 
 
@@ -221,10 +236,12 @@ def differences(one, other):
     return row[-1]
 
 
-def is_misspelt(first, second):
-    """Whether the words of a dropped pragma are those of a bound in another spelling."""
-    plain = [it.lower().replace("_", "").replace("-", "").rstrip(":,;") for it in (first, first + second)]
-    return any(len(it) < 20 and differences(it, BOUND) <= SIMILAR for it in plain)
+def is_misspelt(word):
+    """Whether a word is `loopbound` with other capitals or between its parts, with one letter wrong, or with two changed places."""
+    plain = re.sub(r"[-_ ]|[:,;(].*", "", word.lower())
+    if word == BOUND or len(plain) > len(BOUND) + 1:
+        return False
+    return differences(plain, BOUND) <= (2 if sorted(plain) == sorted(BOUND) else 1)
 
 
 def dropped(files, at):
@@ -232,11 +249,11 @@ def dropped(files, at):
     spot = Spot(files.source, at)
     if not spot.found:
         return
-    place = spot.token(-1).at if spot.token(-1) else 0
-    for match in list(pragmas(files.source, place, at)):
+    for match in pragmas(files.source, spot.token(-1).at if spot.token(-1) else 0, at):
         first, second = (it.decode(errors="replace") for it in match.groups())
-        if first != BOUND and is_misspelt(first, second):
-            yield "misspelt", first if differences(first.lower(), BOUND) <= SIMILAR + 1 else f"{first} {second}", files.at(match.start())
+        word = next((it for it in (first, f"{first} {second}") if is_misspelt(it)), None)
+        if word:
+            yield "misspelt", word, files.at(match.start())
 
 
 def pragmas(source, place, end):
@@ -245,7 +262,7 @@ def pragmas(source, place, end):
         if source.startswith((b"/*", b"//"), place):
             place = comment_end(source, place) or end
             continue
-        match = DROPPED.match(source, place, end)
+        match = PRAGMA.match(source, place, end)
         if match:
             yield match
         place = match.end() if match else place + 1
@@ -253,12 +270,16 @@ def pragmas(source, place, end):
 
 def pragma_fault(files, at):
     """What is wrong with a pragma: the numbers of a bound, or the name of a marker."""
-    node = next(it for it in tree.nodes_of(unit(files)) if at == getattr(it, "bound_at", it.at) and isinstance(it, PRAGMAS))
-    return marker_fault(files, node) if isinstance(node, tree.Marker) else bound_fault(node) if isinstance(node, tree.Loop) else []
+    nodes = list(tree.nodes_of(unit(files)))
+    loop = next((it for it in nodes if isinstance(it, tree.Loop) and it.bound_at == at), None)
+    if loop:
+        return bound_fault(loop)
+    marker = next((it for it in nodes if isinstance(it, tree.Marker) and it.at == at), None)
+    return marker_fault(files, nodes, marker) if marker else []
 
 
 def bound_fault(loop):
-    match = NUMBERS.fullmatch(loop.bound)
+    match = BOUNDS.fullmatch(loop.bound)
     if not match:
         return
     least, most = (it.decode() for it in match.groups())
@@ -269,11 +290,11 @@ def bound_fault(loop):
         yield "macro", word
 
 
-def marker_fault(files, marker):
+def marker_fault(files, nodes, marker):
     """Another marker, or a function, of the same name."""
     name = marker_name(marker)
-    for node in tree.nodes_of(unit(files)) if name else []:
-        is_marker = isinstance(node, tree.Marker) and marker_name(node) == name and node.at != marker.at
+    for node in nodes if name else []:
+        is_marker = isinstance(node, tree.Marker) and node is not marker and marker_name(node) == name
         is_function = isinstance(node, (tree.Function, tree.Prototype)) and node.name == name
         if is_marker or is_function:
             yield "same name", name, files.at(node.at)
@@ -283,7 +304,8 @@ def marker_fault(files, marker):
 def unknown_name(files, at):
     """What a restriction names and nothing is."""
     nodes = list(tree.nodes_of(unit(files)))
-    known = {it.name for it in nodes if isinstance(it, tree.Function)} | {marker_name(it) for it in nodes if isinstance(it, tree.Marker)}
+    known = {it.name for it in nodes if isinstance(it, tree.Function)}
+    known |= {marker_name(it) for it in nodes if isinstance(it, tree.Marker)}
     relation = next(relation_of(it) for it in nodes if isinstance(it, tree.Restriction) and it.at == at)
     yield "unknown", next(name for _, name in relation.terms() if name not in known)
 
@@ -330,16 +352,10 @@ def unwritten(files, _):
         yield "file", files.writes[0], "writing it failed"
 
 
-def other_main(files, _):
-    """A `main` of another type."""
-    node = next((it for it in unit(files).items if isinstance(it, tree.Function) and it.name == "main"), None)
-    if node:
-        yield "main", files.at(node.name_at)
-
-
 FINDERS = {
-    "refused type-7": misfit, "refused type-13": other_main,
-    "refused recursion": cycle, "refused bound": dropped, "refused pragma": pragma_fault, "undefined": run_to, "broken": run_to,
-    "refused name": unknown_name, "form": first_restriction, "limit depth": too_deep, "limit nodes": largest_part, "limit globals": largest_object(False), "limit locals": largest_object(True),
-    "limit parameters": many_parameters, "read fault": unread, "write fault": unwritten,
+    "refused type-7": misfit, "refused type-13": other_main, "refused recursion": cycle, "refused bound": dropped,
+    "refused pragma": pragma_fault, "refused name": unknown_name, "undefined": run_to, "broken": run_to,
+    "limit depth": too_deep, "limit nodes": largest_part, "limit parameters": many_parameters,
+    "limit globals": largest_object(False), "limit locals": largest_object(True),
+    "form": first_restriction, "read fault": unread, "write fault": unwritten,
 }
