@@ -22,8 +22,13 @@ WHOLE = re.compile(r"(0[xX][0-9a-fA-F]+|0[bB][01]+|0[0-7]*|[1-9][0-9]*)([uU]?(?:
 DIRECTIVE = re.compile(r"#[ \t]*(\w*)")
 DIRECTIVES = set("include include_next import define undef if ifdef ifndef elif elifdef elifndef else endif".split())
 DIGRAPHS = {"<:", ":>", "<%", "%>", "%:", "%:%:"}
-# Escapes of which a character has at most 255.
-NUMBERED = re.compile(r"'\\(?:x[0-9a-fA-F]+|[0-7]{3})'")
+# Character constants that are outside: escapes of a number have at most 255.
+CHARACTERS = [
+    ("character value", re.compile(r"'\\(?:x[0-9a-fA-F]+|[0-7]{3})'")),
+    ("characters", re.compile(r"'(?:[ -&(-\[\]-~]|\\['\"?\\abfnrtv]){2,}'")),
+    ("escape", re.compile(r"'\\[^'\"?\\abfnrtvx0-7uU]'")),
+    ("character letter", re.compile(r"'[^\x00-\x7f]'")),
+]
 
 
 # What is outside by its tokens
@@ -73,21 +78,27 @@ def quoted(spot, text):
     if text[0] in "LuU":
         return ("wide",)
     if text[0] == "'":
-        if NUMBERED.fullmatch(text):
-            return ("character value",)
-        return ("characters",) if re.fullmatch(r"'(?:[^'\\\x00-\x1f\x7f-\uffff]|\\['\"?\\abfnrtv]){2,}'", text) else None
+        return next(((key,) for key, form in CHARACTERS if form.fullmatch(text)), None)
     if spot.kind(-1) == "extern":
         return ("extern C",)
-    called = before_bracket(spot, spot.opening(0))
-    if called in ASSEMBLY:
+    called = list(calls_around(spot))
+    if ASSEMBLY & set(called):
         return ("asm",)
-    return ("static assertion",) if called == "static_assert" else ("string",)
+    if ATTRIBUTES & set(called):
+        return ("attribute",)
+    return ("static assertion",) if called[:1] == ["static_assert"] else ("string",)
+
+
+def calls_around(spot):
+    """The names before the brackets that are open at the place, from the innermost on."""
+    opening = 0
+    while (opening := spot.opening(opening)) is not None and spot.kind(opening) == "(":
+        if called := before_bracket(spot, opening):
+            yield called
 
 
 def before_bracket(spot, opening):
     """The name before an open bracket, or before what may stand between `asm` and its bracket."""
-    if opening is None or spot.kind(opening) != "(":
-        return None
     place = opening - 1
     while spot.text(place) in OF_ASSEMBLY:
         place -= 1
@@ -346,7 +357,7 @@ def type_name(text):
 
 SIGNS = {"*": star, "&": ampersand, "&&": two_ampersands, "[": square, "(": round_bracket, "{": brace, "}": closing_brace,
          ")": closing_round, ":": colon, ";": semicolon, ",": comma, "=": equals, "name": name, "case": label_word, "default": label_word,
-         "number": operand_behind, "character": operand_behind, **dict.fromkeys(SPECS, specs_word)}
+         **dict.fromkeys(("number", "character", "~", "!"), operand_behind), **dict.fromkeys(SPECS, specs_word)}
 
 
 # What is outside by its types and names

@@ -11,7 +11,7 @@ import time
 import constructs
 from evaluator import tree
 from evaluator.answer import program_of
-from evaluator.facts import marker_name, relation_of
+from evaluator.facts import MOST_STARTS, marker_name, relation_of
 from evaluator.kinds import Undefined
 from evaluator.meaning import Broken, Program
 from evaluator.parser import Parser, TooDeep, unit_of
@@ -286,6 +286,8 @@ def bound_fault(loop):
     word = next((it for it in (least, most) if not it.isdigit()), None)
     if word is None and int(least[-99:]) > int(most[-99:]):
         yield "above", least, most
+    elif word is None and int(most[-99:]) > MOST_STARTS:
+        yield "above", most, str(MOST_STARTS)
     elif word and word.isidentifier():
         yield "macro", word
 
