@@ -6,7 +6,7 @@ import re
 
 from evaluator.parser import LOOP, OPERAND, SPECS, TYPE
 from evaluator.tokens import OUTSIDE_WORDS, PRAGMAS
-from names import ASSEMBLY, ATTRIBUTES, HEADERS_OF_OTHERS, HEADERS_OF_TYPES, is_compiler_word
+from names import ASSEMBLY, ATTRIBUTES, COMPILER_WORDS, HEADERS_OF_OTHERS, HEADERS_OF_TYPES, is_compiler_word
 from spot import OUTSIDE
 
 # What stands before a bracket that is none of an expression, and what an operand ends with.
@@ -35,8 +35,10 @@ CHARACTERS = [
 
 def outside(spot):
     text = spot.text()
+    if text in ("#", "##"):
+        return ("paste",)
     if text.startswith("#"):
-        return directive(spot, text)
+        return directive(text)
     if text[:1].isdigit() or text[:1] == "." and text[1:2].isdigit():
         return number(text)
     if text.endswith(("'", '"')):
@@ -51,9 +53,7 @@ def outside(spot):
     return keyword(spot, text) if text in OUTSIDE_WORDS else None
 
 
-def directive(spot, text):
-    if not spot.begins_line():
-        return ("paste",)
+def directive(text):
     word = DIRECTIVE.match(text)[1]
     return ("directive", word) if word in DIRECTIVES else None
 
@@ -166,7 +166,7 @@ def compiler_word(spot):
             return ("attribute",)
         if name in ASSEMBLY:
             return ("asm",)
-        if is_compiler_word(name) and not name.startswith("__builtin_") or name == "typeof":
+        if name in COMPILER_WORDS or name == "typeof":
             return "compiler word", name
     return None
 
@@ -190,7 +190,7 @@ def two_ampersands(spot, wanted):
 
 def square(spot, wanted):
     before = spot.kind(-1)
-    if wanted in (OPERAND, TYPE) and spot.kind(1) == "[":
+    if spot.kind(1) == "[" and (wanted == TYPE or wanted == OPERAND and spot.begins_statement(0)):
         return ("attribute",)
     if wanted == OPERAND:
         return ("designator",) if before in ("{", ",") and spot.in_list() else None
@@ -283,8 +283,8 @@ def specs_word(spot, wanted):
 
 def closing_round(spot, wanted):
     """`(T *)e`, where `T` is no type."""
-    is_cast = spot.kinds(-3, "(", "name", "*") and spot.kind(1) in ("name", "(", "&", "number")
-    return type_name(spot.text(-2)) if is_cast else None
+    is_group = spot.kinds(-3, "(", "name", "*") and spot.kind(-4) not in HEADS | OPERANDS
+    return type_name(spot.text(-2)) if is_group and spot.kind(1) in ("name", "(", "&", "number") else None
 
 
 def label_word(spot, wanted):
@@ -308,9 +308,12 @@ def outer_name(spot):
     if spot.kind(1) in ("=", "[", ","):
         return "implicit int", spot.text()
     closing = spot.closing(1) if spot.kind(1) == "(" else None
-    if closing is None or not (spot.kind(closing + 1) == "{" or spot.kind(closing + 1) in SPECS):
+    if closing is None:
         return None
-    return "implicit int", spot.text()
+    behind = spot.declarations(closing + 1)
+    if spot.kind(behind) == "{" and spot.kind(behind - 1) in (")", ";"):
+        return "implicit int", spot.text()
+    return ("unknown word", spot.text()) if behind > closing + 1 else None
 
 
 def param_name(spot):
@@ -355,8 +358,9 @@ def type_name(text):
     return ("header type", text, HEADERS_OF_TYPES[text]) if text in HEADERS_OF_TYPES else ("type name", text)
 
 
-SIGNS = {"*": star, "&": ampersand, "&&": two_ampersands, "[": square, "(": round_bracket, "{": brace, "}": closing_brace,
-         ")": closing_round, ":": colon, ";": semicolon, ",": comma, "=": equals, "name": name, "case": label_word, "default": label_word,
+SIGNS = {"*": star, "&": ampersand, "&&": two_ampersands, "[": square, "(": round_bracket, ")": closing_round,
+         "{": brace, "}": closing_brace, ":": colon, ";": semicolon, ",": comma, "=": equals, "name": name,
+         "case": label_word, "default": label_word,
          **dict.fromkeys(("number", "character", "~", "!"), operand_behind), **dict.fromkeys(SPECS, specs_word)}
 
 
