@@ -11,7 +11,7 @@ import time
 import constructs
 from evaluator import tree
 from evaluator.answer import program_of
-from evaluator.facts import MOST_STARTS, marker_name, relation_of
+from evaluator.facts import MOST_STARTS, Facts, greatest_starts, marker_name, relation_of
 from evaluator.kinds import Undefined
 from evaluator.meaning import Broken, Program
 from evaluator.parser import Parser, TooDeep, unit_of
@@ -21,7 +21,7 @@ from spot import Spot
 
 # A run is followed for so long.
 SECONDS = 1.0
-BOUND = "loopbound"
+BOUND, MARKER = "loopbound", "marker"
 PRAGMA = re.compile(rb'(?:#[ \t]*pragma|_Pragma[ \t]*\([ \t]*")[ \t]*([^ \t"\n\r]+)[ \t]*([^ \t"\n\r]*)')
 BOUNDS = re.compile(rb"[ \t]*loopbound[ \t]+min[ \t]+(\w+)[ \t]+max[ \t]+(\w+)[ \t]*")
 
@@ -56,7 +56,7 @@ def calls_below(function):
 def chain(files, steps):
     """A fact for a chain of calls: each the name of who calls, and the call."""
     parts = [(caller, call.name, files.at(call.at)) for caller, call in steps]
-    return [("chain", parts)] if parts else []
+    return [("chain", ("call", parts))] if parts else []
 
 
 def cycle(files, at):
@@ -173,6 +173,31 @@ def too_deep(files, _):
         yield "deep", files.at(parser.tokens[parser.next - 1].at)
 
 
+def heaviest(files, _):
+    """The loops, one in another, in which the most is executed by the bounds."""
+    checker = Checker(unit(files))
+    checker.run()
+    facts = Facts(checker)
+    facts.refuse_recursion()
+    facts.read()
+    loops, node, known = [], checker.routines["main"].node, {}
+    while node is not None:
+        if isinstance(node, tree.Loop):
+            loops.append((files.at(node.at), str(node.limits[1])))
+        node = max(parts_of(node), key=lambda it: it[0] * facts.most(it[1], known, True), default=(0, None))[1]
+    if loops:
+        yield "heaviest", ("loop", loops)
+
+
+def parts_of(node):
+    """The parts of a node and the function that it calls, each with how often the node executes it at most."""
+    times = max(1, greatest_starts(node)) if isinstance(node, tree.Loop) else 1
+    once = [getattr(node, "start", None)]
+    if isinstance(node, tree.Call) and node.refers.node is not None:
+        yield 1, node.refers.node
+    yield from ((1 if it in once else times, it) for it in node.parts())
+
+
 def many_parameters(files, _):
     node = next(it for it in tree.nodes_of(unit(files))
                 if isinstance(it, (tree.Function, tree.Prototype)) and count_params(it) > MOST["parameters"])
@@ -236,12 +261,12 @@ def differences(one, other):
     return row[-1]
 
 
-def is_misspelt(word):
-    """Whether a word is `loopbound` with other capitals or between its parts, with one letter wrong, or with two changed places."""
+def is_misspelt(word, right):
+    """Whether a word is another one with other capitals or signs between its parts, one letter wrong, or two changed places."""
     plain = re.sub(r"[-_ ]|[:,;(].*", "", word.lower())
-    if word == BOUND or len(plain) > len(BOUND) + 1:
+    if word == right or len(plain) > len(right) + 1:
         return False
-    return differences(plain, BOUND) <= (2 if sorted(plain) == sorted(BOUND) else 1)
+    return differences(plain, right) <= (2 if sorted(plain) == sorted(right) else 1)
 
 
 def dropped(files, at):
@@ -251,9 +276,9 @@ def dropped(files, at):
         return
     for match in pragmas(files.source, spot.token(-1).at if spot.token(-1) else 0, at):
         first, second = (it.decode(errors="replace") for it in match.groups())
-        word = next((it for it in (first, f"{first} {second}") if is_misspelt(it)), None)
+        word = next((it for it in (first, f"{first} {second}") if is_misspelt(it, BOUND)), None)
         if word:
-            yield "misspelt", word, files.at(match.start())
+            yield "misspelt", word, files.at(match.start()), BOUND
 
 
 def pragmas(source, place, end):
@@ -309,7 +334,13 @@ def unknown_name(files, at):
     known = {it.name for it in nodes if isinstance(it, tree.Function)}
     known |= {marker_name(it) for it in nodes if isinstance(it, tree.Marker)}
     relation = next(relation_of(it) for it in nodes if isinstance(it, tree.Restriction) and it.at == at)
-    yield "unknown", next(name for _, name in relation.terms() if name not in known)
+    unknown = next(name for _, name in relation.terms() if name not in known)
+    yield "unknown", unknown
+    for match in pragmas(files.source, 0, len(files.source)):
+        first, second = (it.decode(errors="replace") for it in match.groups())
+        if second == unknown and is_misspelt(first, MARKER):
+            yield "misspelt", first, files.at(match.start()), MARKER
+            return
 
 
 def first_restriction(files, _):
@@ -358,6 +389,6 @@ FINDERS = {
     "refused type-7": misfit, "refused type-13": other_main, "refused recursion": cycle, "refused bound": dropped,
     "refused pragma": pragma_fault, "refused name": unknown_name, "undefined": run_to, "broken": run_to,
     "limit depth": too_deep, "limit nodes": largest_part, "limit parameters": many_parameters,
-    "limit globals": largest_object(False), "limit locals": largest_object(True),
+    "limit most": heaviest, "limit globals": largest_object(False), "limit locals": largest_object(True),
     "form": first_restriction, "read fault": unread, "write fault": unwritten,
 }
