@@ -4,6 +4,7 @@ For each loop it says how often its body started in one entry, the fewest and th
 often a run came there; and how near the restrictions came. Last come the pragmas that would say so. All of that was seen on
 these inputs, by the second evaluator, and nothing of it is proved. README.md beside this file says more.
 """
+import os
 import sys
 from dataclasses import dataclass
 from pathlib import Path
@@ -20,7 +21,13 @@ from evaluator.meaning import Broken, Program  # noqa: E402
 from evaluator.rules import MOST  # noqa: E402
 from places import Lines, printable  # noqa: E402
 
-USAGE, READ_FAULT = 2, 4
+USAGE, READ_FAULT, WRITE_FAULT, INTERRUPTED = 2, 4, 5, 130
+CALLED = "wcc counts SOURCE INPUT .."
+HELP = [
+    "Runs the source on each input, and says how often its loops started in one entry, how often functions and markers came, how",
+    "near the restrictions were, and which pragmas would say so. Loops may lack their bounds. All of it is seen by the second",
+    "evaluator, and nothing of it is proved. counts/README.md shows an example.",
+]
 # A run is left behind so many starts and calls: a loop without a bound need not end.
 MOST_STEPS = 20_000_000
 
@@ -241,10 +248,19 @@ def nearness(relation, left, right):
 
 # The call
 
+class Unwritten(Exception):
+    """What is said can't be written."""
+
+
 def tell(lines):
-    for line in lines:
-        sys.stdout.buffer.write((line + "\n").encode(errors="replace"))
-    sys.stdout.buffer.flush()
+    try:
+        for line in lines:
+            sys.stdout.buffer.write((line + "\n").encode(errors="replace"))
+        sys.stdout.buffer.flush()
+    except OSError as error:
+        # Else Python would write at its end what is left.
+        os.dup2(os.open(os.devnull, os.O_WRONLY), sys.stdout.fileno())
+        raise Unwritten from error
 
 
 def count(path, names):
@@ -262,7 +278,12 @@ def count(path, names):
         line, status = line_of(fault)
         tell([line, *explain.explained(explain.entries(), line, ["eval", path, names[0], ""])])
         return status
-    report, status = Report(path, source), DONE
+    return shown(Report(path, source), seen, inputs)
+
+
+def shown(report, seen, inputs):
+    """Says what is seen, input by input, and answers the status."""
+    status = DONE
     tell(["Seen on these inputs by the second evaluator, and not proved:"])
     for name, data in inputs:
         run, ended = seen.run(name, data)
@@ -273,12 +294,25 @@ def count(path, names):
     return status
 
 
+def counted(path, names):
+    try:
+        return count(path, names)
+    except Unwritten:
+        return WRITE_FAULT
+
+
 def main(words):
+    if words in (["--help"], ["-h"]):
+        tell([CALLED, *HELP])
+        return DONE
     if len(words) < 2 or words[0].startswith("-"):
-        tell(["wcc counts SOURCE INPUT .."])
+        tell([f"It is called so: {CALLED}"])
         return USAGE
-    return with_deep_stack(lambda: count(words[0], words[1:]))
+    return with_deep_stack(lambda: counted(words[0], words[1:]))
 
 
 if __name__ == "__main__":
-    sys.exit(main(sys.argv[1:]))
+    try:
+        sys.exit(main(sys.argv[1:]))
+    except KeyboardInterrupt:
+        sys.exit(INTERRUPTED)

@@ -10,7 +10,7 @@ def with_deep_stack(work):
     sys.setrecursionlimit(1000000)
     threading.stack_size(1 << 29)
     results = []
-    thread = threading.Thread(target=lambda: results.append(work()))
+    thread = threading.Thread(target=lambda: results.append(work()), daemon=True)
     thread.start()
     thread.join()
     if not results:

@@ -6,7 +6,7 @@ import re
 
 from evaluator.parser import LOOP, OPERAND, SPECS, TYPE
 from evaluator.tokens import OUTSIDE_WORDS, PRAGMAS
-from names import ASSEMBLY, ATTRIBUTES, HEADERS_OF_OTHERS, HEADERS_OF_TYPES, is_compiler_word
+from names import ASSEMBLY, ATTRIBUTES, COMPILER_WORDS, HEADERS_OF_OTHERS, HEADERS_OF_TYPES, is_compiler_word
 from spot import OUTSIDE
 
 # What stands before a bracket that is none of an expression, and what an operand ends with.
@@ -16,21 +16,29 @@ QUALIFIERS = {"static", "extern", "inline", "const"}
 OF_ASSEMBLY = {"volatile", "__volatile__", "__volatile", "goto", "inline", "__inline__"}
 KEYWORDS = {"double": "float", "_Imaginary": "_Complex", "_Alignof": "_Alignas"}
 FLOATING = re.compile(
-    r"(?:(?:[0-9]*\.[0-9]+|[0-9]+\.)(?:[eE][+-]?[0-9]+)?|[0-9]+[eE][+-]?[0-9]+|0[xX][0-9a-fA-F]*\.?[0-9a-fA-F]*[pP][+-]?[0-9]+)[fFlLiIjJ]*")
+    r"(?:(?:[0-9]*\.[0-9]+|[0-9]+\.)(?:[eE][+-]?[0-9]+)?|[0-9]+[eE][+-]?[0-9]+"
+    r"|0[xX][0-9a-fA-F]*\.?[0-9a-fA-F]*[pP][+-]?[0-9]+)[fFlLiIjJ]*")
 WHOLE = re.compile(r"(0[xX][0-9a-fA-F]+|0[bB][01]+|0[0-7]*|[1-9][0-9]*)([uU]?(?:ll|LL|[lL])?|(?:ll|LL|[lL])[uU])")
 DIRECTIVE = re.compile(r"#[ \t]*(\w*)")
 DIRECTIVES = set("include include_next import define undef if ifdef ifndef elif elifdef elifndef else endif".split())
 DIGRAPHS = {"<:", ":>", "<%", "%>", "%:", "%:%:"}
-# Escapes of which a character has at most 255.
-NUMBERED = re.compile(r"'\\(?:x[0-9a-fA-F]+|[0-7]{3})'")
+# Character constants that are outside: escapes of a number have at most 255.
+CHARACTERS = [
+    ("character value", re.compile(r"'\\(?:x[0-9a-fA-F]+|[0-7]{3})'")),
+    ("characters", re.compile(r"'(?:[ -&(-\[\]-~]|\\['\"?\\abfnrtv]){2,}'")),
+    ("escape", re.compile(r"'\\[^'\"?\\abfnrtvx0-7uU]'")),
+    ("character letter", re.compile(r"'[^\x00-\x7f]'")),
+]
 
 
 # What is outside by its tokens
 
 def outside(spot):
     text = spot.text()
+    if text in ("#", "##"):
+        return ("paste",)
     if text.startswith("#"):
-        return directive(spot, text)
+        return directive(text)
     if text[:1].isdigit() or text[:1] == "." and text[1:2].isdigit():
         return number(text)
     if text.endswith(("'", '"')):
@@ -45,9 +53,7 @@ def outside(spot):
     return keyword(spot, text) if text in OUTSIDE_WORDS else None
 
 
-def directive(spot, text):
-    if not spot.begins_line():
-        return ("paste",)
+def directive(text):
     word = DIRECTIVE.match(text)[1]
     return ("directive", word) if word in DIRECTIVES else None
 
@@ -72,21 +78,27 @@ def quoted(spot, text):
     if text[0] in "LuU":
         return ("wide",)
     if text[0] == "'":
-        if NUMBERED.fullmatch(text):
-            return ("character value",)
-        return ("characters",) if re.fullmatch(r"'(?:[^'\\\x00-\x1f\x7f-\uffff]|\\['\"?\\abfnrtv]){2,}'", text) else None
+        return next(((key,) for key, form in CHARACTERS if form.fullmatch(text)), None)
     if spot.kind(-1) == "extern":
         return ("extern C",)
-    called = before_bracket(spot, spot.opening(0))
-    if called in ASSEMBLY:
+    called = list(calls_around(spot))
+    if ASSEMBLY & set(called):
         return ("asm",)
-    return ("static assertion",) if called == "static_assert" else ("string",)
+    if ATTRIBUTES & set(called):
+        return ("attribute",)
+    return ("static assertion",) if called[:1] == ["static_assert"] else ("string",)
+
+
+def calls_around(spot):
+    """The names before the brackets that are open at the place, from the innermost on."""
+    opening = 0
+    while (opening := spot.opening(opening)) is not None and spot.kind(opening) == "(":
+        if called := before_bracket(spot, opening):
+            yield called
 
 
 def before_bracket(spot, opening):
     """The name before an open bracket, or before what may stand between `asm` and its bracket."""
-    if opening is None or spot.kind(opening) != "(":
-        return None
     place = opening - 1
     while spot.text(place) in OF_ASSEMBLY:
         place -= 1
@@ -154,7 +166,7 @@ def compiler_word(spot):
             return ("attribute",)
         if name in ASSEMBLY:
             return ("asm",)
-        if is_compiler_word(name) and not name.startswith("__builtin_") or name == "typeof":
+        if name in COMPILER_WORDS or name == "typeof":
             return "compiler word", name
     return None
 
@@ -162,6 +174,9 @@ def compiler_word(spot):
 def star(spot, wanted):
     if spot.kinds(-1, "[", "*", "]"):
         return ("size in brackets",)
+    opening = spot.opening(0)
+    if opening is not None and spot.opening(opening) is None and spot.text(opening - 1) == "main" and spot.kind(opening) == "(":
+        return ("main parameters",)
     return ("pointer",) if wanted in (OPERAND, "name") or spot.kind(-1) in SPECS else None
 
 
@@ -175,7 +190,7 @@ def two_ampersands(spot, wanted):
 
 def square(spot, wanted):
     before = spot.kind(-1)
-    if wanted in (OPERAND, TYPE) and spot.kind(1) == "[":
+    if spot.kind(1) == "[" and (wanted == TYPE or wanted == OPERAND and spot.begins_statement(0)):
         return ("attribute",)
     if wanted == OPERAND:
         return ("designator",) if before in ("{", ",") and spot.in_list() else None
@@ -268,7 +283,8 @@ def specs_word(spot, wanted):
 
 def closing_round(spot, wanted):
     """`(T *)e`, where `T` is no type."""
-    return type_name(spot.text(-2)) if spot.kinds(-3, "(", "name", "*") and spot.kind(1) in ("name", "(", "&", "number") else None
+    is_group = spot.kinds(-3, "(", "name", "*") and spot.kind(-4) not in HEADS | OPERANDS
+    return type_name(spot.text(-2)) if is_group and spot.kind(1) in ("name", "(", "&", "number") else None
 
 
 def label_word(spot, wanted):
@@ -292,9 +308,12 @@ def outer_name(spot):
     if spot.kind(1) in ("=", "[", ","):
         return "implicit int", spot.text()
     closing = spot.closing(1) if spot.kind(1) == "(" else None
-    if closing is None or not (spot.kind(closing + 1) == "{" or spot.kind(closing + 1) in SPECS):
+    if closing is None:
         return None
-    return "implicit int", spot.text()
+    behind = spot.declarations(closing + 1)
+    if spot.kind(behind) == "{" and spot.kind(behind - 1) in (")", ";"):
+        return "implicit int", spot.text()
+    return ("unknown word", spot.text()) if behind > closing + 1 else None
 
 
 def param_name(spot):
@@ -339,9 +358,10 @@ def type_name(text):
     return ("header type", text, HEADERS_OF_TYPES[text]) if text in HEADERS_OF_TYPES else ("type name", text)
 
 
-SIGNS = {"*": star, "&": ampersand, "&&": two_ampersands, "[": square, "(": round_bracket, "{": brace, "}": closing_brace, ")": closing_round,
-         ":": colon, ";": semicolon, ",": comma, "=": equals, "name": name, "case": label_word, "default": label_word,
-         "number": operand_behind, "character": operand_behind, **dict.fromkeys(SPECS, specs_word)}
+SIGNS = {"*": star, "&": ampersand, "&&": two_ampersands, "[": square, "(": round_bracket, ")": closing_round,
+         "{": brace, "}": closing_brace, ":": colon, ";": semicolon, ",": comma, "=": equals, "name": name,
+         "case": label_word, "default": label_word,
+         **dict.fromkeys(("number", "character", "~", "!"), operand_behind), **dict.fromkeys(SPECS, specs_word)}
 
 
 # What is outside by its types and names

@@ -28,8 +28,8 @@ WRITTEN = {"compile": slice(1, 3), "run": slice(2, 3), "eval": slice(2, 3), "mak
 # The greatest number that `make` takes as its first word, from 1 on.
 MOST_MADE = 100
 MOST_SOURCE = 1048576
-# Of a chain of calls so many are shown at each end.
-MOST_CALLS = 6
+# Of a chain of calls or loops so many are shown at each end.
+MOST_LINKS = 6
 
 
 def entries():
@@ -115,23 +115,23 @@ def filled(text, words):
     return re.sub(r"\{([1-9])\}", lambda it: words[int(it[1]) - 1], text)
 
 
-def chain_of(table, calls):
-    """A chain of calls, shown at both its ends where it is long."""
-    said = [filled(table["found call"][0], it) for it in calls]
-    return ", ".join(said if len(said) <= 2 * MOST_CALLS else said[:MOST_CALLS] + ["..."] + said[-MOST_CALLS:])
+def chain_of(table, key, links):
+    """A chain of calls or loops, shown at both its ends where it is long."""
+    said = [filled(table[f"found {key}"][0], [printable(word) for word in it]) for it in links]
+    return ", ".join(said if len(said) <= 2 * MOST_LINKS else said[:MOST_LINKS] + ["..."] + said[-MOST_LINKS:])
 
 
 def fact_of(table, fact):
     key, *words = fact
-    return filled(table[f"found {key}"][0], [printable(it) if isinstance(it, str) else chain_of(table, it) for it in words])
+    return filled(table[f"found {key}"][0], [printable(it) if isinstance(it, str) else chain_of(table, *it) for it in words])
 
 
 def construct_of(table, construct):
-    """The lines of a construct, and where it is one of C, the page that says what to write."""
+    """The lines of a construct, and the page that says what to write, unless they say all."""
     key, *words = construct
-    is_mistake = f"mistake {key}" in table
-    texts = table[f"mistake {key}" if is_mistake else f"construct {key}"]
-    return [filled(it, [printable(it) for it in words]) for it in texts] + ([] if is_mistake else table["construct"])
+    is_other = f"other {key}" in table
+    texts = table[f"other {key}" if is_other else f"construct {key}"]
+    return [filled(it, [printable(it) for it in words]) for it in texts] + ([] if is_other else table["construct"])
 
 
 def included(table, place):

@@ -11,20 +11,19 @@ import time
 import constructs
 from evaluator import tree
 from evaluator.answer import program_of
-from evaluator.facts import marker_name, relation_of
+from evaluator.facts import MOST_STARTS, Facts, greatest_starts, marker_name, relation_of
 from evaluator.kinds import Undefined
 from evaluator.meaning import Broken, Program
 from evaluator.parser import Parser, TooDeep, unit_of
-from evaluator.rules import MOST, Checker, check, count_params
+from evaluator.rules import MOST, Checker, Routine, RuleFault, Thing, check, count_params
 from evaluator.tokens import comment_end, tokens_of
 from spot import Spot
 
 # A run is followed for so long.
 SECONDS = 1.0
-BOUND, SIMILAR = "loopbound", 2
-DROPPED = re.compile(rb'(?:#[ \t]*pragma|_Pragma[ \t]*\([ \t]*")[ \t]*([^ \t"\n\r]+)[ \t]*([^ \t"\n\r]*)')
-NUMBERS = re.compile(rb"[ \t]*loopbound[ \t]+min[ \t]+(\w+)[ \t]+max[ \t]+(\w+)[ \t]*")
-PRAGMAS = (tree.Loop, tree.Marker, tree.Restriction)
+BOUND, MARKER = "loopbound", "marker"
+PRAGMA = re.compile(rb'(?:#[ \t]*pragma|_Pragma[ \t]*\([ \t]*")[ \t]*([^ \t"\n\r]+)[ \t]*([^ \t"\n\r]*)')
+BOUNDS = re.compile(rb"[ \t]*loopbound[ \t]+min[ \t]+(\w+)[ \t]+max[ \t]+(\w+)[ \t]*")
 
 
 class Files:
@@ -57,7 +56,7 @@ def calls_below(function):
 def chain(files, steps):
     """A fact for a chain of calls: each the name of who calls, and the call."""
     parts = [(caller, call.name, files.at(call.at)) for caller, call in steps]
-    return [("chain", parts)] if parts else []
+    return [("chain", ("call", parts))] if parts else []
 
 
 def cycle(files, at):
@@ -100,10 +99,19 @@ class Followed(Program):
             raise Late
 
 
+def input_of(name):
+    """The bytes of an input that can be read again, or None."""
+    if not (stat.S_ISREG(os.stat(name).st_mode) or os.path.samefile(name, os.devnull)):
+        return None
+    with open(name, "rb") as file:
+        return file.read()
+
+
 def run_to(files, at):
     """How the run comes to the place where it ends: the calls that it is in."""
-    with open(files.reads[1], "rb") as file:
-        data = file.read()
+    data = input_of(files.reads[1])
+    if data is None:
+        return
     run = program_of(files.source, data, Followed)
     try:
         run.run()
@@ -165,10 +173,80 @@ def too_deep(files, _):
         yield "deep", files.at(parser.tokens[parser.next - 1].at)
 
 
+def heaviest(files, _):
+    """The loops, one in another, in which the most is executed by the bounds."""
+    checker = Checker(unit(files))
+    checker.run()
+    facts = Facts(checker)
+    facts.refuse_recursion()
+    facts.read()
+    loops, node, known = [], checker.routines["main"].node, {}
+    while node is not None:
+        if isinstance(node, tree.Loop):
+            loops.append((files.at(node.at), str(node.limits[1])))
+        node = max(parts_of(node), key=lambda it: it[0] * facts.most(it[1], known, True), default=(0, None))[1]
+    if loops:
+        yield "heaviest", ("loop", loops)
+
+
+def parts_of(node):
+    """The parts of a node and the function that it calls, each with how often the node executes it at most."""
+    times = max(1, greatest_starts(node)) if isinstance(node, tree.Loop) else 1
+    once = [getattr(node, "start", None)]
+    if isinstance(node, tree.Call) and node.refers.node is not None:
+        yield 1, node.refers.node
+    yield from ((1 if it in once else times, it) for it in node.parts())
+
+
 def many_parameters(files, _):
     node = next(it for it in tree.nodes_of(unit(files))
                 if isinstance(it, (tree.Function, tree.Prototype)) and count_params(it) > MOST["parameters"])
     yield "function", node.name, files.at(node.at)
+
+
+# Rules
+
+def other_main(files, _):
+    """A `main` of another type."""
+    node = next((it for it in unit(files).items if isinstance(it, tree.Function) and it.name == "main"), None)
+    if node:
+        yield "main", files.at(node.name_at)
+
+
+def misfit(files, at):
+    """Why a call doesn't fit: what is called, the number of arguments, or an argument for an array parameter."""
+    checker = Checker(unit(files))
+    try:
+        checker.run()
+    except RuleFault as fault:
+        order, *_ = min(checker.faults)
+        call = next(it for it in tree.nodes_of(checker.unit) if it.order == order)
+        return misfit_of(call) if fault.at == at and isinstance(call, tree.Call) else []
+    return []
+
+
+def misfit_of(call):
+    routine = call.refers
+    if not isinstance(routine, Routine):
+        yield "no function", call.name
+    elif len(routine.params) != len(call.arguments):
+        yield "arguments", call.name, str(len(routine.params)), str(len(call.arguments))
+    else:
+        wrong = (argument_fault(number, *it) for number, it in enumerate(zip(call.arguments, routine.params), 1))
+        yield from [it for it in wrong if it][:1]
+
+
+def argument_fault(number, argument, param):
+    """What is wrong with an argument for an array parameter."""
+    kind, is_array, is_const = param
+    thing = argument.refers if isinstance(argument, tree.Name) else None
+    if not is_array:
+        return None
+    if not (isinstance(thing, Thing) and thing.is_array):
+        return "array argument", str(number), kind.name
+    if thing.kind != kind:
+        return "other array", str(number), thing.kind.name, kind.name
+    return ("const array", str(number)) if thing.is_const and not is_const else None
 
 
 # Pragmas
@@ -183,10 +261,12 @@ def differences(one, other):
     return row[-1]
 
 
-def is_misspelt(first, second):
-    """Whether the words of a dropped pragma are those of a bound in another spelling."""
-    plain = [it.lower().replace("_", "").replace("-", "").rstrip(":,;") for it in (first, first + second)]
-    return any(len(it) < 20 and differences(it, BOUND) <= SIMILAR for it in plain)
+def is_misspelt(word, right):
+    """Whether a word is another one with other capitals or signs between its parts, one letter wrong, or two changed places."""
+    plain = re.sub(r"[-_ ]|[:,;(].*", "", word.lower())
+    if word == right or len(plain) > len(right) + 1:
+        return False
+    return differences(plain, right) <= (2 if sorted(plain) == sorted(right) else 1)
 
 
 def dropped(files, at):
@@ -194,11 +274,11 @@ def dropped(files, at):
     spot = Spot(files.source, at)
     if not spot.found:
         return
-    place = spot.token(-1).at if spot.token(-1) else 0
-    for match in list(pragmas(files.source, place, at)):
+    for match in pragmas(files.source, spot.token(-1).at if spot.token(-1) else 0, at):
         first, second = (it.decode(errors="replace") for it in match.groups())
-        if first != BOUND and is_misspelt(first, second):
-            yield "misspelt", first if differences(first.lower(), BOUND) <= SIMILAR + 1 else f"{first} {second}", files.at(match.start())
+        word = next((it for it in (first, f"{first} {second}") if is_misspelt(it, BOUND)), None)
+        if word:
+            yield "misspelt", word, files.at(match.start()), BOUND
 
 
 def pragmas(source, place, end):
@@ -207,7 +287,7 @@ def pragmas(source, place, end):
         if source.startswith((b"/*", b"//"), place):
             place = comment_end(source, place) or end
             continue
-        match = DROPPED.match(source, place, end)
+        match = PRAGMA.match(source, place, end)
         if match:
             yield match
         place = match.end() if match else place + 1
@@ -215,27 +295,33 @@ def pragmas(source, place, end):
 
 def pragma_fault(files, at):
     """What is wrong with a pragma: the numbers of a bound, or the name of a marker."""
-    node = next(it for it in tree.nodes_of(unit(files)) if at == getattr(it, "bound_at", it.at) and isinstance(it, PRAGMAS))
-    return marker_fault(files, node) if isinstance(node, tree.Marker) else bound_fault(node) if isinstance(node, tree.Loop) else []
+    nodes = list(tree.nodes_of(unit(files)))
+    loop = next((it for it in nodes if isinstance(it, tree.Loop) and it.bound_at == at), None)
+    if loop:
+        return bound_fault(loop)
+    marker = next((it for it in nodes if isinstance(it, tree.Marker) and it.at == at), None)
+    return marker_fault(files, nodes, marker) if marker else []
 
 
 def bound_fault(loop):
-    match = NUMBERS.fullmatch(loop.bound)
+    match = BOUNDS.fullmatch(loop.bound)
     if not match:
         return
     least, most = (it.decode() for it in match.groups())
     word = next((it for it in (least, most) if not it.isdigit()), None)
     if word is None and int(least[-99:]) > int(most[-99:]):
         yield "above", least, most
+    elif word is None and int(most[-99:]) > MOST_STARTS:
+        yield "above", most, str(MOST_STARTS)
     elif word and word.isidentifier():
         yield "macro", word
 
 
-def marker_fault(files, marker):
+def marker_fault(files, nodes, marker):
     """Another marker, or a function, of the same name."""
     name = marker_name(marker)
-    for node in tree.nodes_of(unit(files)) if name else []:
-        is_marker = isinstance(node, tree.Marker) and marker_name(node) == name and node.at != marker.at
+    for node in nodes if name else []:
+        is_marker = isinstance(node, tree.Marker) and node is not marker and marker_name(node) == name
         is_function = isinstance(node, (tree.Function, tree.Prototype)) and node.name == name
         if is_marker or is_function:
             yield "same name", name, files.at(node.at)
@@ -245,9 +331,16 @@ def marker_fault(files, marker):
 def unknown_name(files, at):
     """What a restriction names and nothing is."""
     nodes = list(tree.nodes_of(unit(files)))
-    known = {it.name for it in nodes if isinstance(it, tree.Function)} | {marker_name(it) for it in nodes if isinstance(it, tree.Marker)}
+    known = {it.name for it in nodes if isinstance(it, tree.Function)}
+    known |= {marker_name(it) for it in nodes if isinstance(it, tree.Marker)}
     relation = next(relation_of(it) for it in nodes if isinstance(it, tree.Restriction) and it.at == at)
-    yield "unknown", next(name for _, name in relation.terms() if name not in known)
+    unknown = next(name for _, name in relation.terms() if name not in known)
+    yield "unknown", unknown
+    for match in pragmas(files.source, 0, len(files.source)):
+        first, second = (it.decode(errors="replace") for it in match.groups())
+        if second == unknown and is_misspelt(first, MARKER):
+            yield "misspelt", first, files.at(match.start()), MARKER
+            return
 
 
 def first_restriction(files, _):
@@ -292,16 +385,10 @@ def unwritten(files, _):
         yield "file", files.writes[0], "writing it failed"
 
 
-def other_main(files, _):
-    """A `main` of another type."""
-    node = next((it for it in unit(files).items if isinstance(it, tree.Function) and it.name == "main"), None)
-    if node:
-        yield "main", files.at(node.name_at)
-
-
 FINDERS = {
-    "refused type-13": other_main,
-    "refused recursion": cycle, "refused bound": dropped, "refused pragma": pragma_fault, "undefined": run_to, "broken": run_to,
-    "refused name": unknown_name, "form": first_restriction, "limit depth": too_deep, "limit nodes": largest_part, "limit globals": largest_object(False), "limit locals": largest_object(True),
-    "limit parameters": many_parameters, "read fault": unread, "write fault": unwritten,
+    "refused type-7": misfit, "refused type-13": other_main, "refused recursion": cycle, "refused bound": dropped,
+    "refused pragma": pragma_fault, "refused name": unknown_name, "undefined": run_to, "broken": run_to,
+    "limit depth": too_deep, "limit nodes": largest_part, "limit parameters": many_parameters,
+    "limit most": heaviest, "limit globals": largest_object(False), "limit locals": largest_object(True),
+    "form": first_restriction, "read fault": unread, "write fault": unwritten,
 }

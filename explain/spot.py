@@ -104,9 +104,13 @@ class Spot:
             ahead += 1
         return words, ahead
 
-    def begins_line(self):
-        """Whether nothing stands before the place on its line, but for comments."""
-        return self.kind(-1) is None or not self.on_one_line(-1, 0)
+    def declarations(self, ahead):
+        """The distance behind declarations without initial values, of no more than words, names and arrays."""
+        if self.kind(ahead) not in SPECS:
+            return ahead
+        while self.kind(ahead) in SPECS or self.kind(ahead) in ("name", ",", ";", "*", "[", "]", "number"):
+            ahead += 1
+        return ahead
 
     def is_declarator(self, ahead):
         """Whether the bracket that closes at this distance holds the parameters of a declared function."""
