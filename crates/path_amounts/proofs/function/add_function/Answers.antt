@@ -12,10 +12,10 @@ use Rattle.loop_passes.specs.Turns.{is_tight, turnings}
 use Rattle.loop_amounts.specs.declared.back.Back.{Back}
 use Rattle.loop_amounts.specs.Wraps.{wrapped, SameCounts}
 use Rattle.loop_amounts.specs.Made.{HasTurned}
-use Rattle.path_places.specs.Places.{place_of, loops_of}
+use Rattle.path_places.specs.Places.{place_of, loops_of, is_walked}
 use Rattle.path_places.specs.Laws.{function_steps}
 use Rattle.path_rows.specs.Driver.{function_loops}
-use Rattle.path_flows.specs.Flows.{function_counts}
+use Rattle.path_flows.specs.Flows.{counted, called, function_counts}
 use Rattle.path_walks.specs.Prices.{prices_of}
 use Rattle.path_walks.proofs.PointLemmas.{steps_rise}
 use Rattle.path_amounts.proofs.FlowLemmas.{counts_by, backs_are_in, flow_by}
@@ -35,7 +35,7 @@ add_backs-requires c =
     let rs = function_loops s ls q v.worths p in
     let low = to_z w128 (of_z w128 c.args.priced.low) in
     let small : FitsSigned w128 c.args.priced.low = search rules in
-    let room = c.copy.new.into in
+    let room = c.copy.new.tally.room.now in
     let counts = c.in_ok-made.made.counts.items in
     let backs = c.in_ok-made.made.backs.items in
     let n = length c.args.worths.now - 1 in
@@ -50,11 +50,11 @@ add_backs-requires c =
     let mv = c.moves-moves.ensures.value in
     let first = c.place_of-first.ensures.value ∙ ap (λ (xs : List Move). place_of xs p.first) mv in
     let end = c.place_of-end.ensures.value ∙ ap (λ (xs : List Move). place_of xs p.end) mv in
-    let long : length room ≡ length s.moves + 1 = c.copy.auto.into ∙ c.requires.room in
-    let both = counts_by s ls q v p c.requires.function room c.args.starts.now counts backs long c.requires.starts
-    (λ a ge lt. ap wrapped (c.copy.ensures a (subst (λ (k : ℕ). k ≤ a) (sym first) ge) (subst (λ (k : ℕ). a < k) (sym end) lt))) turned in
-    let amounts : length c.add_counts.new.amounts ≡ length s.moves = c.add_counts.auto.amounts ∙ c.requires.amounts in
-    subst (λ (k : ℕ). All (λ (b : Back). b.place < k) c.deref-5.result.now) (sym amounts) (backs_are_in s ls q v p c.requires.function c.args.starts.now c.deref-5.result.now (c.deref-5.ensures.value ∙ both.1))
+    let long : length room ≡ length s.moves + 1 = c.copy.ensures.room ∙ c.requires.room in
+    let both = counts_by s ls q v p c.requires.function room c.args.tally.now.starts.now counts backs long c.requires.starts
+    (λ a ge lt. ap wrapped (c.copy.ensures.copied a (subst (λ (k : ℕ). k ≤ a) (sym first) ge) (subst (λ (k : ℕ). a < k) (sym end) lt))) turned in
+    let amounts : length c.add_counts.new.tally.amounts.now ≡ length s.moves = c.add_counts.ensures.long_amounts ∙ (ap length c.copy.ensures.amounts ∙ c.requires.amounts) in
+    subst (λ (k : ℕ). All (λ (b : Back). b.place < k) c.deref-5.result.now) (sym amounts) (backs_are_in s ls q v p c.requires.function c.args.tally.now.starts.now c.deref-5.result.now (c.deref-5.ensures.value ∙ both.1))
 
 pub returns-clause-flow : goal.returns-clause-flow
 returns-clause-flow c =
@@ -67,7 +67,7 @@ returns-clause-flow c =
     let rs = function_loops s ls q v.worths p in
     let low = to_z w128 (of_z w128 c.args.priced.low) in
     let small : FitsSigned w128 c.args.priced.low = search rules in
-    let room = c.copy.new.into in
+    let room = c.copy.new.tally.room.now in
     let counts = c.in_ok-made.made.counts.items in
     let backs = c.in_ok-made.made.backs.items in
     let n = length c.args.worths.now - 1 in
@@ -82,8 +82,12 @@ returns-clause-flow c =
     let mv = c.moves-moves.ensures.value in
     let first = c.place_of-first.ensures.value ∙ ap (λ (xs : List Move). place_of xs p.first) mv in
     let end = c.place_of-end.ensures.value ∙ ap (λ (xs : List Move). place_of xs p.end) mv in
-    let long : length room ≡ length s.moves + 1 = c.copy.auto.into ∙ c.requires.room in
-    let both = counts_by s ls q v p c.requires.function room c.args.starts.now counts backs long c.requires.starts
-    (λ a ge lt. ap wrapped (c.copy.ensures a (subst (λ (k : ℕ). k ≤ a) (sym first) ge) (subst (λ (k : ℕ). a < k) (sym end) lt))) turned in
-    flow_by s ls q v p c.requires.function c.args.starts.now c.add_counts.new.starts c.args.amounts.now c.add_counts.new.amounts c.add_backs.new.amounts c.deref-4.result.now c.deref-5.result.now
-    (subst (λ (us : List ℕ). SameCounts us (function_counts s ls q v p c.args.starts.now)) (sym c.deref-4.ensures.value) both.0) (c.deref-5.ensures.value ∙ both.1) c.add_counts.ensures.amounts c.add_counts.ensures.starts c.add_backs.ensures
+    let long : length room ≡ length s.moves + 1 = c.copy.ensures.room ∙ c.requires.room in
+    let both = counts_by s ls q v p c.requires.function room c.args.tally.now.starts.now counts backs long c.requires.starts
+    (λ a ge lt. ap wrapped (c.copy.ensures.copied a (subst (λ (k : ℕ). k ≤ a) (sym first) ge) (subst (λ (k : ℕ). a < k) (sym end) lt))) turned in
+    let added =
+    subst (λ (us : List ℕ). SameCounts c.add_counts.new.tally.amounts.now (counted (is_walked s.claims ls p) s.moves us c.deref-4.result.now)) c.copy.ensures.amounts c.add_counts.ensures.amounts in
+    let started =
+    subst (λ (us : List ℕ). SameCounts c.add_counts.new.tally.starts.now (called s.moves (is_walked s.claims ls p) s.moves c.deref-4.result.now us)) c.copy.ensures.starts c.add_counts.ensures.starts in
+    flow_by s ls q v p c.requires.function c.args.tally.now.starts.now c.add_counts.new.tally.starts.now c.args.tally.now.amounts.now c.add_counts.new.tally.amounts.now c.add_backs.new.amounts c.deref-4.result.now c.deref-5.result.now
+    (subst (λ (us : List ℕ). SameCounts us (function_counts s ls q v p c.args.tally.now.starts.now)) (sym c.deref-4.ensures.value) both.0) (c.deref-5.ensures.value ∙ both.1) added started c.add_backs.ensures
