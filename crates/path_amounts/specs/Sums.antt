@@ -2,11 +2,16 @@
 use Rattle.std.specs.Prelude.{◌≡◌, ℕ, ◌+◌, ◌&&◌, nat_lt, List, [], ◌∷◌, length, Bool, slice_set, if◌then◌else◌}
 use Rattle.code_flow_system.specs.declared.moves.Move.{Move}
 use Rattle.code_flow_system.specs.declared.shapes.LoopShape.{LoopShape}
+use Rattle.code_flow_system.specs.declared.shapes.Span.{Span}
 use Rattle.code_flow_system.specs.Claims.{Claims}
+use Rattle.code_flow_system.specs.Systems.{System}
+use Rattle.loop_walks.specs.Levels.{Level}
 use Rattle.loop_flows.specs.Passes.{amount_at}
 use Rattle.loop_amounts.specs.declared.back.Back.{Back}
+use Rattle.loop_amounts.specs.Made.{backs_by}
 use Rattle.loop_amounts.specs.Wraps.{wrapped, SameCounts}
-use Rattle.path_flows.specs.Flows.{Flowing, call_starts}
+use Rattle.path_flows.specs.Flows.{Flowing, call_starts, function_backs, function_counts, function_turnings}
+use Rattle.path_rows.specs.Driver.{Prices}
 use Rattle.path_walks.specs.Opens.{is_open}
 
 -- the same but for multiples of 2^128
@@ -16,6 +21,11 @@ pub record SameFlow (f g : Flowing) : Type 0 where
 
 abbrev pub flowing : List ℕ → List ℕ → Flowing
 flowing starts amounts = record { starts = starts; amounts = amounts }
+
+-- how often the steps of a function are made, and its jumps back, by what starts it
+pub record IsMade (s : System) (ls : List LoopShape) (q : Prices) (v : Level) (p : Span) (starts counts : List ℕ) (backs : List Back) : Type 0 where
+  pub counts_are : SameCounts counts (function_counts s ls q v p starts)
+  pub backs_are : backs ≡ backs_by (function_turnings s ls q v p) (function_backs s ls q v p starts)
 
 -- jumps back are made so often more
 abbrev pub backed : List Back → List ℕ → List ℕ

@@ -18,6 +18,7 @@ mod parts;
 mod put;
 mod sums;
 mod system;
+mod tally;
 
 pub use costs::{Costed, cost_flow};
 pub use system::flow;

@@ -4,6 +4,7 @@ ghost use Rattle.loop_flows.specs.Passes.{amount_at};
 ghost use Rattle.path_places.specs.Places.{place_of};
 ghost use Rattle.path_amounts.specs.Puts.{IsPut};
 
+use crate::tally::Tally;
 use code_flow_system::Span;
 use path_walks::{Priced, place_of};
 
@@ -31,13 +32,17 @@ pub(crate) fn unsettle(priced: Priced, span: Span, worths: &mut [i128], weights:
     put(weights, first, end, 0);
 }
 
-/// Copies the counts of the places from one up to another.
-pub(crate) fn copy(counts: &[u128], into: &mut [u128], from: usize, to: usize)
-    requires counts { to ≤ length counts.now }
-    requires into { to ≤ length into.now }
-    ensures { (a : ℕ) → from ≤ a → a < to → amount_at into.new a ≡ amount_at counts.now a }
+/// Copies what is started at the places from one up to another into the room.
+pub(crate) fn copy(tally: &mut Tally, from: usize, to: usize)
+    requires starts { to ≤ length tally.now.starts.now }
+    requires room { to ≤ length tally.now.room.now }
+    ensures starts { tally.new.starts.now ≡ tally.old.starts.now }
+    ensures amounts { tally.new.amounts.now ≡ tally.old.amounts.now }
+    ensures room { length tally.new.room.now ≡ length tally.old.room.now }
+    ensures copied { (a : ℕ) → from ≤ a → a < to → amount_at tally.new.room.now a ≡ amount_at tally.old.starts.now a }
 {
     for place in from..to {
-        into[place] = counts[place];
+        let count = tally.starts[place];
+        tally.room[place] = count;
     }
 }

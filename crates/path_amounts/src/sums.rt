@@ -7,6 +7,7 @@ ghost use Rattle.path_places.specs.Places.{is_walked};
 ghost use Rattle.path_walks.specs.Opens.{AddressesRise, GoesBack, HasLoops};
 ghost use Rattle.path_amounts.specs.Sums.{backed, counts_next, HasCounted};
 
+use crate::tally::Tally;
 use code_flow_system::{Move, Span};
 use loop_amounts::{Back, add};
 use path_walks::{Priced, is_open, place_of};
@@ -30,19 +31,14 @@ struct Counts<'a> {
 }
 
 /// Adds the next count to a move's, if a walk goes through its address, and says how many counts are used then.
-fn add_move(
-    priced: Priced,
-    place: usize,
-    step: &Move,
-    counts: Counts,
-    amounts: &mut [u128],
-    starts: &mut [u128],
-) -> usize
+fn add_move(priced: Priced, place: usize, step: &Move, counts: Counts, tally: &mut Tally) -> usize
     requires headers { AddressesRise (λ l. l.header) priced.shapes.now }
     requires back { GoesBack priced.shapes.now step.now }
-    requires place { place < length amounts.now }
-    requires long { length priced.system.now.moves < length starts.now }
-    ensures { HasCounted priced.entry.system.now.moves (counts_next priced.entry.system.now.claims priced.entry.shapes.now step.now.at counts.entry.all.now counts.entry.used) step.now place (slice_index_or counts.entry.all.now counts.entry.used 0) counts.entry.used amounts.old starts.old result amounts.new starts.new }
+    requires place { place < length tally.now.amounts.now }
+    requires long { length priced.system.now.moves < length tally.now.starts.now }
+    ensures room { tally.new.room.now ≡ tally.old.room.now }
+    ensures long_starts { length tally.new.starts.now ≡ length tally.old.starts.now }
+    ensures counted { HasCounted priced.entry.system.now.moves (counts_next priced.entry.system.now.claims priced.entry.shapes.now step.now.at counts.entry.all.now counts.entry.used) step.now place (slice_index_or counts.entry.all.now counts.entry.used 0) counts.entry.used tally.old.amounts.now tally.old.starts.now result tally.new.amounts.now tally.new.starts.now }
 {
     let Counts { all, used } = counts;
     let moves = priced.system.moves();
@@ -52,24 +48,21 @@ fn add_move(
     if !is_open(priced.system.claims(), priced.shapes, step) {
         return used;
     }
-    add(amounts, place, all[used]);
-    start_called(moves, step, all[used], starts);
+    add(tally.amounts, place, all[used]);
+    start_called(moves, step, all[used], tally.starts);
     used + 1
 }
 
 /// Adds the counts of a function's steps to those of its moves, and starts what it calls.
-pub(crate) fn add_counts(
-    priced: Priced,
-    span: Span,
-    counts: &[u128],
-    amounts: &mut [u128],
-    starts: &mut [u128],
-)
+pub(crate) fn add_counts(priced: Priced, span: Span, counts: &[u128], tally: &mut Tally)
     requires loops { HasLoops priced.system.now priced.shapes.now }
-    requires amounts { length amounts.now ≡ length priced.system.now.moves }
-    requires long { length priced.system.now.moves < length starts.now }
-    ensures amounts { SameCounts amounts.new (counted (is_walked priced.entry.system.now.claims priced.entry.shapes.now span) priced.entry.system.now.moves amounts.old counts.now) }
-    ensures starts { SameCounts starts.new (called priced.entry.system.now.moves (is_walked priced.entry.system.now.claims priced.entry.shapes.now span) priced.entry.system.now.moves counts.now starts.old) }
+    requires amounts { length tally.now.amounts.now ≡ length priced.system.now.moves }
+    requires long { length priced.system.now.moves < length tally.now.starts.now }
+    ensures room { tally.new.room.now ≡ tally.old.room.now }
+    ensures long_amounts { length tally.new.amounts.now ≡ length tally.old.amounts.now }
+    ensures long_starts { length tally.new.starts.now ≡ length tally.old.starts.now }
+    ensures amounts { SameCounts tally.new.amounts.now (counted (is_walked priced.entry.system.now.claims priced.entry.shapes.now span) priced.entry.system.now.moves tally.old.amounts.now counts.now) }
+    ensures starts { SameCounts tally.new.starts.now (called priced.entry.system.now.moves (is_walked priced.entry.system.now.claims priced.entry.shapes.now span) priced.entry.system.now.moves counts.now tally.old.starts.now) }
 {
     let moves = priced.system.moves();
     let first = place_of(moves, span.first);
@@ -77,7 +70,7 @@ pub(crate) fn add_counts(
     let mut used = 0;
     for i in first..end {
         let next = Counts { all: counts, used };
-        used = add_move(priced, i, &moves[i], next, amounts, starts);
+        used = add_move(priced, i, &moves[i], next, tally);
     }
 }
 

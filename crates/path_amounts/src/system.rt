@@ -13,6 +13,7 @@ ghost use Rattle.path_amounts.specs.Sums.{flowing};
 use crate::function::add_function;
 use crate::parts::{copied, parts};
 use crate::put::unsettle;
+use crate::tally::Tally;
 use code_flow_system::{Part, Span};
 use path_walks::{Priced, Settled, place_of};
 use std::alloc::{AllocError, Global};
@@ -24,22 +25,21 @@ fn add_functions(
     spans: &[Span],
     worths: &mut [i128],
     weights: &mut [i128],
-    room: &mut [u128],
-    starts: &mut [u128],
-    amounts: &mut [u128],
+    tally: &mut Tally,
 ) -> Result<(), AllocError>
     requires whole { IsReachedWhole priced.system.now priced.shapes.now spans.now }
     requires prices { length priced.prices.now ≡ length priced.system.now.moves }
     requires small { AllStaySmall priced.system.now priced.shapes.now (prices_of priced.system.now priced.prices.now priced.low) (blank (length priced.system.now.moves) priced.low) spans.now }
     requires level { level_of worths.now weights.now ≡ final_level priced.system.now priced.shapes.now spans.now (prices_of priced.system.now priced.prices.now priced.low) }
-    requires room { length room.now ≡ length priced.system.now.moves + 1 }
-    requires flow { flowing starts.now amounts.now ≡ first_flow priced.system.now }
-    ensures { OnOk result (SameCounts amounts.new (amounts_of priced.entry.system.now priced.entry.shapes.now spans.now (prices_of priced.entry.system.now priced.entry.prices.now priced.entry.low))) }
+    requires room { length tally.now.room.now ≡ length priced.system.now.moves + 1 }
+    requires flow { flowing tally.now.starts.now tally.now.amounts.now ≡ first_flow priced.system.now }
+    ensures amounts { OnOk result (length tally.new.amounts.now ≡ length tally.old.amounts.now) }
+    ensures flow { OnOk result (SameCounts tally.new.amounts.now (amounts_of priced.entry.system.now priced.entry.shapes.now spans.now (prices_of priced.entry.system.now priced.entry.prices.now priced.entry.low))) }
 {
     for k in 0..spans.len() {
         let span = spans[spans.len() - 1 - k];
         unsettle(priced, span, worths, weights);
-        add_function(alloc, priced, span, worths, weights, room, starts, amounts)?;
+        add_function(alloc, priced, span, worths, weights, tally)?;
         unsettle(priced, span, worths, weights);
     }
     Ok(())
@@ -52,21 +52,19 @@ fn list_flow(
     spans: &[Span],
     worths: &mut [i128],
     weights: &mut [i128],
-    room: &mut [u128],
-    starts: &mut [u128],
-    amounts: &mut [u128],
+    tally: &mut Tally,
 ) -> Result<Vec<Part>, AllocError>
     requires whole { IsReachedWhole priced.system.now priced.shapes.now spans.now }
     requires prices { length priced.prices.now ≡ length priced.system.now.moves }
     requires small { AllStaySmall priced.system.now priced.shapes.now (prices_of priced.system.now priced.prices.now priced.low) (blank (length priced.system.now.moves) priced.low) spans.now }
     requires level { level_of worths.now weights.now ≡ final_level priced.system.now priced.shapes.now spans.now (prices_of priced.system.now priced.prices.now priced.low) }
-    requires room { length room.now ≡ length priced.system.now.moves + 1 }
-    requires flow { flowing starts.now amounts.now ≡ first_flow priced.system.now }
+    requires room { length tally.now.room.now ≡ length priced.system.now.moves + 1 }
+    requires flow { flowing tally.now.starts.now tally.now.amounts.now ≡ first_flow priced.system.now }
     requires fits { All (λ u. u < 2 ^ 127) (amounts_of priced.system.now priced.shapes.now spans.now (prices_of priced.system.now priced.prices.now priced.low)) }
     ensures { IfOk result (λ v. v.items ≡ parts_of priced.entry.system.now.moves (amounts_of priced.entry.system.now priced.entry.shapes.now spans.now (prices_of priced.entry.system.now priced.entry.prices.now priced.entry.low))) }
 {
-    add_functions(alloc, priced, spans, worths, weights, room, starts, amounts)?;
-    parts(alloc, priced.system.moves(), amounts)
+    add_functions(alloc, priced, spans, worths, weights, tally)?;
+    parts(alloc, priced.system.moves(), tally.amounts)
 }
 
 /// The moves of the flow of a system, where the walks found these worths and weights.
@@ -90,14 +88,10 @@ pub fn flow(
     let mut starts = vec![in alloc; 0; moves.len() + 1]?;
     let mut amounts = vec![in alloc; 0; moves.len()]?;
     starts[place_of(moves, priced.system.entry())] = 1;
-    list_flow(
-        alloc,
-        priced,
-        spans,
-        &mut worths,
-        &mut weights,
-        &mut room,
-        &mut starts,
-        &mut amounts,
-    )
+    let mut tally = Tally {
+        starts: &mut starts,
+        amounts: &mut amounts,
+        room: &mut room,
+    };
+    list_flow(alloc, priced, spans, &mut worths, &mut weights, &mut tally)
 }

@@ -17,7 +17,7 @@ loop-k-init c =
     let q = prices_of s c.args.priced.prices.now c.args.priced.low in
     let all : length ps - 0 ≡ length ps = omega arith in
     let long = final-long s ls ps c.requires.whole q c.requires.small in (
-      going_start s ls ps c.requires.whole q (level_of c.args.worths.now c.args.weights.now) (flowing c.args.starts.now c.args.amounts.now) (length ps - 0) all c.requires.level c.requires.flow,
+      going_start s ls ps c.requires.whole q (level_of c.args.worths.now c.args.weights.now) (flowing c.args.tally.now.starts.now c.args.tally.now.amounts.now) (length ps - 0) all c.requires.level c.requires.flow,
       ap (λ v. length v.worths) c.requires.level ∙ long.0,
       ap (λ v. length v.weights) c.requires.level ∙ long.1,
       c.requires.room,
@@ -45,7 +45,7 @@ add_function-requires-clause-function c =
     let lt : i < length ps = omega (arith, t) in
     let d : Span = record { first = 0; end = 0 } in
     let now = level_of c.loop-k.worths c.loop-k.weights in
-    let f = flowing c.loop-k.starts c.loop-k.amounts in
+    let f = flowing c.loop-k.tally.starts.now c.loop-k.tally.amounts.now in
     let level = level_of c.unsettle.new.worths c.unsettle.new.weights in
     let back = level_before s ls ps c.requires.whole q c.requires.small i j d before lt now f c.unsettle.new.worths c.unsettle.new.weights c.loop-k.invariant.0 c.unsettle.auto.worths c.unsettle.auto.weights c.unsettle.ensures.worths c.unsettle.ensures.weights in
     function_fits s ls ps c.requires.whole q c.requires.small i j d before lt level back
@@ -64,10 +64,10 @@ loop-k-preserved c =
     let lt : i < length ps = omega (arith, t) in
     let d : Span = record { first = 0; end = 0 } in
     let now = level_of c.loop-k.worths c.loop-k.weights in
-    let f = flowing c.loop-k.starts c.loop-k.amounts in
+    let f = flowing c.loop-k.tally.starts.now c.loop-k.tally.amounts.now in
     let level = level_of c.unsettle.new.worths c.unsettle.new.weights in
     let back = level_before s ls ps c.requires.whole q c.requires.small i j d before lt now f c.unsettle.new.worths c.unsettle.new.weights c.loop-k.invariant.0 c.unsettle.auto.worths c.unsettle.auto.weights c.unsettle.ensures.worths c.unsettle.ensures.weights in
-    let g = flowing c.add_function.new.starts c.add_function.new.amounts in
+    let g = flowing c.add_function.new.tally.starts.now c.add_function.new.tally.amounts.now in
     let done : i ≡ length ps - (k + 1) = omega arith in
     let going = going_next s ls ps c.requires.whole q c.requires.small i j d before lt now f g level c.add_function.new.worths c.add_function.new.weights c.unsettle-in-loop-k.new.worths c.unsettle-in-loop-k.new.weights c.loop-k.invariant.0 back
     c.in_ok-add_function.ensures.worths c.in_ok-add_function.ensures.weights c.unsettle-in-loop-k.auto.worths c.unsettle-in-loop-k.auto.weights c.unsettle-in-loop-k.ensures.worths c.unsettle-in-loop-k.ensures.weights c.in_ok-add_function.ensures.flow in
@@ -80,19 +80,27 @@ loop-k-preserved c =
     let v2 = c.add_function.auto.weights in
     let v3 = c.unsettle-in-loop-k.auto.weights in
     let r = c.loop-k.invariant.3 in
-    let r1 = c.add_function.auto.room in
+    let r1 = c.in_ok-add_function.ensures.room in
     let x = c.loop-k.invariant.4 in
-    let x1 = c.add_function.auto.starts in
+    let x1 = c.in_ok-add_function.ensures.starts in
     let y = c.loop-k.invariant.5 in
-    let y1 = c.add_function.auto.amounts in
+    let y1 = c.in_ok-add_function.ensures.amounts in
     (subst (λ (m : ℕ). Going s ls ps q (level_of c.unsettle-in-loop-k.new.worths c.unsettle-in-loop-k.new.weights) g m) done going, omega (arith, w, w1, w2, w3), omega (arith, v, v1, v2, v3), omega (arith, r, r1), omega (arith, x, x1), omega (arith, y, y1))
 
-pub returns : goal.returns
-returns c =
+pub returns-clause-amounts : goal.returns-clause-amounts
+returns-clause-amounts c =
+    let n = length c.args.priced.system.now.moves in
+    let a = c.loop-k.invariant.5 in
+    let b = ap (λ f. length f.amounts) c.requires.flow in
+    let d = length-replicate {A = ℕ} n 0 in
+    omega (arith, a, b, d)
+
+pub returns-clause-flow : goal.returns-clause-flow
+returns-clause-flow c =
     let s = c.args.priced.system.now in
     let ls = c.args.priced.shapes.now in
     let ps = c.args.spans.now in
     let q = prices_of s c.args.priced.prices.now c.args.priced.low in
     let e = c.loop-k-test.false in
     let none : length ps - c.loop-k.k ≡ 0 = omega (arith, e) in
-    going_end s ls ps c.requires.whole q (level_of c.loop-k.worths c.loop-k.weights) (flowing c.loop-k.starts c.loop-k.amounts) (length ps - c.loop-k.k) none c.loop-k.invariant.0
+    going_end s ls ps c.requires.whole q (level_of c.loop-k.worths c.loop-k.weights) (flowing c.loop-k.tally.starts.now c.loop-k.tally.amounts.now) (length ps - c.loop-k.k) none c.loop-k.invariant.0
