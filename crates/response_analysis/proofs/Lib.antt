@@ -1,0 +1,14 @@
+pub mod Ceilings
+pub mod Equations
+pub mod Needs
+pub mod Turns
+pub mod Cycles
+pub mod Apart
+pub mod Demands
+pub mod Windows
+pub mod InTime
+pub mod Rows
+pub mod Reached
+pub mod Shares
+pub mod Rising
+pub mod Found

@@ -1,0 +1,4 @@
+pub mod Entries
+pub mod Forms
+pub mod Lists
+pub mod Listing
