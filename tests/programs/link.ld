@@ -17,6 +17,7 @@ SECTIONS
     .rodata : { *(.rodata .rodata.* .srodata .srodata.*) } > flash :code
     .data : { *(.data .data.* .sdata .sdata.*) } > ram :data
     .bss (NOLOAD) : { *(.bss .bss.* .sbss .sbss.* COMMON) } > ram :data
-    .stack (NOLOAD) : { . += 256K; stack = .; } > ram :data
+    /* The end of the stack is a multiple of 16, whatever lies below it. */
+    .stack (NOLOAD) : { . += 256K; stack = ABSOLUTE(.) & ~15; } > ram :data
     /DISCARD/ : { *(.comment .riscv.attributes .eh_frame .note.*) }
 }
