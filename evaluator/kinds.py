@@ -53,11 +53,11 @@ def spelled(specs):
 
 
 class Undefined(Exception):
-    """What C leaves undefined: the number of the rule, and the place of the expression."""
+    """What C leaves undefined: the number of the rule, the place of the expression, and the numbers by which it is."""
 
-    def __init__(self, rule, at):
+    def __init__(self, rule, at, *numbers):
         super().__init__(rule, at)
-        self.rule, self.at = rule, at
+        self.rule, self.at, self.numbers = rule, at, numbers
 
 
 def convert(kind, value):
@@ -87,7 +87,7 @@ def fitting(kind, value, at):
     if not kind.signed:
         return convert(kind, value)
     if not kind.holds(value):
-        raise Undefined(1, at)
+        raise Undefined(1, at, value, kind.least(), kind.greatest())
     return value
 
 
@@ -139,7 +139,7 @@ def operate(operator, kind, x, y, at):
 def shift(operator, kind, x, count, at):
     """C11 6.5.7: the type is that of the promoted left operand, and a right shift of a negative value keeps its sign."""
     if not 0 <= count < 32:
-        raise Undefined(4, at)
+        raise Undefined(4, at, count)
     if operator == ">>":
         return x >> count
     if kind.signed and (x < 0 or not kind.holds(x << count)):

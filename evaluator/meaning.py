@@ -302,7 +302,7 @@ class Program:
         def find():
             number = index()
             if not 0 <= number < len(thing.cells):
-                raise Undefined(6, target.at)
+                raise Undefined(6, target.at, number, len(thing.cells))
             return thing.cells, number
         return find
 

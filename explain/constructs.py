@@ -5,12 +5,15 @@ Each function answers the words of an entry of texts.txt and what fills it, or N
 import re
 
 from evaluator.parser import LOOP, OPERAND, SPECS, TYPE
+from evaluator.rules import BUILT_IN
 from evaluator.tokens import OUTSIDE_WORDS, PRAGMAS
 from names import ASSEMBLY, ATTRIBUTES, COMPILER_WORDS, HEADERS_OF_OTHERS, HEADERS_OF_TYPES, is_compiler_word
 from spot import OUTSIDE
 
 # What stands before a bracket that is none of an expression, and what an operand ends with.
 HEADS, OPERANDS = {"if", "while", "for", "switch"}, {"name", ")", "]"}
+# What may begin an operand of `*` and `&`.
+OBJECTS = {"name", "(", "*", "&", "++", "--"}
 QUALIFIERS = {"static", "extern", "inline", "const"}
 # What may stand between `asm` and its bracket.
 OF_ASSEMBLY = {"volatile", "__volatile__", "__volatile", "goto", "inline", "__inline__"}
@@ -36,7 +39,7 @@ CHARACTERS = [
 def outside(spot):
     text = spot.text()
     if text in ("#", "##"):
-        return ("paste",)
+        return ("inner directive", spot.text(1)) if spot.text(1) in DIRECTIVES | {"pragma"} else ("paste",)
     if text.startswith("#"):
         return directive(text)
     if text[:1].isdigit() or text[:1] == "." and text[1:2].isdigit():
@@ -177,11 +180,12 @@ def star(spot, wanted):
     opening = spot.opening(0)
     if opening is not None and spot.opening(opening) is None and spot.text(opening - 1) == "main" and spot.kind(opening) == "(":
         return ("main parameters",)
-    return ("pointer",) if wanted in (OPERAND, "name") or spot.kind(-1) in SPECS else None
+    is_operator = wanted == OPERAND and spot.kind(1) in OBJECTS
+    return ("pointer",) if is_operator or wanted == "name" or spot.kind(-1) in SPECS else None
 
 
 def ampersand(spot, wanted):
-    return ("address",) if wanted == OPERAND else None
+    return ("address",) if wanted == OPERAND and spot.kind(1) in OBJECTS else None
 
 
 def two_ampersands(spot, wanted):
@@ -230,10 +234,8 @@ def bracketed_declarator(spot):
 
 def cast_to(spot, opening):
     """`(name)` before an operand, which only a cast would be, or before a bracket, which a call could be too."""
-    name = spot.text(opening + 1)
-    if name in HEADERS_OF_TYPES:
-        return "header type", name, HEADERS_OF_TYPES[name]
-    return ("called expression",) if spot.kind() == "(" else ("type name", name)
+    is_type = spot.kind() != "(" or spot.text(opening + 1) in HEADERS_OF_TYPES
+    return type_name(spot, opening + 1) if is_type else ("called expression",)
 
 
 def brace(spot, wanted):
@@ -271,20 +273,20 @@ def comma(spot, wanted):
 def equals(spot, wanted):
     """`T *p = e`, where `T` is no type: read as a product, to which nothing is assigned."""
     is_pointer = spot.kinds(-3, "name", "*", "name") and spot.begins_statement(-3)
-    return type_name(spot.text(-3)) if wanted == ";" and is_pointer else None
+    return type_name(spot, -3) if wanted == ";" and is_pointer else None
 
 
 def specs_word(spot, wanted):
     """`a[static 3]`, and `T *const p` where `T` is no type."""
     if wanted == OPERAND and spot.kind(-1) == "[":
         return ("size in brackets",)
-    return type_name(spot.text(-2)) if spot.kinds(-2, "name", "*") and spot.begins_statement(-2) else None
+    return type_name(spot, -2) if spot.kinds(-2, "name", "*") and spot.begins_statement(-2) else None
 
 
 def closing_round(spot, wanted):
     """`(T *)e`, where `T` is no type."""
     is_group = spot.kinds(-3, "(", "name", "*") and spot.kind(-4) not in HEADS | OPERANDS
-    return type_name(spot.text(-2)) if is_group and spot.kind(1) in ("name", "(", "&", "number") else None
+    return type_name(spot, -2) if is_group and spot.kind(1) in ("name", "(", "&", "number") else None
 
 
 def label_word(spot, wanted):
@@ -302,7 +304,7 @@ def name(spot, wanted):
 def outer_name(spot):
     """A name with which an item of file level begins."""
     if spot.kind(1) in ("name", "*"):
-        return type_name(spot.text())
+        return type_name(spot, 0)
     if spot.kind(1) in SPECS:
         return "unknown word", spot.text()
     if spot.kind(1) in ("=", "[", ","):
@@ -318,8 +320,10 @@ def outer_name(spot):
 
 def param_name(spot):
     """A name where a parameter's type must stand."""
-    if spot.kind(1) in ("name", "*", "[") or spot.kind(1) in SPECS:
-        return type_name(spot.text())
+    if spot.kind(1) in ("name", "*") or spot.kind(1) in SPECS:
+        return type_name(spot, 0)
+    if spot.kind(1) == "[":
+        return "implicit int", spot.text()
     opening = spot.opening(0)
     closing = spot.closing(opening)
     if closing is None or spot.kind(1) not in (",", ")"):
@@ -328,7 +332,7 @@ def param_name(spot):
     if behind == "{":
         return "implicit int", spot.text()
     if behind == ";":
-        return type_name(spot.text())
+        return type_name(spot, 0)
     are_names = all(spot.kind(it) in ("name", ",") for it in range(opening + 1, closing))
     return ("old definition",) if are_names and (behind == "name" or behind in SPECS) else None
 
@@ -337,7 +341,7 @@ def behind_name(spot, wanted):
     """A name behind another one, which only a type's name could be; or behind a name in brackets, as behind a cast."""
     if spot.kind(-1) == "name" and spot.on_one_line(-1, 0):
         if spot.begins_statement(-1) or spot.kind(-2) in QUALIFIERS and only_qualifiers(spot):
-            return type_name(spot.text(-1))
+            return type_name(spot, -1)
     return operand_behind(spot, wanted)
 
 
@@ -354,8 +358,12 @@ def only_qualifiers(spot):
     return spot.kind(ahead) not in SPECS
 
 
-def type_name(text):
-    return ("header type", text, HEADERS_OF_TYPES[text]) if text in HEADERS_OF_TYPES else ("type name", text)
+def type_name(spot, ahead):
+    """A name where only that of a type could stand. One that stands before is that of an object or a function."""
+    text = spot.text(ahead)
+    if text in HEADERS_OF_TYPES:
+        return "header type", text, HEADERS_OF_TYPES[text]
+    return None if text in BUILT_IN or spot.stands_before(ahead) else ("type name", text)
 
 
 SIGNS = {"*": star, "&": ampersand, "&&": two_ampersands, "[": square, "(": round_bracket, ")": closing_round,
@@ -398,11 +406,11 @@ def undeclared(spot):
     if is_compiler_word(text):
         return "compiler word", text
     if text in HEADERS_OF_TYPES:
-        return type_name(text)
+        return "header type", text, HEADERS_OF_TYPES[text]
     if text in HEADERS_OF_OTHERS:
         return "header name", text, HEADERS_OF_OTHERS[text]
     is_pointer = spot.kinds(0, "name", "*", "name") and spot.kind(3) in (";", ",") and spot.begins_statement(0)
-    return type_name(text) if is_pointer else None
+    return ("type name", text) if is_pointer else None
 
 
 def not_constant(spot):

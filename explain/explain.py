@@ -93,6 +93,9 @@ class Call:
 
     def found_out(self):
         """The construct at the place, or None, and the facts that the files show; None where nothing can be found out."""
+        if self.lines is None and self.line[1:] != ["fault"]:
+            return None
+        # Both take their time, and other lines need neither.
         from evaluator import with_deep_stack
         import findings
         files = findings.Files(self.lines, self.reads, self.writes)

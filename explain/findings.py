@@ -21,6 +21,8 @@ from spot import Spot
 
 # A run is followed for so long.
 SECONDS = 1.0
+# The facts on the numbers by which a run is undefined, by its rules.
+NUMBERS = {1: "range", 4: "count", 6: "index"}
 BOUND, MARKER = "loopbound", "marker"
 PRAGMA = re.compile(rb'(?:#[ \t]*pragma|_Pragma[ \t]*\([ \t]*")[ \t]*([^ \t"\n\r]+)[ \t]*([^ \t"\n\r]*)')
 BOUNDS = re.compile(rb"[ \t]*loopbound[ \t]+min[ \t]+(\w+)[ \t]+max[ \t]+(\w+)[ \t]*")
@@ -119,16 +121,17 @@ def run_to(files, at):
         if event.at == at:
             callers = ["main", *(it.name for it in run.calls)]
             yield from chain(files, list(zip(callers, run.calls)))
-            yield from how_broken(event)
+            yield from how_ended(event)
     except Late:
         return
 
 
-def how_broken(event):
-    """How often a loop started that doesn't keep its bound: as often as it may and once more, or too seldom."""
-    loop = getattr(event, "loop", None)
-    if loop is not None:
-        yield "starts" if event.starts == loop.limits[1] else "too few", str(event.starts)
+def how_ended(event):
+    """The numbers by which a run is undefined, or how often a loop started: as often as it may and once more, or too seldom."""
+    if isinstance(event, Undefined) and event.numbers:
+        yield NUMBERS[event.rule], *map(str, event.numbers)
+    elif isinstance(event, Broken) and event.loop is not None:
+        yield "starts" if event.starts == event.loop.limits[1] else "too few", str(event.starts)
 
 
 # Limits

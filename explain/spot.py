@@ -57,6 +57,10 @@ class Spot:
         """Whether the tokens from this distance on are these."""
         return all(self.kind(first + number) == it for number, it in enumerate(wanted))
 
+    def stands_before(self, ahead):
+        """Whether the name at this distance stands somewhere before."""
+        return any(it.said == self.text(ahead) for it in self.tokens[:self.index + ahead] if it.kind == "name")
+
     def on_one_line(self, one, other):
         return b"\n" not in self.source[self.token(one).at:self.token(other).at]
 

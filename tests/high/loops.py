@@ -3,11 +3,15 @@
 A loop of the high form counts its starts: a start more than its body's where a test ends it. It is worked out here from
 docs/LANGUAGE.md by the syntax tree of the evaluator, and shares nothing with wcc.
 """
-from evaluator import tree
-from evaluator.facts import Facts, filling, greatest_starts, is_endless
-from evaluator.parser import unit_of
-from evaluator.rules import check
-from evaluator.tokens import tokens_of
+import sys
+from pathlib import Path
+
+sys.path.insert(0, str(Path(__file__).resolve().parent.parent.parent))
+from evaluator import tree  # noqa: E402
+from evaluator.facts import Facts, filling, greatest_starts, is_endless  # noqa: E402
+from evaluator.parser import unit_of  # noqa: E402
+from evaluator.rules import check  # noqa: E402
+from evaluator.tokens import tokens_of  # noqa: E402
 
 
 def is_left(node, own=True):
