@@ -1,2 +1,2 @@
-pub mod Verdicts
+pub mod HighRuns
 pub mod LowRuns

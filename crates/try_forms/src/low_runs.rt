@@ -9,11 +9,12 @@ ghost use Rattle.low_ir.specs.Runs.{lrun};
 ghost use Rattle.low_ir.specs.Turns.{mark_at, marks_passed};
 ghost use Rattle.low_placed_eval.specs.Seen as placed;
 
-use high_eval::Evaluated;
 use low_eval::Outcome;
 use low_ir::{Began, Low, LowReg};
 use std::alloc::Global;
+use try_sources::Ended;
 use wcc_base::Memory;
+use wcc_base::words::signed;
 
 /// The mark of a block.
 fn mark_of(low: &Low, began: Began) -> Option<u32>
@@ -44,7 +45,7 @@ fn marks_of(alloc: Global, low: &Low, trace: &[Began]) -> Result<Vec<u32>, Memor
 }
 
 /// An ended run with its marks.
-fn marked(alloc: Global, low: &Low, outcome: Outcome) -> Result<Option<Evaluated>, Memory>
+fn marked(alloc: Global, low: &Low, outcome: Outcome) -> Result<Option<Ended>, Memory>
     ensures { IfOk result (λ r. IsSeen (low_of low.now) (seen outcome) r) }
 {
     match outcome {
@@ -52,8 +53,8 @@ fn marked(alloc: Global, low: &Low, outcome: Outcome) -> Result<Option<Evaluated
         Outcome::Bad => Ok(None),
         Outcome::Done(run) => {
             let trace = marks_of(alloc, low, &run.trace)?;
-            Ok(Some(Evaluated {
-                value: run.value,
+            Ok(Some(Ended {
+                value: signed(run.value),
                 output: run.output,
                 trace,
             }))
@@ -67,7 +68,7 @@ pub fn over_registers(
     low: &Low,
     input: &[u8],
     steps: u64,
-) -> Result<Option<Evaluated>, Memory>
+) -> Result<Option<Ended>, Memory>
     ensures { IfOk result (λ r. IsSeen (low_of low.now) (seen_run (lrun (low_of low.now) input.now steps)) r) }
 {
     let outcome = low_eval::evaluate(alloc, low, input, steps)?;
@@ -80,7 +81,7 @@ pub fn over_places(
     code: &LowReg,
     input: &[u8],
     steps: u64,
-) -> Result<Option<Evaluated>, Memory>
+) -> Result<Option<Ended>, Memory>
     ensures { IfOk result (λ r. IsSeen (low_of code.now.low) (placed.seen_run (prun (placed_of code.now) input.now steps)) r) }
 {
     let outcome = low_placed_eval::evaluate(alloc, code, input, steps)?;

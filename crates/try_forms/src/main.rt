@@ -8,24 +8,24 @@
 //! each run compares. `try_forms make SOURCE TIMES` makes the program in the high form so many times, and `try_forms lower
 //! SOURCE TIMES` that in the low form; both print the sizes in the high form alone.
 //!
-//! Proved: each verdict says what `specs/Verdicts` says that it says. So `equal` is answered only where the run is good and the
-//! source's is kept, and both have one value, one output, and for each function and marker as many marks of its copies as
-//! the source counts. A run in the low form is compared by the marks of the blocks that it passed (`specs/LowRuns`).
+//! Proved: `try_sources` is given the value, the output and the marks of the good run in the high form (`specs/HighRuns`), and of
+//! the run in the low form with the marks of the blocks that it passed (`specs/LowRuns`). So a verdict, which says of these
+//! what the source means, says it of the program.
 #![tactic(auto)]
 
-mod comparing;
+mod high_runs;
 mod loops;
 mod low_runs;
 mod operations;
 mod trying;
 
-use std::env;
 use std::process::ExitCode;
-use trying::{Fault, Form, lower_times, make_times, try_source};
+use try_sources::{Fault, end, words};
+use trying::{Form, USAGE, lower_times, make_times, try_source};
 
 fn perform(rt: &HostRuntime, words: &[String]) -> Result<(), Fault> {
     if words.len() < 3 || words.len() > 4 {
-        return Err(Fault::Usage);
+        return Err(Fault::Usage(USAGE));
     }
     let (command, source, given) = (words[0].as_str(), words[1].as_str(), words[2].as_str());
     let meant = words.get(3).map_or(source, String::as_str);
@@ -41,25 +41,14 @@ fn perform(rt: &HostRuntime, words: &[String]) -> Result<(), Fault> {
     if command == "lower" && words.len() == 3 {
         return lower_times(rt, source, given);
     }
-    Err(Fault::Usage)
+    Err(Fault::Usage(USAGE))
 }
 
 fn run(rt: &HostRuntime) -> Result<(), Fault> {
-    let Ok(given) = env::args(rt) else {
-        return Err(Fault::Memory);
-    };
-    let Ok(words) = given.skip(1).collect::<Vec<String>>(rt.alloc()) else {
-        return Err(Fault::Memory);
-    };
-    perform(rt, &words)
+    let given = words(rt)?;
+    perform(rt, &given)
 }
 
 fn main(rt: HostRuntime) -> ExitCode {
-    match run(&rt) {
-        Ok(()) => ExitCode::from(0),
-        Err(fault) => {
-            let _ = println!(rt; "{fault}");
-            ExitCode::from(1)
-        }
-    }
+    end(&rt, run(&rt))
 }

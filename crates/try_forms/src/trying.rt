@@ -1,16 +1,12 @@
 // What the commands do.
-ghost use Rattle.std.specs.Prelude.{IfOk};
 ghost use Rattle.facts_definitions.specs.FlowFacts.{AreFacts};
-ghost use Rattle.facts_front.specs.Fronts.{IsSource};
 ghost use Rattle.types_tree.specs.View.{program_of};
 
-use super::comparing::{Verdict, compare};
+use super::high_runs::over_variables;
 use super::loops::{Bounds, bounds_of_loops};
 use super::low_runs::{over_places, over_registers};
 use super::operations::operations;
-use c_meaning::eval;
-use facts_front::{Refusal, Source, read_source};
-use high_eval::evaluate;
+use facts_front::Source;
 use high_ir::{Carried, High, LoopCopies, LoopCopy, MarkCopies, size};
 use high_make::make;
 use low_ir::{Low, all_slots};
@@ -18,8 +14,12 @@ use low_make::lower;
 use meaning_semantics::SourceRun;
 use std::alloc::Global;
 use std::{fs, io};
-use thiserror::Error;
+use try_sources::{Fault, Verdict, compare, made_of, meaning_of, read};
 use wcc_base::Memory;
+
+/// The words that are commands.
+pub const USAGE: &str =
+    "try_forms run|low SOURCE INPUT [MEANT], or try_forms make|lower SOURCE TIMES";
 
 /// The form of the program that is run.
 #[derive(Clone, Copy)]
@@ -28,92 +28,9 @@ pub enum Form {
     Low,
 }
 
-/// Why there is nothing to say of a source.
-#[derive(Debug, Drop, Error)]
-pub enum Fault {
-    #[error("usage: try_forms run|low SOURCE INPUT [MEANT], or try_forms make|lower SOURCE TIMES")]
-    Usage,
-    #[error("a file can't be read, or a line can't be printed")]
-    Files,
-    #[error("refused")]
-    Refused,
-    #[error("a loop that is listed isn't there")]
-    Listing,
-    #[error("out of memory")]
-    Memory,
-}
-
-impl From<io::Error> for Fault {
-    fn from(error: io::Error) -> Self {
-        drop(error);
-        Fault::Files
-    }
-}
-
-impl From<Memory> for Fault {
-    fn from(_: Memory) -> Self {
-        Fault::Memory
-    }
-}
-
-/// The typed program of a source, and its facts.
-fn read(alloc: Global, text: &[u8]) -> Result<Source, Fault>
-    ensures { IfOk result (λ s. IsSource text.now s.typed.program.names.items (program_of s.typed.program) s.facts) }
-{
-    match read_source(alloc, text) {
-        Ok(source) => Ok(source),
-        Err(Refusal::Memory) => Err(Fault::Memory),
-        Err(refusal) => {
-            drop(refusal);
-            Err(Fault::Refused)
-        }
-    }
-}
-
-/// The program of a source.
-fn made_of(alloc: Global, text: &[u8]) -> Result<Carried, Fault> {
-    let source = read(alloc, text)?;
-    let made = make(alloc, &source.typed, &source.facts);
-    source.let_go();
-    match made {
-        Ok(made) => Ok(made),
-        Err(_) => Err(Fault::Memory),
-    }
-}
-
-fn meaning_of(alloc: Global, text: &[u8], input: &[u8]) -> Result<SourceRun, Fault> {
-    let source = read(alloc, text)?;
-    let run = eval(alloc, source.typed.program(), &source.facts, input);
-    source.let_go();
-    match run {
-        Ok(run) => Ok(run),
-        Err(_) => Err(Fault::Memory),
-    }
-}
-
-fn text_of(verdict: Verdict) -> &'static str {
-    match verdict {
-        Verdict::Equal => "equal",
-        Verdict::OtherValue => "other value",
-        Verdict::OtherOutput => "other output",
-        Verdict::OtherCount(_) => "other count",
-        Verdict::NotGood => "not good",
-        Verdict::NotKept => "not kept",
-    }
-}
-
-fn print_verdict(rt: &HostRuntime, verdict: Verdict) -> io::Result<()> {
-    let text = text_of(verdict);
-    match verdict {
-        Verdict::OtherCount(number) => println!(rt; "{text} {number}"),
-        _ => println!(rt; "{text}"),
-    }
-}
-
 /// The verdict on a run in the low form over registers of a kind.
 fn print_run(rt: &HostRuntime, over: &str, verdict: Verdict) -> io::Result<()> {
-    print!(rt; "{over} ")?;
-    print_verdict(rt, verdict)
+    println!(rt; "{over} {verdict}")
 }
 
 fn print_sizes(rt: &HostRuntime, program: &High) -> io::Result<()> {
@@ -132,7 +49,7 @@ fn print_loop(rt: &HostRuntime, old: u32, copy: LoopCopy, bounds: Bounds) -> io:
 fn print_copies(rt: &HostRuntime, bounds: &[Bounds], copies: &LoopCopies) -> Result<(), Fault> {
     for copy in &copies.new {
         let Some(bounds) = bounds.get(copy.id as usize) else {
-            return Err(Fault::Listing);
+            return Err(Fault::Untried("a loop that is listed isn't there"));
         };
         print_loop(rt, copies.old, *copy, *bounds)?;
     }
@@ -154,8 +71,9 @@ fn print_tried(
     meant: &SourceRun,
     made: &Carried,
 ) -> Result<(), Fault> {
-    let run = evaluate(rt.alloc(), &made.program, input)?;
-    print_verdict(rt, compare(&run, &made.copies.marks, meant))?;
+    let run = over_variables(rt.alloc(), &made.program, input)?;
+    let verdict = compare(&run, &made.copies.marks, meant);
+    println!(rt; "{verdict}")?;
     print_sizes(rt, &made.program)?;
     print_loops(rt, made)
 }
@@ -270,7 +188,7 @@ fn print_made(rt: &HostRuntime, text: &[u8]) -> Result<(), Fault> {
 /// Makes the program of a source so many times, and prints the sizes.
 pub fn make_times(rt: &HostRuntime, source: &str, times: &str) -> Result<(), Fault> {
     let Ok(times) = times.parse::<u32>() else {
-        return Err(Fault::Usage);
+        return Err(Fault::Usage(USAGE));
     };
     let text = fs::read(rt, source)?;
     let source = read(rt.alloc(), &text)?;
@@ -294,7 +212,7 @@ fn lower_again(alloc: Global, program: &High, times: u32) -> Result<(), Memory> 
 /// Makes the program of a source, and that in the low form so many times, and prints the sizes.
 pub fn lower_times(rt: &HostRuntime, source: &str, times: &str) -> Result<(), Fault> {
     let Ok(times) = times.parse::<u32>() else {
-        return Err(Fault::Usage);
+        return Err(Fault::Usage(USAGE));
     };
     let text = fs::read(rt, source)?;
     let made = made_of(rt.alloc(), &text)?;

@@ -7,13 +7,14 @@ use Rattle.rv_core.specs.Table.{default_table}
 use Rattle.meaning_semantics.specs.declared.source_run.SourceRun.{SourceRun}
 use Rattle.meaning_semantics.specs.declared.source_run.SourceRun.TheVariants.{Done, Undefined, Broken}
 use Rattle.rv_runs.specs.declared.running.ImageRun.{ImageRun}
+use Rattle.try_sources.specs.declared.comparing.Ended.{Ended}
 
--- the value and the output of a run are those that the source means
-abbrev pub EqualSays : Option ImageRun → SourceRun → Type 0
-EqualSays run (Undefined rule at) = ⊥
-EqualSays run (Broken what) = ⊥
-EqualSays None (Done output value counts) = ⊥
-EqualSays (Some run) (Done output value counts) = (run.value ≡ value) × (run.output.items ≡ output)
+-- the same run, if there is one
+abbrev pub IsSeen : Option ImageRun → Option Ended → Type 0
+IsSeen None None = Unit {0}
+IsSeen None (Some run) = ⊥
+IsSeen (Some r) None = ⊥
+IsSeen (Some r) (Some run) = (run.value ≡ r.value) × ((run.output.items ≡ r.output.items) × (run.trace.items ≡ r.trace.items))
 
 -- the machine exits with this value and this output
 pub record ExitsWith (s : Setup) (bytes : List ℕ) (v : ℤ) : Type 0 where
@@ -21,6 +22,11 @@ pub record ExitsWith (s : Setup) (bytes : List ℕ) (v : ℤ) : Type 0 where
   pub exits : Exits s finish
   pub value : finish.value ≡ v
   pub output : finish.output ≡ bytes
+
+-- where there is a run, the image exits as it has ended, with the default costs
+abbrev pub IsExit : Image → List ℕ → Option Ended → Type 0
+IsExit image input None = Unit {0}
+IsExit image input (Some run) = ExitsWith (setup image default_table input) run.output.items run.value
 
 -- with the default costs the image exits on the input as the source means
 abbrev pub ExitsAs : Image → List ℕ → SourceRun → Type 0

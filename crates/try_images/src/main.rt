@@ -7,22 +7,22 @@
 //! nothing|everything IMAGE` writes one of the images, and `try_images lay SOURCE slots|registers TIMES` lays one so many times.
 //!
 //! Proved: `equal` is answered only where the image exits on the input, with the default costs, with the value and the output
-//! that the source means there (`specs/Verdicts`). The counts of the marks are compared, and that they are right is not proved.
+//! that the source means there (`specs/Verdicts`), and the marks that were noted are counted as the source counts. That these are
+//! the marks which the image passes is not proved.
 #![tactic(auto)]
 
-mod comparing;
 mod images;
 mod placing;
 mod runs;
 mod trying;
 
-use std::env;
 use std::process::ExitCode;
-use trying::{Fault, lay_times, try_source, write_image};
+use try_sources::{Fault, end, words};
+use trying::{USAGE, lay_times, try_source, write_image};
 
 fn perform(rt: &HostRuntime, words: &[String]) -> Result<(), Fault> {
     if words.len() < 3 || words.len() > 5 {
-        return Err(Fault::Usage);
+        return Err(Fault::Usage(USAGE));
     }
     let command = words[0].as_str();
     if command == "run" && words.len() < 5 {
@@ -42,25 +42,14 @@ fn perform(rt: &HostRuntime, words: &[String]) -> Result<(), Fault> {
     if command == "lay" && words.len() == 4 {
         return lay_times(rt, words[1].as_str(), words[2].as_str(), words[3].as_str());
     }
-    Err(Fault::Usage)
+    Err(Fault::Usage(USAGE))
 }
 
 fn run(rt: &HostRuntime) -> Result<(), Fault> {
-    let Ok(given) = env::args(rt) else {
-        return Err(Fault::Memory);
-    };
-    let Ok(words) = given.skip(1).collect::<Vec<String>>(rt.alloc()) else {
-        return Err(Fault::Memory);
-    };
-    perform(rt, &words)
+    let given = words(rt)?;
+    perform(rt, &given)
 }
 
 fn main(rt: HostRuntime) -> ExitCode {
-    match run(&rt) {
-        Ok(()) => ExitCode::from(0),
-        Err(fault) => {
-            let _ = println!(rt; "{fault}");
-            ExitCode::from(1)
-        }
-    }
+    end(&rt, run(&rt))
 }

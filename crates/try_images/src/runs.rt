@@ -1,12 +1,12 @@
 // Runs of images, by the marks at the addresses that are listed for them.
-ghost use Rattle.std.specs.Prelude.{◌≡◌, IfOk};
-ghost use Rattle.rv_core.specs.Table.{default_table};
-ghost use Rattle.rv_runs.specs.Ends.{IsRunOf};
+ghost use Rattle.std.specs.Prelude.{IfOk};
+ghost use Rattle.try_images.specs.Verdicts.{IsExit, IsSeen};
 
 use layout_laid::Laid;
 use rv_runs::{ImageRun, run};
 use std::alloc::Global;
 use std::collections::BTreeMap;
+use try_sources::Ended;
 use wcc_base::{Items, Memory};
 
 /// With a mark at each of its addresses.
@@ -28,10 +28,24 @@ fn marks_of(alloc: Global, places: &[Items<u32>]) -> Result<BTreeMap<u32, u32>, 
     Ok(marks)
 }
 
+fn shown(run: Option<ImageRun>) -> Option<Ended>
+    ensures { IsSeen run result }
+{
+    match run {
+        None => None,
+        Some(run) => Some(Ended {
+            value: run.value,
+            output: run.output,
+            trace: run.trace,
+        }),
+    }
+}
+
 /// The run of an image on an input, where it exits.
-pub fn over_image(alloc: Global, laid: &Laid, input: &[u8]) -> Result<Option<ImageRun>, Memory>
-    ensures { IfOk result (λ r. IsRunOf laid.now.image default_table input.now r) }
+pub fn over_image(alloc: Global, laid: &Laid, input: &[u8]) -> Result<Option<Ended>, Memory>
+    ensures { IfOk result (λ r. IsExit laid.now.image input.now r) }
 {
     let marks = marks_of(alloc, &laid.lists.places)?;
-    run(alloc, &laid.image, &marks, input)
+    let found = run(alloc, &laid.image, &marks, input)?;
+    Ok(shown(found))
 }

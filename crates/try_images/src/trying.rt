@@ -1,109 +1,24 @@
 // What the commands do.
 ghost use Rattle.std.specs.Prelude.{◌≡◌, IfOk};
-ghost use Rattle.facts_definitions.specs.FlowFacts.{AreFacts};
-ghost use Rattle.facts_front.specs.Fronts.{IsSource};
-ghost use Rattle.types_tree.specs.View.{program_of};
+ghost use Rattle.try_sources.specs.declared.comparing.Verdict.TheVariants.{Equal};
 ghost use Rattle.try_images.specs.Verdicts.{ExitsAs};
-ghost use Rattle.try_images.specs.declared.comparing.Verdict.TheVariants.{Equal};
 
-use super::comparing::{Verdict, compare};
 use super::images::{Places, placed, unplaced, with_places};
 use super::runs::over_image;
-use c_meaning::eval;
 use elf_image::write;
-use facts_front::{Refusal, Source, read_source};
 use high_ir::{Carried, MarkCopies};
-use high_make::make;
 use layout_laid::Laid;
 use low_ir::LowReg;
 use low_make::lower;
 use meaning_semantics::SourceRun;
 use std::alloc::Global;
-use std::{fs, io};
-use thiserror::Error;
+use std::fs;
+use try_sources::{Fault, Verdict, compare, made_of, meaning_of};
 use wcc_base::Memory;
 
-/// Why there is nothing to say of a source.
-#[derive(Debug, Drop, Error)]
-pub enum Fault {
-    #[error("usage: try_images run SOURCE INPUT [MEANT], try_images image SOURCE slots|registers nothing|everything IMAGE, or try_images lay SOURCE slots|registers TIMES")]
-    Usage,
-    #[error("a file can't be read, or a line can't be printed")]
-    Files,
-    #[error("refused")]
-    Refused,
-    #[error("the program has no room")]
-    Room,
-    #[error("out of memory")]
-    Memory,
-}
-
-impl From<io::Error> for Fault {
-    fn from(error: io::Error) -> Self {
-        drop(error);
-        Fault::Files
-    }
-}
-
-impl From<Memory> for Fault {
-    fn from(_: Memory) -> Self {
-        Fault::Memory
-    }
-}
-
-/// The typed program of a source, and its facts.
-fn read(alloc: Global, text: &[u8]) -> Result<Source, Fault>
-    ensures { IfOk result (λ s. IsSource text.now s.typed.program.names.items (program_of s.typed.program) s.facts) }
-{
-    match read_source(alloc, text) {
-        Ok(source) => Ok(source),
-        Err(Refusal::Memory) => Err(Fault::Memory),
-        Err(refusal) => {
-            drop(refusal);
-            Err(Fault::Refused)
-        }
-    }
-}
-
-/// The program of a source.
-fn made_of(alloc: Global, text: &[u8]) -> Result<Carried, Fault> {
-    let source = read(alloc, text)?;
-    let made = make(alloc, &source.typed, &source.facts);
-    source.let_go();
-    match made {
-        Ok(made) => Ok(made),
-        Err(_) => Err(Fault::Memory),
-    }
-}
-
-fn meaning_of(alloc: Global, text: &[u8], input: &[u8]) -> Result<SourceRun, Fault> {
-    let source = read(alloc, text)?;
-    let run = eval(alloc, source.typed.program(), &source.facts, input);
-    source.let_go();
-    match run {
-        Ok(run) => Ok(run),
-        Err(_) => Err(Fault::Memory),
-    }
-}
-
-fn text_of(verdict: Verdict) -> &'static str {
-    match verdict {
-        Verdict::Equal => "equal",
-        Verdict::OtherValue => "other value",
-        Verdict::OtherOutput => "other output",
-        Verdict::OtherCount(_) => "other count",
-        Verdict::NotGood => "not good",
-        Verdict::NotKept => "not kept",
-    }
-}
-
-fn print_verdict(rt: &HostRuntime, verdict: Verdict) -> io::Result<()> {
-    let text = text_of(verdict);
-    match verdict {
-        Verdict::OtherCount(number) => println!(rt; "{text} {number}"),
-        _ => println!(rt; "{text}"),
-    }
-}
+/// The words that are commands.
+pub const USAGE: &str =
+    "try_images run SOURCE INPUT [MEANT], try_images image SOURCE slots|registers nothing|everything IMAGE, or try_images lay SOURCE slots|registers TIMES";
 
 /// How the run of an image compares with what the source means.
 fn verdict_of(
@@ -128,7 +43,10 @@ fn print_run(
 ) -> Result<(), Fault> {
     match laid {
         None => println!(rt; "no room")?,
-        Some(laid) => print_verdict(rt, verdict_of(rt.alloc(), laid, input, meant, marks)?)?,
+        Some(laid) => {
+            let verdict = verdict_of(rt.alloc(), laid, input, meant, marks)?;
+            println!(rt; "{verdict}")?;
+        }
     }
     Ok(())
 }
@@ -223,7 +141,7 @@ fn places_named(word: &str) -> Result<Places, Fault> {
     if word == "registers" {
         return Ok(Places::Registers);
     }
-    Err(Fault::Usage)
+    Err(Fault::Usage(USAGE))
 }
 
 fn code_of(rt: &HostRuntime, source: &str, places: Places) -> Result<LowReg, Fault> {
@@ -237,7 +155,7 @@ fn code_of(rt: &HostRuntime, source: &str, places: Places) -> Result<LowReg, Fau
 
 fn write_laid(rt: &HostRuntime, laid: &Option<Laid>, image: &str) -> Result<(), Fault> {
     match laid {
-        None => Err(Fault::Room),
+        None => Err(Fault::Untried("the program has no room")),
         Some(laid) => {
             let bytes = write(rt.alloc(), &laid.image)?;
             fs::write(rt, image, &bytes)?;
@@ -283,7 +201,7 @@ fn lay_code(rt: &HostRuntime, code: &LowReg, times: u32) -> Result<(), Fault> {
 /// Lays a source's program so many times, and prints how many functions it has.
 pub fn lay_times(rt: &HostRuntime, source: &str, places: &str, times: &str) -> Result<(), Fault> {
     let Ok(times) = times.parse::<u32>() else {
-        return Err(Fault::Usage);
+        return Err(Fault::Usage(USAGE));
     };
     let code = code_of(rt, source, places_named(places)?)?;
     let laid = lay_code(rt, &code, times);

@@ -1,14 +1,21 @@
-// How a run in the high form compares with what a source means.
-ghost use Rattle.std.specs.Prelude.{◌≡◌, ◌↔◌, IsTrue, sum_by};
+// How a run compares with what a source means.
+ghost use Rattle.std.specs.Prelude.{◌≡◌, ◌↔◌, IsTrue, Some, sum_by};
 ghost use Rattle.high_ir.specs.Runs.{count_of};
-ghost use Rattle.try_forms.specs.Verdicts.{CountsSay, EndsSay, Says};
+ghost use Rattle.try_sources.specs.Verdicts.{CountsSay, EndsSay, Says, text_of};
 
-use high_eval::Evaluated;
 use high_ir::MarkCopies;
 use meaning_semantics::SourceRun;
-use wcc_base::sign_extend;
+use std::fmt;
 
-/// How the two compare.
+/// A run that has ended: its value, its output and the marks that it passed.
+#[derive(Drop)]
+pub struct Ended {
+    pub value: i32,
+    pub output: Vec<u8>,
+    pub trace: Vec<u32>,
+}
+
+/// How a run compares with what a source means.
 #[derive(Clone, Copy)]
 pub enum Verdict {
     Equal,
@@ -16,10 +23,25 @@ pub enum Verdict {
     OtherOutput,
     /// The function or marker of this number is counted otherwise.
     OtherCount(usize),
-    /// The run in the high form isn't good, though that of the source is kept.
+    /// The run has no good end, though that of the source is kept.
     NotGood,
     /// The run of the source isn't kept, so that nothing is promised.
     NotKept,
+}
+
+impl fmt::Display for Verdict {
+    ghost output = { λ v. Some (text_of v) };
+
+    fn fmt<W: fmt::Write>(&self, f: &mut fmt::Formatter<W>) -> fmt::Result {
+        match self {
+            Verdict::Equal => f.write_str("equal"),
+            Verdict::OtherValue => f.write_str("other value"),
+            Verdict::OtherOutput => f.write_str("other output"),
+            Verdict::OtherCount(number) => write!(f, "other count {number}"),
+            Verdict::NotGood => f.write_str("not good"),
+            Verdict::NotKept => f.write_str("not kept"),
+        }
+    }
 }
 
 /// How often a mark was passed.
@@ -71,7 +93,7 @@ fn other_count(trace: &[u32], marks: &[MarkCopies], counts: &[u64]) -> Option<us
 }
 
 fn compare_ends(
-    run: &Evaluated,
+    run: &Ended,
     marks: &[MarkCopies],
     output: &[u8],
     value: i32,
@@ -79,7 +101,7 @@ fn compare_ends(
 ) -> Verdict
     ensures { EndsSay result run.now marks.now output.now value counts.now }
 {
-    if sign_extend(run.value, 32) != value {
+    if run.value != value {
         return Verdict::OtherValue;
     }
     if run.output.as_slice() != output {
@@ -91,8 +113,8 @@ fn compare_ends(
     }
 }
 
-/// How a run in the high form compares with what a source means, by the copies of the source's marks.
-pub fn compare(run: &Option<Evaluated>, marks: &[MarkCopies], meant: &SourceRun) -> Verdict
+/// How a run compares with what a source means, by the copies of the source's marks.
+pub fn compare(run: &Option<Ended>, marks: &[MarkCopies], meant: &SourceRun) -> Verdict
     ensures { Says result run.now marks.now meant.now }
 {
     match meant {

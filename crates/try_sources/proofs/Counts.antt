@@ -4,7 +4,7 @@ use Rattle.std.specs.Prelude.{slice_get}
 use Rattle.std.proofs.lemmas.Bool.{cases_lt}
 use Rattle.std.proofs.lemmas.Option.{slice_get_cases, slice_get_past}
 use Rattle.high_ir.specs.declared.copies.MarkCopies.{MarkCopies}
-use Rattle.try_forms.specs.Verdicts.{CountsAlike, IsCounted, passed}
+use Rattle.try_sources.specs.Verdicts.{CountsAlike, IsCounted, passed}
 
 module _ (trace : List ℕ) (marks : List MarkCopies) (counts : List ℕ) where
   -- a mark whose copies add up

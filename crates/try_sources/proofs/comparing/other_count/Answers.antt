@@ -1,9 +1,9 @@
 use Rattle.std.proofs.Common.{◌≡◌, ◌<◌, ◌≤◌, Some, ap, arith, get_or, length, refl, sym, ◌∙◌}
 use Rattle.std.specs.Prelude.{slice_get}
 use Rattle.std.proofs.lemmas.Option.{slice_get-get_or}
-use Rattle.try_forms.specs.Verdicts.{passed}
-use Rattle.try_forms.proofs.Counts.{alike_at, all_alike, one_more, one_too_many}
-use Rattle.try_forms.proofs.comparing.other_count.Goals as goal
+use Rattle.try_sources.specs.Verdicts.{passed}
+use Rattle.try_sources.proofs.Counts.{alike_at, all_alike, one_more, one_too_many}
+use Rattle.try_sources.proofs.comparing.other_count.Goals as goal
 
 pub loop-number-preserved : goal.loop-number-preserved
 loop-number-preserved c =
