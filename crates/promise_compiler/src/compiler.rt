@@ -1,9 +1,10 @@
 // A compiler, by what it promises.
-ghost use Rattle.std.specs.Prelude.{◌≤◌, ◌^◌, IfErr, IfOk};
+ghost use Rattle.std.specs.Prelude.{◌≤◌, ◌^◌, length, IfErr, IfOk};
 ghost use Rattle.elf_image.specs.Text.{text_of};
 ghost use Rattle.report_text.specs.Lines.{report_text};
 ghost use Rattle.rv_core.specs.Table.{table_of};
 ghost use Rattle.promise_report.specs.Compiled.{IsCompiled};
+ghost use Rattle.promise_compiler.specs.Lengths.{AreShort};
 ghost use Rattle.promise_compiler.specs.Refusals.{Fails, IsRestricted};
 
 use crate::built::{Built, Options};
@@ -17,6 +18,8 @@ pub trait Compiler {
         ensures ok { IfOk result (λ b. IsCompiled (table_of options.now.costs) source.now (text_of b.image) (report_text b.report) b.report) }
         // No run that keeps within the bound ends at a limit of cycles.
         ensures cycles { IfOk result (λ b. b.report.cert.cycles ≤ 2 ^ 62) }
+        // Of a source within its limit, both texts are within those of `check`.
+        ensures short { IfOk result (λ b. length source.now ≤ 1048576 → AreShort (text_of b.image) (report_text b.report)) }
         ensures form { IsRestricted source.now → IfOk result (λ b. ⊥) }
         ensures err { IfErr result (Fails source.now) };
 }

@@ -5,7 +5,8 @@
 //!
 //! Proved: what [`compile`] answers is what `promise_report` promises (`IsCompiled`): on every input on which the run of the
 //! source is defined and keeps its annotations the image prints and returns what the source does, within the cycles of the
-//! report; the report tells the facts of the source, and the checker accepts it with the image. `Form` is answered exactly
+//! report; the report tells the facts of the source, and the checker accepts it with the image, which both are short enough to
+//! be read by it. `Form` is answered exactly
 //! where the source has a restriction, and `Front` with the cause for which it has no program with facts; memory alone is
 //! left open.
 //!

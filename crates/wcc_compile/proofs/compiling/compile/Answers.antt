@@ -6,6 +6,9 @@ use Rattle.wcc_compile.proofs.compiling.compile.Goals as goal
 pub returns-in-Ok-clause-ok : goal.returns-in-Ok-clause-ok
 returns-in-Ok-clause-ok c = c.in-Ok.ensures.compiled c.args.source.now c.in_ok-source.ensures.source
 
+pub returns-in-Ok-clause-short : goal.returns-in-Ok-clause-short
+returns-in-Ok-clause-short c = c.in-Ok.ensures.short c.args.source.now c.in_ok-source.ensures.source
+
 pub returns-in-Ok-clause-form : goal.returns-in-Ok-clause-form
 returns-in-Ok-clause-form c =
     let s = c.in_ok-source.source in

@@ -1,0 +1,15 @@
+//! How many lines a certificate takes.
+//!
+//! Proved, by a call with an empty body: [`certificates_are_few`]. A certificate that is accepted for the system of an image has
+//! no more potentials than flash and scratchpad have words, and its flow lists no more than two moves of each: instructions stand
+//! in those regions alone, and an address has two moves at most.
+//!
+//! The crate knows nothing of texts, nor of how a certificate is found.
+#![tactic(auto)]
+
+ghost use Rattle.code_flow_sizes.specs.Laws.{CertificatesAreFew};
+
+/// An accepted certificate has few potentials, and few parts of a flow.
+pub fn certificates_are_few()
+    ensures { CertificatesAreFew }
+{}

@@ -1,0 +1,111 @@
+-- The texts of what a source becomes are short.
+use Rattle.std.proofs.Common.{◌≡◌, ℕ, ◌≤◌, List, ◌++◌, length, sym, ap, ◌∙◌, subst, arith}
+use Rattle.std.specs.Prelude.{sum_by}
+use Rattle.std.proofs.lemmas.List.{length-map}
+use Rattle.rv_core.specs.Images.{AreLoadable, Image}
+use Rattle.rv_core.specs.Table.{Table}
+use Rattle.elf_image.specs.Text.{text_of}
+use Rattle.code_flow_system.specs.Claims.{Claims}
+use Rattle.code_flow_sizes.specs.Laws.{HasFew}
+use Rattle.code_flow_sizes.proofs.Few.{has_few}
+use Rattle.facts_definitions.specs.declared.facts.Facts.{Facts}
+use Rattle.facts_front.specs.Fronts.{IsSource}
+use Rattle.types_tree.specs.Tree.{Program}
+use Rattle.plan_carried.specs.Sources.{source_marks}
+use Rattle.high_pass.specs.Listing.{LoopEntry, Listing, listing_of}
+use Rattle.low_ir.specs.Placings.{assignment_of, placed_of}
+use Rattle.low_ir.specs.Programs.{low_of}
+use Rattle.claims_definition.specs.Listed.{Laid, claims_of}
+use Rattle.claims_image.specs.Images.{laid_of}
+use Rattle.claims_places.specs.Places.{places_below}
+use Rattle.report_laws.specs.Typed.{IsTyped}
+use Rattle.report_sizes.specs.Room.{columns_room, copies_room, facts_room, shares_room}
+use Rattle.report_sizes.proofs.Lengths.{short as text_short}
+use Rattle.report_text.specs.Lines.{report_text}
+use Rattle.report_text.specs.Reports.{Report}
+use Rattle.promise_compiler.specs.Lengths.{AreShort}
+use Rattle.compile_claims.specs.Named.{by_entries, named}
+use Rattle.compile_lines.specs.CopyLines.{AreLinesOf}
+use Rattle.compile_made.specs.declared.made.Made.{Made}
+use Rattle.compile_made.specs.Made.{IsMade}
+use Rattle.compile_names.proofs.Counted.{counted_named}
+use Rattle.compile_reports.specs.Reported.{IsReported}
+use Rattle.compile_reports.proofs.Openings.{functions_counted}
+use Rattle.compile_reports.proofs.Reports.{is_report}
+use Rattle.compile_sizes.specs.Limits.{IsLimited, nothing}
+use Rattle.compile_sizes.proofs.Plans.{source_limited}
+use Rattle.compile_lengths.proofs.Copies.{copies_few}
+use Rattle.compile_lengths.proofs.Counts.{claims_loops, exits_few, image_short, low_functions, places_few, regions_few}
+use Rattle.compile_lengths.proofs.Names.{functions_short, ids_append, ids_length, markers_short}
+use Rattle.compile_lengths.proofs.Shares.{shares_few}
+
+module _ (source : List ℕ) (names : List (List ℕ)) (program : Program) (facts : Facts) (m : Made) (t : Table) (r : Report) (small : length source ≤ 1048576) (is : IsSource source names program facts) (made : IsMade names program facts m) (reported : IsReported t names facts m r) (typed : IsTyped r) where
+  abbrev own : Laid
+  own = laid_of nothing (placed_of made.in_memory.code)
+
+  abbrev es : List LoopEntry
+  es = (listing_of m.copies).loops
+
+  limited : IsLimited made.program
+  limited = subst IsLimited (sym made.planned) (source_limited source names program facts is)
+
+  claims_are : r.claims ≡ named es (claims_of own)
+  claims_are = reported.claims ∙ ap (named es) made.in_memory.laid.claimed.claims
+
+  exits : length r.claims.exits ≤ 1589248
+  exits = subst (λ (c : Claims). length c.exits ≤ 1589248) (sym claims_are) (exits_few made.program made.keeps_source.is_high limited m.laid made.in_memory)
+
+  regions : length r.claims.regions ≤ 1589248
+  regions = subst (λ (c : Claims). length c.regions ≤ 1589248) (sym claims_are) (regions_few made.program made.keeps_source.is_high limited m.laid made.in_memory)
+
+  loops : length r.claims.loops ≤ 98304
+  loops =
+      let many = length-map (claims_of own).loops (by_entries es) in
+      let few = claims_loops made.program made.keeps_source.is_high limited m.laid made.in_memory in
+      subst (λ (c : Claims). length c.loops ≤ 98304) (sym claims_are) (omega (arith, many, few))
+
+  -- names, and where they stand
+  ids_few : ids_length names (facts.functions ++ facts.markers) ≤ 2097152
+  ids_few =
+      let both = ids_append names facts.functions facts.markers in
+      let functions = functions_short source names program facts is in
+      let markers = markers_short source names program facts is in
+      omega (arith, both, functions, markers, small)
+
+  copies : copies_room r.names ≤ 15564800
+  copies =
+      let places = m.laid.lists.places.items in
+      let lines = subst (λ (c : Listing). AreLinesOf names places (facts.functions ++ facts.markers) c.marks r.names) made.listed reported.lines in
+      let few = copies_few names places (source_marks program facts) (facts.functions ++ facts.markers) r.names lines (counted_named source names program facts is) in
+      let standing = places_few made.program made.keeps_source.is_high limited m.laid made.in_memory made.in_memory.code.low.marks in
+      let same : sum_by (λ (l : List ℕ). length l) places ≡ sum_by (λ (l : List ℕ). length l) (places_below own made.in_memory.code.low.marks) = ap (λ ls. sum_by (λ (l : List ℕ). length l) ls) made.in_memory.laid.lists.places in
+      omega (arith, few, standing, same, ids_few)
+
+  shares : shares_room r.shares ≤ 1065025
+  shares =
+      let many = functions_counted source names program facts is ∙ sym made.keeps_source.carries.functions in
+      let few = shares_few names facts.functions made.program (low_of made.in_memory.code.low) made.in_memory.keeps_program many (assignment_of made.in_memory.code) nothing t reported.system r.cert.flow.parts r.kind m.laid.lists.ranges.items r.shares reported.shared made.in_memory.laid.lists.ranges in
+      let functions = low_functions made.program made.keeps_source.is_high limited m.laid made.in_memory in
+      let called = functions_short source names program facts is in
+      omega (arith, few, functions, called, small)
+
+  certificate : HasFew r.cert
+  certificate =
+      let loadable = subst (λ (i : Image). AreLoadable i.segments) (sym made.in_memory.laid.image) made.in_memory.keeps_low.loadable in
+      has_few m.laid.image r.claims t reported.system r.cert loadable reported.is_system reported.form reported.accepted
+
+  pub short : AreShort (text_of m.laid.image) (report_text r)
+  short =
+      let image = image_short made.program made.keeps_source.is_high limited m.laid made.in_memory in
+      let same = ap (λ i. length (text_of i)) made.in_memory.laid.image in
+      let report = is_report source names program facts m t r is made reported in
+      let nevers = ap (λ (c : Claims). length c.nevers) claims_are in
+      let facts_none = ap (λ (c : Claims). facts_room c.facts) claims_are in
+      let columns = ap columns_room reported.columns in
+      let text = text_short r report typed in
+      let potentials = certificate.potentials in
+      let parts = certificate.parts in
+      record {
+        image = omega (arith, image, same);
+        report = omega (arith, text, copies, exits, nevers, regions, loops, facts_none, columns, potentials, parts, shares);
+      }

@@ -1,0 +1,2 @@
+pub mod Pragmas
+pub mod Sources
