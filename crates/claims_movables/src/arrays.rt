@@ -8,6 +8,7 @@ ghost use Rattle.claims_movables.specs.Listed.{array_in, arrays_in, movable_of};
 
 use super::item::LaidItem;
 use super::numbers::{add, count};
+use image_rows::array_size;
 use low_ir::object::{Object, Storage};
 use rv_core::Region;
 use std::alloc::Global;
@@ -34,12 +35,11 @@ fn is_local(storage: Storage) -> bool
     }
 }
 
-/// The bytes of an array in whole words.
-fn array_size(object: &Object) -> Result<u32, Memory>
+/// What an array takes, in 32 bits.
+fn size_of(object: &Object) -> Result<u32, Memory>
     ensures { IfOk result (λ size. size ≡ array_size (object_of object.now)) }
 {
-    let bytes = u64::from(object.kind.bytes()) * u64::from(object.length);
-    match u32::try_from((bytes + 3) / 4 * 4) {
+    match u32::try_from(array_size(object)) {
         Ok(size) => Ok(size),
         Err(_) => Err(Memory),
     }
@@ -72,7 +72,7 @@ fn array_item(
     ensures { IfOk result (λ item. movable_of item ≡ array_in arrays.now.functions (region_in arrays.now.regions.now) arrays.now.lists.now number (object_of object.now)) }
 {
     let id = add(arrays.functions, count(number)?)?;
-    let size = array_size(object)?;
+    let size = size_of(object)?;
     let at = Vec::from_slice(alloc, list_at(arrays.lists, number))?;
     Ok(LaidItem {
         id,

@@ -6,8 +6,9 @@ use Rattle.std.proofs.lemmas.Bool.{false≢true}
 use Rattle.rv_core.specs.declared.image.Segment.{Segment}
 use Rattle.rv_core.specs.declared.regions.Region.TheVariants.{Spm}
 use Rattle.rv_core.specs.Regions.{lies_in}
-use Rattle.image_rows.specs.Rows.{room_of, row_by, small_room}
+use Rattle.image_rows.specs.Rows.{row_by, small_room}
 use Rattle.image_segments.specs.Starts.{region_of}
+use Rattle.low_ir.specs.Arrays.{array_size}
 use Rattle.low_ir.specs.declared.object.Storage.{Storage}
 use Rattle.low_ir.specs.declared.object.Storage.TheVariants.{Constant, Global, Local}
 use Rattle.low_ir.specs.Code.{Object}
@@ -60,7 +61,7 @@ row_outside Local false = refl
 
 object_outside : (x : Option Object) → same_region Spm (region_by false x) ≡ false
 object_outside None = refl
-object_outside (Some x) = row_outside x.storage (nat_le (room_of x) small_room)
+object_outside (Some x) = row_outside x.storage (nat_le (array_size x) small_room)
 
 taken_same : (ss : List Segment) → scratchpad_taken ss ≡ taken_in Spm ss
 taken_same [] = refl

@@ -1,14 +1,15 @@
 // The bytes that frames, arrays and placed code take at most.
 ghost use Rattle.std.specs.Prelude.{◌≡◌, map, slice_index_or, false};
+ghost use Rattle.low_ir.specs.Arrays.{array_size};
 ghost use Rattle.low_ir.specs.Effects.{can_store};
 ghost use Rattle.low_ir.specs.Places.{place_functions};
 ghost use Rattle.low_ir.specs.Placings.{assignment_of};
 ghost use Rattle.low_ir.specs.View.{function_of, object_of};
-ghost use Rattle.image_rows.specs.Rows.{room_of};
 ghost use Rattle.image_sizes.specs.Sizes.{constants_room, frames_room, sizes_placed, variables_room};
 ghost use Rattle.image_fitting.specs.Spending.{Spends};
 
 use super::code::spend;
+use image_rows::array_size;
 use low_ir::LowReg;
 use low_ir::object::{Object, Storage};
 
@@ -20,13 +21,6 @@ pub fn is_placed(placed: &[bool], number: usize) -> bool
         Some(placed) => *placed,
         None => false,
     }
-}
-
-/// What an array takes, in bytes.
-pub fn object_room(object: &Object) -> u64
-    ensures { result ≡ room_of (object_of object.now) }
-{
-    (u64::from(object.kind.bytes()) * u64::from(object.length) + 3) / 4 * 4
 }
 
 fn is_variable(storage: Storage) -> bool
@@ -46,7 +40,7 @@ pub fn spend_constants(from: u64, objects: &[Object]) -> Option<u64>
     let mut left = from;
     for object in objects {
         if !is_variable(object.storage) {
-            match spend(left, object_room(object)) {
+            match spend(left, array_size(object)) {
                 None => return None,
                 Some(rest) => left = rest,
             }
@@ -62,7 +56,7 @@ pub fn spend_variables(from: u64, objects: &[Object]) -> Option<u64>
     let mut left = from;
     for object in objects {
         if is_variable(object.storage) {
-            match spend(left, object_room(object)) {
+            match spend(left, array_size(object)) {
                 None => return None,
                 Some(rest) => left = rest,
             }
@@ -73,12 +67,12 @@ pub fn spend_variables(from: u64, objects: &[Object]) -> Option<u64>
 
 /// Takes the room of the arrays that are placed.
 pub fn spend_arrays(from: u64, placed: &[bool], objects: &[Object]) -> Option<u64>
-    ensures { Spends from (sizes_placed placed.now 0 (map room_of (map object_of objects.now))) result }
+    ensures { Spends from (sizes_placed placed.now 0 (map array_size (map object_of objects.now))) result }
 {
     let mut left = from;
     for (number, object) in objects.iter().enumerate() {
         if is_placed(placed, number) {
-            match spend(left, object_room(object)) {
+            match spend(left, array_size(object)) {
                 None => return None,
                 Some(rest) => left = rest,
             }

@@ -5,7 +5,7 @@
 //! where that doesn't suffice. The time is linear in the code, the arrays and the functions.
 //!
 //! Proved: [`has_room`] and [`has_sizes`] answer yes where the program keeps to the bounds of `image_sizes`, whatever is placed
-//! and with a placement, and no where it doesn't; [`object_room`] is the size of an array, and [`spend`] takes an amount.
+//! and with a placement, and no where it doesn't; [`spend`] takes an amount.
 //!
 //! The crate lays nothing.
 #![tactic(auto)]
@@ -15,5 +15,4 @@ mod data;
 mod sizes;
 
 pub use code::spend;
-pub use data::object_room;
 pub use sizes::{has_room, has_sizes};

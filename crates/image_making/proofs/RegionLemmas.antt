@@ -2,11 +2,12 @@
 use Rattle.std.proofs.Common.{◌≡◌, ℕ, zero, suc, ◌+◌, Bool, true, false, List, [], ◌∷◌, refl, ap, ◌∙◌, arith, if◌then◌else◌}
 use Rattle.std.specs.Prelude.{nat_le, slice_get, slice_index_or}
 use Rattle.rv_core.specs.declared.regions.Region.TheVariants.{Ram}
+use Rattle.low_ir.specs.Arrays.{array_size}
 use Rattle.low_ir.specs.declared.object.Storage.{Storage}
 use Rattle.low_ir.specs.declared.object.Storage.TheVariants.{Constant, Global, Local}
 use Rattle.low_ir.specs.Code.{Object}
 use Rattle.image_rows.specs.declared.rows.Row.TheVariants.{Scratchpad}
-use Rattle.image_rows.specs.Rows.{room_of, row_by, small_room}
+use Rattle.image_rows.specs.Rows.{row_by, small_room}
 use Rattle.image_segments.specs.Starts.{region_of}
 use Rattle.image_frames.specs.Memories.{region_by}
 use Rattle.image_making.specs.Regions.{region, regions_from, stored}
@@ -30,7 +31,7 @@ regions_at : (placed : List Bool) (k : ℕ) (xs : List Object) (o : ℕ) → reg
 regions_at placed k [] o = none_at (slice_index_or placed (k + o) false) o
 regions_at placed k (x ∷ xs) zero =
     let e : k + 0 ≡ k = omega arith in
-    ap (λ n. region_by (slice_index_or placed n false) (slice_get (x ∷ xs) 0)) e ∙ region-is (slice_index_or placed k false) x.storage (nat_le (room_of x) small_room)
+    ap (λ n. region_by (slice_index_or placed n false) (slice_get (x ∷ xs) 0)) e ∙ region-is (slice_index_or placed k false) x.storage (nat_le (array_size x) small_room)
 regions_at placed k (x ∷ xs) (suc o) =
     let e : k + suc o ≡ suc k + o = omega arith in
     ap (λ n. region_by (slice_index_or placed n false) (slice_get xs o)) e ∙ regions_at placed (suc k) xs o

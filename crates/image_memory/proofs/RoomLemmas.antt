@@ -1,9 +1,11 @@
 -- Where everything has room in its region, it can be counted.
-use Rattle.std.proofs.Common.{◌≡◌, ℕ, zero, suc, ◌+◌, ◌*◌, ◌/◌, ◌^◌, ◌<◌, Bool, true, false, List, [], ◌∷◌, length, refl, sym, ap, ◌∙◌, subst, arith}
+use Rattle.std.proofs.Common.{◌≡◌, ℕ, zero, suc, ◌+◌, ◌^◌, ◌<◌, Bool, true, false, List, [], ◌∷◌, length, refl, sym, ap, ◌∙◌, subst, arith}
 use Rattle.std.specs.Prelude.{◌==◌, slice_index, slice_index_or}
 use Rattle.std.proofs.lemmas.List.{length-set}
+use Rattle.wcc_base.specs.Sizes.{rounded}
+use Rattle.low_ir.specs.Arrays.{bytes_of}
 use Rattle.low_ir.specs.Code.{Object}
-use Rattle.image_rows.specs.Rows.{bytes_of, Spot, spot_of, spots, moved, row_room, HaveSizes, HaveRoom}
+use Rattle.image_rows.specs.Rows.{Spot, spot_of, spots, moved, row_room, HaveSizes, HaveRoom}
 use Rattle.image_rows.specs.Laws.{AreRows}
 use Rattle.image_rows.proofs.RowLemmas.{gain, gain_by, advanced}
 use Rattle.image_segments.specs.Starts.{starts_behind, FitRegions}
@@ -56,7 +58,7 @@ addresses_have_room frames placed xs n ps qs ys zs starts en ep eq ey ez e fit =
     (subst (λ l. HaveRoom l (spots placed 0 xs)) (sym (e ∙ (ap (λ m. starts_behind m (spots ps 0 ys)) en ∙ ap (λ ss. starts_behind frames ss) (ap (λ l. spots l 0 ys) ep ∙ ap (λ l. spots placed 0 l) ey))))
     (rows_have_room frames placed xs fit))
 
-counted : (n : ℕ) → 4 * ((n + 3) / 4) < 2 ^ 31 → n + 3 < 2 ^ 32
+counted : (n : ℕ) → rounded n < 2 ^ 31 → n + 3 < 2 ^ 32
 counted n h = omega (arith, h)
 
 have_sizes : (placed : List Bool) (o : ℕ) (xs : List Object) → ((r : ℕ) → r < 6 → row_room r (spots placed o xs) < 2 ^ 31) → HaveSizes xs

@@ -8,11 +8,13 @@ use Rattle.std.proofs.lemmas.Option.{same_Some, none-some}
 use Rattle.rv_core.specs.declared.row.Width.{Width}
 use Rattle.rv_core.specs.declared.row.Width.TheVariants.{Byte, Half, Word as Whole}
 use Rattle.rv_core.specs.Memory.{number_at}
+use Rattle.wcc_base.specs.Sizes.{rounded}
+use Rattle.low_ir.specs.Arrays.{bytes_of, array_size}
 use Rattle.low_ir.specs.declared.object.Kind.{Kind}
 use Rattle.low_ir.specs.declared.object.Kind.TheVariants.{Unsigned8, Signed8, Unsigned16, Signed16, Word}
 use Rattle.low_ir.specs.Kinds.{kind_bytes, width_of}
 use Rattle.low_ir.specs.Code.{Object}
-use Rattle.image_rows.specs.Rows.{bytes_of, rounded, room_of, Spot, spot_of, spots, moved, addresses, row_room}
+use Rattle.image_rows.specs.Rows.{Spot, spot_of, spots, moved, addresses, row_room}
 use Rattle.image_rows.specs.Laws.{AreRows}
 use Rattle.image_rows.proofs.RowLemmas.{gain_by, advanced}
 use Rattle.image_rows.specs.Contents.{element_bytes, elements_bytes, object_bytes, row_bytes}
@@ -34,7 +36,7 @@ elements_length kind (v ∷ vs) =
     step : (k n : ℕ) → k + k * n ≡ k * suc n
     step k n = omega arith
 
-rounded_up : (n : ℕ) → n ≤ rounded n
+pub rounded_up : (n : ℕ) → n ≤ rounded n
 rounded_up n = omega arith
 
 taken_few : (n : ℕ) (vs : List ℕ) → length (take n vs) ≤ n
@@ -47,13 +49,13 @@ times_few Unsigned16 n m h = omega arith
 times_few Signed16 n m h = omega arith
 times_few Word n m h = omega arith
 
-pub object_length : (x : Object) → length (object_bytes x) ≡ room_of x
+pub object_length : (x : Object) → length (object_bytes x) ≡ array_size x
 object_length x =
     let given = elements_length x.kind (take x.size x.values) in
     let few = times_few x.kind (length (take x.size x.values)) x.size (taken_few x.size x.values) in
     let up = rounded_up (bytes_of x) in
-    let all = length-append (elements_bytes x.kind (take x.size x.values)) (replicate (room_of x - length (elements_bytes x.kind (take x.size x.values))) 0) in
-    let zeros = length-replicate {A = ℕ} (room_of x - length (elements_bytes x.kind (take x.size x.values))) 0 in
+    let all = length-append (elements_bytes x.kind (take x.size x.values)) (replicate (array_size x - length (elements_bytes x.kind (take x.size x.values))) 0) in
+    let zeros = length-replicate {A = ℕ} (array_size x - length (elements_bytes x.kind (take x.size x.values))) 0 in
     all ∙ omega arith
 
 -- what comes behind some bytes stands that much later
@@ -149,7 +151,7 @@ object_number x zs i h = ap (λ bs. number_at (width_of x.kind) bs (kind_bytes x
     given = elements_bytes x.kind vs
 
     zeros : List ℕ
-    zeros = replicate (room_of x - length given) 0
+    zeros = replicate (array_size x - length given) 0
 
     by : (i < length vs) ⊎ (length vs ≤ i) → number_at (width_of x.kind) (given ++ (zeros ++ zs)) (kind_bytes x.kind * i) ≡ slice_index vs i % 2 ^ (8 * kind_bytes x.kind)
     by (inl l) = number_of x.kind vs (zeros ++ zs) i l
@@ -157,12 +159,12 @@ object_number x zs i h = ap (λ bs. number_at (width_of x.kind) bs (kind_bytes x
         let count = elements_length x.kind vs in
         let up = rounded_up (bytes_of x) in
         let on = past x.kind (length vs) i l ∙ ap (λ n. n + kind_bytes x.kind * (i - length vs)) (sym count) in
-        let room = within x.kind (length vs) i x.size (room_of x) l h up in
-        let fits = subst (λ n. kind_bytes x.kind * (i - length vs) + kind_bytes x.kind ≤ room_of x - n) (sym count) room in
+        let room = within x.kind (length vs) i x.size (array_size x) l h up in
+        let fits = subst (λ n. kind_bytes x.kind * (i - length vs) + kind_bytes x.kind ≤ array_size x - n) (sym count) room in
         let past_all = get_or_past vs i 0 l in
         ap (number_at (width_of x.kind) (given ++ (zeros ++ zs))) on
         ∙ (later (width_of x.kind) given (zeros ++ zs) (kind_bytes x.kind * (i - length vs))
-        ∙ (zeros_number (width_of x.kind) (room_of x - length given) zs (kind_bytes x.kind * (i - length vs)) fits
+        ∙ (zeros_number (width_of x.kind) (array_size x - length given) zs (kind_bytes x.kind * (i - length vs)) fits
         ∙ (sym (nothing (8 * kind_bytes x.kind)) ∙ ap (λ v. v % 2 ^ (8 * kind_bytes x.kind)) (sym past_all))))
 
 -- the bytes of an array stand in those of its row, as far behind their beginning as the array lies behind that of the row
@@ -199,7 +201,7 @@ stands_more next placed r k y xs o x within h = by (s.row == r) refl
           before = object_bytes y ++ h.before;
           after = h.after;
           there = row_by (s.row == r) true y (row_bytes placed r (suc k) xs) t ∙ (ap (λ bs. object_bytes y ++ bs) h.there ∙ sym (append_assoc (object_bytes y) h.before (object_bytes x ++ h.after)));
-          at = ap (λ n. slice_index next r + n) (long ∙ ap (λ n. n + length h.before) size) ∙ (add (slice_index next r) (room_of y) (length h.before) ∙ (ap (λ n. n + length h.before) (sym on) ∙ rest));
+          at = ap (λ n. slice_index next r + n) (long ∙ ap (λ n. n + length h.before) size) ∙ (add (slice_index next r) (array_size y) (length h.before) ∙ (ap (λ n. n + length h.before) (sym on) ∙ rest));
         }
     by false t =
         let on = advanced next s r within ∙ ap (λ g. slice_index next r + g) (gain_by s r false t) in
@@ -236,8 +238,8 @@ pub row_length : (placed : List Bool) (r k : ℕ) (xs : List Object) → length 
 row_length placed r k [] = refl
 row_length placed r k (x ∷ xs) = by ((spot_of (slice_index_or placed k false) x).row == r) (row_length placed r (suc k) xs)
   where
-    by : (b : Bool) → length (row_bytes placed r (suc k) xs) ≡ row_room r (spots placed (suc k) xs) → length (if b then object_bytes x ++ row_bytes placed r (suc k) xs else row_bytes placed r (suc k) xs) ≡ (if b then room_of x else 0) + row_room r (spots placed (suc k) xs)
-    by true h = length-append (object_bytes x) (row_bytes placed r (suc k) xs) ∙ (ap (λ n. n + length (row_bytes placed r (suc k) xs)) (object_length x) ∙ ap (λ n. room_of x + n) h)
+    by : (b : Bool) → length (row_bytes placed r (suc k) xs) ≡ row_room r (spots placed (suc k) xs) → length (if b then object_bytes x ++ row_bytes placed r (suc k) xs else row_bytes placed r (suc k) xs) ≡ (if b then array_size x else 0) + row_room r (spots placed (suc k) xs)
+    by true h = length-append (object_bytes x) (row_bytes placed r (suc k) xs) ∙ (ap (λ n. n + length (row_bytes placed r (suc k) xs)) (object_length x) ∙ ap (λ n. array_size x + n) h)
     by false h = h ∙ omega arith
 
 pub element_stands : (next : List ℕ) (placed : List Bool) (xs : List Object) (o : ℕ) (x : Object) (zs : List ℕ) (i : ℕ) → AreRows (length next) (spots placed 0 xs) → slice_get xs o ≡ Some x → i < x.size

@@ -1,10 +1,11 @@
 -- The bytes of arrays at first: the values that are given, low bytes first, and zeros behind them.
 use Rattle.std.specs.Prelude.{ℕ, suc, ◌-◌, ◌==◌, Bool, false, if◌then◌else◌, List, [], ◌∷◌, ◌++◌, length, take, replicate, slice_index_or}
 use Rattle.std.specs.Int.{w32, to_le_bytes}
+use Rattle.low_ir.specs.Arrays.{array_size}
 use Rattle.low_ir.specs.declared.object.Kind.{Kind}
 use Rattle.low_ir.specs.Kinds.{kind_bytes}
 use Rattle.low_ir.specs.Code.{Object}
-use Rattle.image_rows.specs.Rows.{room_of, spot_of}
+use Rattle.image_rows.specs.Rows.{spot_of}
 
 -- as many low bytes of a word as an element has
 abbrev pub element_bytes : Kind → ℕ → List ℕ
@@ -18,7 +19,7 @@ abbrev pub filled : List ℕ → ℕ → List ℕ
 filled bytes n = bytes ++ replicate (n - length bytes) 0
 
 abbrev pub object_bytes : Object → List ℕ
-object_bytes x = filled (elements_bytes x.kind (take x.size x.values)) (room_of x)
+object_bytes x = filled (elements_bytes x.kind (take x.size x.values)) (array_size x)
 
 -- the bytes of a row, of the arrays from number o on
 abbrev pub row_bytes : List Bool → ℕ → ℕ → List Object → List ℕ

@@ -1,21 +1,11 @@
 -- Where arrays lie: each in a row, behind those of lower numbers in the same row.
-use Rattle.std.specs.Prelude.{ℕ, suc, ◌+◌, ◌*◌, ◌/◌, ◌^◌, ◌<◌, ◌==◌, Bool, true, false, nat_le, if◌then◌else◌, List, [], ◌∷◌, slice_index, slice_index_or, slice_set}
+use Rattle.std.specs.Prelude.{ℕ, suc, ◌+◌, ◌^◌, ◌<◌, ◌==◌, Bool, true, false, nat_le, if◌then◌else◌, List, [], ◌∷◌, slice_index, slice_index_or, slice_set}
 use Rattle.low_ir.specs.declared.object.Storage.{Storage}
 use Rattle.low_ir.specs.declared.object.Storage.TheVariants.{Constant as Fixed', Global, Local}
-use Rattle.low_ir.specs.Kinds.{kind_bytes}
+use Rattle.low_ir.specs.Arrays.{bytes_of, array_size}
 use Rattle.low_ir.specs.Code.{Object}
 use Rattle.image_rows.specs.declared.rows.Row.{Row}
 use Rattle.image_rows.specs.declared.rows.Row.TheVariants.{Constants, Scratchpad, SmallLocals, SmallGlobals, LargeGlobals, LargeLocals}
-
--- the bytes of an array, and what it takes in memory, a multiple of 4
-abbrev pub bytes_of : Object → ℕ
-bytes_of x = kind_bytes x.kind * x.size
-
-abbrev pub rounded : ℕ → ℕ
-rounded n = 4 * ((n + 3) / 4)
-
-abbrev pub room_of : Object → ℕ
-room_of x = rounded (bytes_of x)
 
 -- what small arrays take at most
 abbrev pub small_room : ℕ
@@ -29,7 +19,7 @@ row_by Local true = SmallLocals
 row_by Local false = LargeLocals
 
 abbrev pub row_of : Bool → Object → Row
-row_of placed x = if placed then Scratchpad else row_by x.storage (nat_le (room_of x) small_room)
+row_of placed x = if placed then Scratchpad else row_by x.storage (nat_le (array_size x) small_room)
 
 abbrev pub row_number : Row → ℕ
 row_number Constants = 0
@@ -45,7 +35,7 @@ pub record Spot : Type 0 where
   pub room : ℕ
 
 abbrev pub spot_of : Bool → Object → Spot
-spot_of placed x = record { row = row_number (row_of placed x); room = room_of x }
+spot_of placed x = record { row = row_number (row_of placed x); room = array_size x }
 
 -- the arrays from number o on
 abbrev pub spots : List Bool → ℕ → List Object → List Spot

@@ -1,8 +1,9 @@
 // What arrays hold at first.
 ghost use Rattle.std.specs.Prelude.{◌≡◌, ◌+◌, ◌^◌, ◌<◌, ◌≤◌, ◌++◌, map, take, replicate, IfOk, OnOk};
+ghost use Rattle.low_ir.specs.Arrays.{bytes_of};
 ghost use Rattle.low_ir.specs.Kinds.{kind_bytes};
 ghost use Rattle.low_ir.specs.View.{object_of};
-ghost use Rattle.image_rows.specs.Rows.{bytes_of, row_number, HaveSizes};
+ghost use Rattle.image_rows.specs.Rows.{row_number, HaveSizes};
 ghost use Rattle.image_rows.specs.Contents.{elements_bytes, object_bytes, row_bytes};
 
 use super::rows::{Row, is_placed, room, row_of};

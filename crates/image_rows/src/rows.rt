@@ -1,7 +1,8 @@
 // The rows of arrays.
 ghost use Rattle.std.specs.Prelude.{◌≡◌, ◌+◌, ◌^◌, ◌<◌, ◌≤◌, false, nat_le, map, IfOk, slice_index_or};
+ghost use Rattle.low_ir.specs.Arrays.{bytes_of, array_size};
 ghost use Rattle.low_ir.specs.View.{object_of};
-ghost use Rattle.image_rows.specs.Rows.{bytes_of, room_of, small_room, row_by, row_of, row_number, spots, addresses, row_room, HaveSizes, HaveRoom};
+ghost use Rattle.image_rows.specs.Rows.{small_room, row_by, row_of, row_number, spots, addresses, row_room, HaveSizes, HaveRoom};
 
 use low_ir::object::{Object, Storage};
 use std::alloc::Global;
@@ -38,11 +39,18 @@ impl Row {
 }
 
 /// How many bytes an array takes in memory, a multiple of 4.
+pub fn array_size(object: &Object) -> u64
+    ensures { result ≡ array_size (object_of object.now) }
+{
+    (u64::from(object.kind.bytes()) * u64::from(object.length) + 3) / 4 * 4
+}
+
+/// The same in 32 bits.
 pub fn room(object: &Object) -> u32
     requires { bytes_of (object_of object.now) + 3 < 2 ^ 32 }
-    ensures { result ≡ room_of (object_of object.now) }
+    ensures { result ≡ array_size (object_of object.now) }
 {
-    4 * ((object.kind.bytes() * object.length + 3) / 4)
+    array_size(object) as u32
 }
 
 fn row_by(storage: Storage, small: bool) -> Row

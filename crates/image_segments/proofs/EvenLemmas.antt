@@ -1,11 +1,13 @@
 -- Arrays take multiples of 4, and lie in six rows.
-use Rattle.std.proofs.Common.{◌≡◌, ℕ, zero, suc, ◌+◌, ◌*◌, ◌/◌, ◌%◌, ◌<◌, Bool, true, false, List, [], ◌∷◌, refl, ap, ◌∙◌, arith, if◌then◌else◌}
+use Rattle.std.proofs.Common.{◌≡◌, ℕ, zero, suc, ◌+◌, ◌%◌, ◌<◌, Bool, true, false, List, [], ◌∷◌, refl, ap, ◌∙◌, arith, if◌then◌else◌}
 use Rattle.std.specs.Prelude.{Some, ◌==◌, slice_get, slice_index_or}
 use Rattle.std.proofs.lemmas.Option.{same_Some, none-some}
+use Rattle.wcc_base.specs.Sizes.{rounded}
+use Rattle.low_ir.specs.Arrays.{bytes_of}
 use Rattle.low_ir.specs.Code.{Object}
 use Rattle.image_rows.specs.declared.rows.Row.{Row}
 use Rattle.image_rows.specs.declared.rows.Row.TheVariants.{Constants, Scratchpad, SmallLocals, SmallGlobals, LargeGlobals, LargeLocals}
-use Rattle.image_rows.specs.Rows.{bytes_of, Spot, spot_of, spots, row_of, row_number, row_room}
+use Rattle.image_rows.specs.Rows.{Spot, spot_of, spots, row_of, row_number, row_room}
 use Rattle.image_rows.specs.Laws.{AreRows}
 use Rattle.image_rows.proofs.RowLemmas.{AreEven}
 
@@ -25,7 +27,7 @@ pub spots_even : (placed : List Bool) (k : ℕ) (xs : List Object) → AreEven (
 spots_even placed k [] = tt
 spots_even placed k (x ∷ xs) = (four (bytes_of x), spots_even placed (suc k) xs)
   where
-    four : (n : ℕ) → 4 * ((n + 3) / 4) % 4 ≡ 0
+    four : (n : ℕ) → rounded n % 4 ≡ 0
     four n = omega arith
 
 pub room_even : (r : ℕ) (ss : List Spot) → AreEven ss → row_room r ss % 4 ≡ 0

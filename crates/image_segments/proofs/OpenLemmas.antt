@@ -4,12 +4,13 @@ use Rattle.std.specs.Prelude.{Some, Contains, nat_le, slice_get, slice_index, sl
 use Rattle.std.proofs.lemmas.Bool.{false≢true}
 use Rattle.rv_core.specs.declared.regions.Region.TheVariants.{Ram}
 use Rattle.rv_core.specs.Regions.{region_start}
+use Rattle.low_ir.specs.Arrays.{array_size}
 use Rattle.low_ir.specs.declared.object.Storage.{Storage}
 use Rattle.low_ir.specs.declared.object.Storage.TheVariants.{Constant as Fixed', Global, Local}
 use Rattle.low_ir.specs.Code.{Object}
 use Rattle.image_rows.specs.declared.rows.Row.{Row}
 use Rattle.image_rows.specs.declared.rows.Row.TheVariants.{Constants, Scratchpad, SmallLocals, SmallGlobals, LargeGlobals, LargeLocals}
-use Rattle.image_rows.specs.Rows.{room_of, small_room, Spot, spot_of, addresses, row_by, row_of, row_number, row_room}
+use Rattle.image_rows.specs.Rows.{small_room, Spot, spot_of, addresses, row_by, row_of, row_number, row_room}
 use Rattle.image_rows.specs.Laws.{Lies}
 use Rattle.image_rows.proofs.RowLemmas.{lies}
 use Rattle.image_segments.specs.Starts.{starts_behind}
@@ -31,7 +32,7 @@ frame_open d flash scratchpad a n low high some =
       to = omega (arith, low, high, some);
     }
 
-module _ (d : Data) (flash scratchpad : List ℕ) (o : ℕ) (x : Object) (there : slice_get d.objects o ≡ Some x) (some : 0 < room_of x) where
+module _ (d : Data) (flash scratchpad : List ℕ) (o : ℕ) (x : Object) (there : slice_get d.objects o ≡ Some x) (some : 0 < array_size x) where
   abbrev placed : Bool
   placed = slice_index_or d.placed o false
 
@@ -47,11 +48,11 @@ module _ (d : Data) (flash scratchpad : List ℕ) (o : ℕ) (x : Object) (there 
   in_row : Lies starts ss (spot_of placed x) at
   in_row = lies starts ss o (spot_of placed x) (spots_below d.placed 0 d.objects) (spot_here d.placed o d.objects x there)
 
-  in_segment : (r : ℕ) (bytes : List ℕ) → (spot_of placed x).row ≡ r → Contains (all_segments d flash scratchpad) (row_segment d r bytes true) → Opens (segments_of d flash scratchpad) at (room_of x)
+  in_segment : (r : ℕ) (bytes : List ℕ) → (spot_of placed x).row ≡ r → Contains (all_segments d flash scratchpad) (row_segment d r bytes true) → Opens (segments_of d flash scratchpad) at (array_size x)
   in_segment r bytes e c =
       let lie = in_row in
       let from : slice_index starts r ≤ at = subst (λ n. slice_index starts n ≤ at) e lie.from in
-      let to : at + room_of x ≤ slice_index starts r + row_room r ss = subst (λ n. at + room_of x ≤ slice_index starts n + row_room n ss) e lie.to in
+      let to : at + array_size x ≤ slice_index starts r + row_room r ss = subst (λ n. at + array_size x ≤ slice_index starts n + row_room n ss) e lie.to in
       let full : row_room r ss ≢ 0 = λ none. absurd (omega (arith, from, to, some, none)) in
       record {
         segment = row_segment d r bytes true;
@@ -62,7 +63,7 @@ module _ (d : Data) (flash scratchpad : List ℕ) (o : ℕ) (x : Object) (there 
         to = to;
       }
 
-  in_row_of : (r : Row) → row_of placed x ≡ r → r ≢ Constants → Opens (segments_of d flash scratchpad) at (room_of x)
+  in_row_of : (r : Row) → row_of placed x ≡ r → r ≢ Constants → Opens (segments_of d flash scratchpad) at (array_size x)
   in_row_of Constants e other = absurd (other refl)
   in_row_of Scratchpad e other = in_segment 1 (values_in d 1) (ap row_number e) (2, omega arith, refl)
   in_row_of SmallLocals e other = in_segment 2 [] (ap row_number e) (5, omega arith, refl)
@@ -83,10 +84,10 @@ storage_row Local false h = refl
 
 not_constant : (placed : Bool) (x : Object) → x.storage ≢ Fixed' → is_constant (row_of placed x) ≡ false
 not_constant true x h = refl
-not_constant false x h = storage_row x.storage (nat_le (room_of x) small_room) h
+not_constant false x h = storage_row x.storage (nat_le (array_size x) small_room) h
 
-pub array_open : (d : Data) (flash scratchpad : List ℕ) (o : ℕ) (x : Object) → slice_get d.objects o ≡ Some x → x.storage ≢ Fixed' → 0 < room_of x
-    → Opens (segments_of d flash scratchpad) (slice_index (addresses (starts_behind d.frames (spots_in d)) (spots_in d)) o) (room_of x)
+pub array_open : (d : Data) (flash scratchpad : List ℕ) (o : ℕ) (x : Object) → slice_get d.objects o ≡ Some x → x.storage ≢ Fixed' → 0 < array_size x
+    → Opens (segments_of d flash scratchpad) (slice_index (addresses (starts_behind d.frames (spots_in d)) (spots_in d)) o) (array_size x)
 array_open d flash scratchpad o x there stored some =
     let other = not_constant (slice_index_or d.placed o false) x stored in
     in_row_of d flash scratchpad o x there some (row_of (slice_index_or d.placed o false) x) refl (λ e. absurd (false≢true (sym other ∙ ap is_constant e)))

@@ -4,6 +4,8 @@ use Rattle.std.specs.Prelude.{Some, Contains, nat_le, take, slice_get, slice_ind
 use Rattle.std.proofs.lemmas.Bool.{false≢true}
 use Rattle.rv_core.specs.declared.image.Segment.{Segment}
 use Rattle.rv_core.specs.Memory.{loaded, number_at, read_from}
+use Rattle.wcc_base.specs.Sizes.{rounded}
+use Rattle.low_ir.specs.Arrays.{array_size}
 use Rattle.low_ir.specs.declared.object.Kind.{Kind}
 use Rattle.low_ir.specs.declared.object.Kind.TheVariants.{Unsigned8, Signed8, Unsigned16, Signed16, Word}
 use Rattle.low_ir.specs.declared.object.Storage.{Storage}
@@ -12,7 +14,7 @@ use Rattle.low_ir.specs.Kinds.{kind_bytes, width_of}
 use Rattle.low_ir.specs.Code.{Object}
 use Rattle.image_rows.specs.declared.rows.Row.{Row}
 use Rattle.image_rows.specs.declared.rows.Row.TheVariants.{Constants, Scratchpad, SmallLocals, SmallGlobals, LargeGlobals, LargeLocals}
-use Rattle.image_rows.specs.Rows.{room_of, rounded, small_room, Spot, spot_of, addresses, row_by, row_of, row_number, row_room}
+use Rattle.image_rows.specs.Rows.{small_room, Spot, spot_of, addresses, row_by, row_of, row_number, row_room}
 use Rattle.image_rows.specs.Laws.{Lies}
 use Rattle.image_rows.proofs.RowLemmas.{lies}
 use Rattle.image_rows.proofs.ContentLemmas.{element_stands}
@@ -64,7 +66,7 @@ module _ (d : Data) (flash scratchpad : List ℕ) (fits : FitSegments d flash sc
       let s = row_segment d r (values_in d r) write in
       let lie = in_row in
       let from : slice_index starts r ≤ at = subst (λ n. slice_index starts n ≤ at) e lie.from in
-      let to : at + room_of x ≤ slice_index starts r + row_room r ss = subst (λ n. at + room_of x ≤ slice_index starts n + row_room n ss) e lie.to in
+      let to : at + array_size x ≤ slice_index starts r + row_room r ss = subst (λ n. at + array_size x ≤ slice_index starts n + row_room n ss) e lie.to in
       let fit = element_fits x.kind i x.size less in
       let some = kind_some x.kind in
       let full : row_room r ss ≢ 0 = λ none. absurd (omega (arith, from, to, fit, some, none)) in
@@ -100,7 +102,7 @@ storage_row Local small h = absurd (h refl)
 
 not_local : (placed : Bool) (x : Object) → x.storage ≢ Local → is_local (row_of placed x) ≡ false
 not_local true x h = refl
-not_local false x h = storage_row x.storage (nat_le (room_of x) small_room) h
+not_local false x h = storage_row x.storage (nat_le (array_size x) small_room) h
 
 pub element_read : (d : Data) (flash scratchpad : List ℕ) → FitSegments d flash scratchpad → (o : ℕ) (x : Object) (i : ℕ) → slice_get d.objects o ≡ Some x → x.storage ≢ Local → i < x.size
     → read_from (λ b. b.read) (width_of x.kind) (loaded (segments_of d flash scratchpad)) (slice_index (addresses (starts_behind d.frames (spots_in d)) (spots_in d)) o + kind_bytes x.kind * i) ≡ Some (slice_index (take x.size x.values) i % 2 ^ (8 * kind_bytes x.kind))

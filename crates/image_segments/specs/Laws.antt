@@ -5,10 +5,11 @@ use Rattle.rv_core.specs.declared.regions.Region.TheVariants.{Ram}
 use Rattle.rv_core.specs.Regions.{region_start}
 use Rattle.rv_core.specs.Images.{AreLoadable}
 use Rattle.rv_core.specs.Memory.{loaded, read_from}
+use Rattle.low_ir.specs.Arrays.{array_size}
 use Rattle.low_ir.specs.declared.object.Storage.TheVariants.{Constant as Fixed', Local}
 use Rattle.low_ir.specs.Kinds.{kind_bytes, width_of}
 use Rattle.low_ir.specs.Code.{Object}
-use Rattle.image_rows.specs.Rows.{room_of, addresses}
+use Rattle.image_rows.specs.Rows.{addresses}
 use Rattle.image_segments.specs.Starts.{starts_behind}
 use Rattle.image_segments.specs.Segments.{Data, spots_in, segments_of, all_segments, FitSegments}
 
@@ -42,5 +43,5 @@ abbrev pub FramesAreOpen : Type 0
 FramesAreOpen = (d : Data) (flash scratchpad : List ℕ) (a n : ℕ) → region_start Ram ≤ a → a + n ≤ d.frames → 0 < n → Opens (segments_of d flash scratchpad) a n
 
 abbrev pub ArraysAreOpen : Type 0
-ArraysAreOpen = (d : Data) (flash scratchpad : List ℕ) (o : ℕ) (x : Object) → slice_get d.objects o ≡ Some x → x.storage ≢ Fixed' → 0 < room_of x
-    → Opens (segments_of d flash scratchpad) (slice_index (addresses (starts_behind d.frames (spots_in d)) (spots_in d)) o) (room_of x)
+ArraysAreOpen = (d : Data) (flash scratchpad : List ℕ) (o : ℕ) (x : Object) → slice_get d.objects o ≡ Some x → x.storage ≢ Fixed' → 0 < array_size x
+    → Opens (segments_of d flash scratchpad) (slice_index (addresses (starts_behind d.frames (spots_in d)) (spots_in d)) o) (array_size x)

@@ -2,6 +2,7 @@
 use Rattle.std.proofs.Common.{◌≡◌, ℕ, zero, suc, ◌+◌, ◌≤◌, Bool, true, false, List, [], ◌∷◌, length, map, refl, ap, ◌∙◌, arith, if◌then◌else◌}
 use Rattle.std.specs.Prelude.{◌==◌, ◌&&◌, nat_le, slice_index_or}
 use Rattle.std.specs.List.{range_with_len}
+use Rattle.low_ir.specs.Arrays.{array_size}
 use Rattle.low_ir.specs.declared.object.Storage.{Storage}
 use Rattle.low_ir.specs.declared.object.Storage.TheVariants.{Constant as Fixed', Global, Local}
 use Rattle.low_ir.specs.Code.{Object}
@@ -16,7 +17,7 @@ use Rattle.asm_program.specs.Formed.{IsProgram}
 use Rattle.asm_room.proofs.FunctionLemmas.{sizes_kept}
 use Rattle.asm_room.proofs.SizeLemmas.{longest_has_room}
 use Rattle.image_rows.specs.declared.rows.Row.TheVariants.{Scratchpad}
-use Rattle.image_rows.specs.Rows.{room_of, small_room, row_by, row_of, row_number, row_room, spots}
+use Rattle.image_rows.specs.Rows.{small_room, row_by, row_of, row_number, row_room, spots}
 use Rattle.image_frames.specs.Needs.{saved_of, homes_of, written, housed, is_needed}
 use Rattle.image_frames.specs.Registers.{holds}
 use Rattle.image_frames.specs.Frames.{frame_at, frames_from, frames_of, end_from}
@@ -43,8 +44,8 @@ parts_by false Global false n = record { constants = omega arith; variables = om
 parts_by false Local true n = record { constants = omega arith; variables = omega arith; arrays = omega arith }
 parts_by false Local false n = record { constants = omega arith; variables = omega arith; arrays = omega arith }
 
-parts : (placed : Bool) (x : Object) → Parts (row_number (row_of placed x)) (can_store x.storage) placed (room_of x)
-parts placed x = parts_by placed x.storage (nat_le (room_of x) small_room) (room_of x)
+parts : (placed : Bool) (x : Object) → Parts (row_number (row_of placed x)) (can_store x.storage) placed (array_size x)
+parts placed x = parts_by placed x.storage (nat_le (array_size x) small_room) (array_size x)
 
 constants_few : (placed : List Bool) (k : ℕ) (xs : List Object) → row_room 0 (spots placed k xs) ≤ constants_room xs
 constants_few placed k [] = omega arith
@@ -54,7 +55,7 @@ variables_few : (placed : List Bool) (k : ℕ) (xs : List Object) → row_room 2
 variables_few placed k [] = omega arith
 variables_few placed k (x ∷ xs) = let h = (parts (slice_index_or placed k false) x).variables in let r = variables_few placed (suc k) xs in omega (arith, h, r)
 
-arrays_few : (placed : List Bool) (k : ℕ) (xs : List Object) → row_room 1 (spots placed k xs) ≤ sizes_placed placed k (map room_of xs)
+arrays_few : (placed : List Bool) (k : ℕ) (xs : List Object) → row_room 1 (spots placed k xs) ≤ sizes_placed placed k (map array_size xs)
 arrays_few placed k [] = omega arith
 arrays_few placed k (x ∷ xs) = let h = (parts (slice_index_or placed k false) x).arrays in let r = arrays_few placed (suc k) xs in omega (arith, h, r)
 
@@ -114,6 +115,6 @@ nothing_placed k (n ∷ ns) = let this = ap (λ b. if b then n else 0) (none_the
 
 pub nothing_fits : (p : Placed) → HasRoom p → HasSizes (record { functions = []; objects = [] }) p
 nothing_fits p room =
-    let arrays = nothing_placed 0 (map room_of p.objects) in
+    let arrays = nothing_placed 0 (map array_size p.objects) in
     let functions = nothing_placed 0 (map (code_size p) (range_with_len 0 (length p.functions))) in
     record { room = room; placed = omega (arith, arrays, functions); start = none_there (length p.functions) }

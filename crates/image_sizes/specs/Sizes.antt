@@ -1,6 +1,7 @@
 -- When a program is so small that its image has room.
 use Rattle.std.specs.Prelude.{◌≡◌, ℕ, suc, ◌+◌, ◌*◌, ◌^◌, ◌≤◌, Bool, false, if◌then◌else◌, List, [], ◌∷◌, length, map, All, slice_index_or}
 use Rattle.std.specs.List.{range_with_len}
+use Rattle.low_ir.specs.Arrays.{array_size}
 use Rattle.low_ir.specs.Code.{Object}
 use Rattle.low_ir.specs.Effects.{can_store}
 use Rattle.low_ir.specs.Places.{Placed}
@@ -9,7 +10,6 @@ use Rattle.asm_program.specs.Formed.{IsProgram}
 use Rattle.asm_program.specs.Functions.{PlacedBlock, PlacedFunction}
 use Rattle.asm_program.specs.Laws.{AreWords}
 use Rattle.asm_room.specs.Functions.{function_size}
-use Rattle.image_rows.specs.Rows.{room_of}
 use Rattle.image_frames.specs.Frames.{frames_of}
 use Rattle.image_frames.specs.Memories.{Placement}
 use Rattle.image_definition.specs.Images.{FitsImage}
@@ -17,15 +17,15 @@ use Rattle.image_definition.specs.Images.{FitsImage}
 -- what constants take, and what other arrays do
 abbrev pub constants_room : List Object → ℕ
 constants_room [] = 0
-constants_room (x ∷ xs) = (if can_store x.storage then 0 else room_of x) + constants_room xs
+constants_room (x ∷ xs) = (if can_store x.storage then 0 else array_size x) + constants_room xs
 
 abbrev pub variables_room : List Object → ℕ
 variables_room [] = 0
-variables_room (x ∷ xs) = (if can_store x.storage then room_of x else 0) + variables_room xs
+variables_room (x ∷ xs) = (if can_store x.storage then array_size x else 0) + variables_room xs
 
 -- the bytes of arrays, and those that functions take at most, wherever arrays lie (`asm_room`)
 abbrev pub array_sizes : Placed → List ℕ
-array_sizes p = map room_of p.objects
+array_sizes p = map array_size p.objects
 
 abbrev pub code_size : Placed → ℕ → ℕ
 code_size p f = function_size (record { frames = frames_of p; objects = [] }) p f

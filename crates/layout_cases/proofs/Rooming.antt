@@ -1,5 +1,5 @@
 -- What is small has room.
-use Rattle.std.proofs.Common.{◌≡◌, ℕ, suc, ◌+◌, ◌*◌, ◌/◌, ◌^◌, ◌<◌, ◌≤◌, Bool, true, false, List, [], ◌∷◌, length, ap, arith, if◌then◌else◌}
+use Rattle.std.proofs.Common.{◌≡◌, ℕ, suc, ◌+◌, ◌*◌, ◌^◌, ◌<◌, ◌≤◌, Bool, true, false, List, [], ◌∷◌, length, ap, arith, if◌then◌else◌}
 use Rattle.std.specs.Prelude.{◌==◌, ◌&&◌, slice_index_or}
 use Rattle.asm_items.specs.declared.item.Item.{Item}
 use Rattle.asm_items.specs.declared.item.Item.TheVariants.{Single, Jump, Call, Branch, Return, Exit}
@@ -7,13 +7,15 @@ use Rattle.asm_items.specs.Items.{size, total}
 use Rattle.asm_items.specs.Placings.{Blocks, blocks_size}
 use Rattle.asm_forms.specs.Regions.{functions_size}
 use Rattle.asm_forms.specs.Shorter.{longest, items_longest, blocks_longest, functions_longest}
+use Rattle.wcc_base.specs.Sizes.{rounded}
+use Rattle.low_ir.specs.Arrays.{bytes_of, array_size}
 use Rattle.low_ir.specs.declared.places.LowReg.{LowReg}
 use Rattle.low_ir.specs.Code.{Function, Low, Note, Object}
 use Rattle.low_ir.specs.Places.{Assignment, Placed, placed, place_function, place_functions}
 use Rattle.low_ir.specs.Placings.{assignment_of, placed_of}
 use Rattle.low_ir.specs.Programs.{low_of}
 use Rattle.asm_program.specs.Frames.{frame_end}
-use Rattle.image_rows.specs.Rows.{bytes_of, room_of, spots, spot_of, row_room, HaveSizes}
+use Rattle.image_rows.specs.Rows.{spots, spot_of, row_room, HaveSizes}
 use Rattle.image_segments.specs.Segments.{FitSegments}
 use Rattle.image_segments.specs.Starts.{FitRegions}
 use Rattle.image_frames.specs.Needs.{written, housed, is_needed}
@@ -27,7 +29,7 @@ row_few : (placed : List Bool) (r k : ℕ) (xs : List Object) → row_room r (sp
 row_few placed r k [] = omega arith
 row_few placed r k (x ∷ xs) = by ((spot_of (slice_index_or placed k false) x).row == r) (row_few placed r (suc k) xs)
   where
-    by : (b : Bool) → row_room r (spots placed (suc k) xs) ≤ rooms xs → (if b then room_of x else 0) + row_room r (spots placed (suc k) xs) ≤ room_of x + rooms xs
+    by : (b : Bool) → row_room r (spots placed (suc k) xs) ≤ rooms xs → (if b then array_size x else 0) + row_room r (spots placed (suc k) xs) ≤ array_size x + rooms xs
     by true h = omega (arith, h)
     by false h = omega (arith, h)
 
@@ -89,7 +91,7 @@ functions_more all fs rest bs sum new n h e few is =
     omega (arith, h, is, few, split)
 
 -- and can be counted
-counted : (n : ℕ) → 4 * ((n + 3) / 4) ≤ 0x4000 → n + 3 < 2 ^ 32
+counted : (n : ℕ) → rounded n ≤ 0x4000 → n + 3 < 2 ^ 32
 counted n h = omega (arith, h)
 
 head_few : (n m : ℕ) → n + m ≤ 0x4000 → n ≤ 0x4000
@@ -100,7 +102,7 @@ tail_few n m h = omega (arith, h)
 
 pub arrays_counted : (xs : List Object) → rooms xs ≤ 0x4000 → HaveSizes xs
 arrays_counted [] h = tt
-arrays_counted (x ∷ xs) h = (counted (bytes_of x) (head_few (room_of x) (rooms xs) h), arrays_counted xs (tail_few (room_of x) (rooms xs) h))
+arrays_counted (x ∷ xs) h = (counted (bytes_of x) (head_few (array_size x) (rooms xs) h), arrays_counted xs (tail_few (array_size x) (rooms xs) h))
 
 pub row_counted : (r : ℕ) (placed : List Bool) (xs : List Object) → rooms xs ≤ 0x4000 → row_room r (spots placed 0 xs) < 2 ^ 32
 row_counted r placed xs h = let k = row_few placed r 0 xs in omega (arith, h, k)

@@ -1,17 +1,17 @@
 -- Programs that are small enough for the tests.
 use Rattle.std.specs.Prelude.{ℕ, suc, ◌+◌, ◌≤◌, List, [], ◌∷◌}
+use Rattle.low_ir.specs.Arrays.{array_size}
 use Rattle.low_ir.specs.declared.places.LowReg.{LowReg}
 use Rattle.low_ir.specs.Code.{Function, Note, Object}
 use Rattle.low_ir.specs.Places.{Assignment}
 use Rattle.low_ir.specs.Placings.{assignment_of}
 use Rattle.low_ir.specs.Programs.{low_of}
-use Rattle.image_rows.specs.Rows.{room_of}
 use Rattle.image_saving.specs.Walks.{HaveSpots}
 
 -- what arrays take together
 abbrev pub rooms : List Object → ℕ
 rooms [] = 0
-rooms (x ∷ xs) = room_of x + rooms xs
+rooms (x ∷ xs) = array_size x + rooms xs
 
 -- what the frames of functions from number f on take at most, in words: the return address, all registers twice, and the slots
 abbrev pub words_from : Assignment → ℕ → List (Function ℕ Note) → ℕ

@@ -68,7 +68,7 @@ pub fn rooms(objects: &[Object]) -> Option<u32>
         if object.length >= MOST || sum >= MOST {
             return None;
         }
-        sum += 4 * ((bytes(object.kind, object.length) + 3) / 4);
+        sum += (bytes(object.kind, object.length) + 3) / 4 * 4;
     }
     Some(sum)
 }

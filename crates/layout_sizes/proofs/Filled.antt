@@ -1,5 +1,5 @@
 -- In each region that a line names there is a segment that isn't empty.
-use Rattle.std.proofs.Common.{◌≡◌, ◌≢◌, ℕ, suc, ◌+◌, ◌-◌, ◌*◌, ◌/◌, ◌<◌, ◌≤◌, Bool, true, false, not, List, [], ◌∷◌, length, Option, Some, None, refl, sym, ap, ◌∙◌, ⊎_elim, arith, if◌then◌else◌}
+use Rattle.std.proofs.Common.{◌≡◌, ◌≢◌, ℕ, suc, ◌-◌, ◌*◌, ◌<◌, ◌≤◌, Bool, true, false, not, List, [], ◌∷◌, length, Option, Some, None, refl, sym, ap, ◌∙◌, ⊎_elim, arith, if◌then◌else◌}
 use Rattle.std.specs.Prelude.{All, nat_le, slice_get, slice_index_or}
 use Rattle.std.proofs.lemmas.Bool.{cases_eq, false≢true}
 use Rattle.std.proofs.lemmas.List.Elements.{All-cons, All-head, All-nil, All-tail}
@@ -10,6 +10,8 @@ use Rattle.code_flow_system.specs.declared.claims.Within.{Within}
 use Rattle.asm_items.specs.Items.{total}
 use Rattle.asm_items.specs.Placings.{Blocks, base_of, blocks_of, blocks_size}
 use Rattle.asm_placed.specs.Written.{in_scratchpad}
+use Rattle.wcc_base.specs.Sizes.{rounded}
+use Rattle.low_ir.specs.Arrays.{array_size}
 use Rattle.low_ir.specs.declared.object.Kind.{Kind}
 use Rattle.low_ir.specs.declared.object.Kind.TheVariants.{Unsigned8, Signed8, Unsigned16, Signed16, Word}
 use Rattle.low_ir.specs.declared.object.Storage.{Storage}
@@ -21,7 +23,7 @@ use Rattle.asm_program.specs.Functions.{PlacedFunction}
 use Rattle.asm_program.specs.Frames.{frame_end}
 use Rattle.asm_program.specs.Numbers.{ram}
 use Rattle.asm_program.proofs.GraphLemmas.{shaped}
-use Rattle.image_rows.specs.Rows.{room_of, small_room, row_by, row_room, spot_of}
+use Rattle.image_rows.specs.Rows.{small_room, row_by, row_room, spot_of}
 use Rattle.image_rows.specs.declared.rows.Row.TheVariants.{Scratchpad}
 use Rattle.image_rows.proofs.RowLemmas.{lies}
 use Rattle.image_segments.specs.Starts.{placed_end, region_of, starts_behind}
@@ -54,7 +56,7 @@ frames_some p at k [] some = absurd (omega (arith, some))
 frames_some p at k (fn ∷ fns) some = let h = ends p (frame_end (frame_at p at k fn)) (suc k) fns in omega (arith, h)
 
 -- so has an array with elements
-room_some : (kind : Kind) (n : ℕ) → 0 < n → 0 < 4 * ((kind_bytes kind * n + 3) / 4)
+room_some : (kind : Kind) (n : ℕ) → 0 < n → 0 < rounded (kind_bytes kind * n)
 room_some Unsigned8 n h = omega (arith, h)
 room_some Signed8 n h = omega (arith, h)
 room_some Unsigned16 n h = omega (arith, h)
@@ -126,8 +128,8 @@ module _ (pl : Placement) (p : Placed) (is : IsSettled (laid_of pl p)) (fits : F
   no_array : HasElements p → row_room 1 (spots_in (data_in pl p)) ≡ 0 → (o : ℕ) → same_region Spm (regions_of pl p o) ≡ false
   no_array elements none o = by_array (slice_get p.objects o) refl
     where
-      by_place : (x : Object) → slice_get p.objects o ≡ Some x → (b : Bool) → slice_index_or pl.objects o false ≡ b → same_region Spm (region_of (if b then Scratchpad else row_by x.storage (nat_le (room_of x) small_room))) ≡ false
-      by_place x e false t = not_spm x.storage (nat_le (room_of x) small_room)
+      by_place : (x : Object) → slice_get p.objects o ≡ Some x → (b : Bool) → slice_index_or pl.objects o false ≡ b → same_region Spm (region_of (if b then Scratchpad else row_by x.storage (nat_le (array_size x) small_room))) ≡ false
+      by_place x e false t = not_spm x.storage (nat_le (array_size x) small_room)
       by_place x e true t =
           let ss = spots_in (data_in pl p) in
           let there = spot_here pl.objects o p.objects x e ∙ ap (λ b. Some (spot_of b x)) t in

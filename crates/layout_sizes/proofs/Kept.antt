@@ -1,28 +1,21 @@
 -- The bytes that segments keep.
-use Rattle.std.proofs.Common.{◌≡◌, ◌≢◌, ℕ, suc, ◌+◌, ◌*◌, ◌/◌, ◌≤◌, Bool, true, false, List, [], ◌∷◌, length, refl, ap, ◌∙◌, arith, if◌then◌else◌}
+use Rattle.std.proofs.Common.{◌≡◌, ◌≢◌, ℕ, suc, ◌+◌, ◌*◌, ◌≤◌, Bool, true, false, List, [], ◌∷◌, length, refl, ap, ◌∙◌, arith, if◌then◌else◌}
 use Rattle.std.specs.Prelude.{◌==◌, Some, nat_le, slice_get, slice_index_or}
 use Rattle.rv_core.specs.declared.image.Segment.{Segment}
+use Rattle.low_ir.specs.Arrays.{array_size}
 use Rattle.low_ir.specs.declared.object.Storage.{Storage}
 use Rattle.low_ir.specs.declared.object.Storage.TheVariants.{Constant as Fixed', Global, Local}
 use Rattle.low_ir.specs.Code.{Object}
 use Rattle.low_ir.specs.Places.{Placed}
 use Rattle.image_rows.specs.declared.rows.Row.TheVariants.{Scratchpad}
-use Rattle.image_rows.specs.Rows.{room_of, small_room, row_by, row_number, row_room, spots}
+use Rattle.image_rows.specs.Rows.{small_room, row_by, row_number, row_room, spots}
 use Rattle.image_rows.proofs.ContentLemmas.{row_length}
 use Rattle.image_segments.specs.Segments.{Data, present, all_segments, values_in}
 use Rattle.image_frames.specs.Memories.{Placement}
 use Rattle.image_definition.specs.Images.{data_in, flash_bytes, image_in, scratchpad_bytes}
-use Rattle.low_ir.specs.Arrays.{bytes_of, array_size}
 use Rattle.layout_sizes.specs.Segments.{bytes_kept}
 use Rattle.layout_sizes.specs.Items.{MovesItems, globals_size, instructions_in, unless_local}
 use Rattle.layout_sizes.proofs.Counting.{flash_length, scratchpad_length}
-
--- an array takes its bytes, rounded up to whole words
-pub room_is : (x : Object) → room_of x ≡ array_size x
-room_is x = turned (bytes_of x)
-  where
-    turned : (n : ℕ) → 4 * ((n + 3) / 4) ≡ (n + 3) / 4 * 4
-    turned n = omega arith
 
 bytes_present : (ss : List Segment) → bytes_kept (present ss) ≤ bytes_kept ss
 bytes_present [] = omega arith
@@ -55,10 +48,9 @@ rows_few : (placed : List Bool) (k : ℕ) (xs : List Object) → ((o : ℕ) (x :
     → row_room 0 (spots placed k xs) + row_room 1 (spots placed k xs) + row_room 3 (spots placed k xs) + row_room 4 (spots placed k xs) ≤ globals_size xs
 rows_few placed k [] moves = omega arith
 rows_few placed k (x ∷ xs) moves =
-    let here = one_row (slice_index_or placed k false) x.storage (nat_le (room_of x) small_room) (room_of x) (λ t. moves 0 x refl (ap (λ n. slice_index_or placed n false) (own k) ∙ t)) in
+    let here = one_row (slice_index_or placed k false) x.storage (nat_le (array_size x) small_room) (array_size x) (λ t. moves 0 x refl (ap (λ n. slice_index_or placed n false) (own k) ∙ t)) in
     let rest = rows_few placed (suc k) xs (λ o y e t. moves (suc o) y e (ap (λ n. slice_index_or placed n false) (onward k o) ∙ t)) in
-    let same = ap (unless_local x.storage) (room_is x) in
-    omega (arith, here, rest, same)
+    omega (arith, here, rest)
   where
     own : (n : ℕ) → n + 0 ≡ n
     own n = omega arith

@@ -4,6 +4,7 @@ use Rattle.std.specs.Prelude.{Some, nat_le, slice_get, slice_index, slice_index_
 use Rattle.asm_items.specs.Placings.{Blocks, base_of, blocks_of, blocks_size}
 use Rattle.asm_forms.specs.Regions.{bases_from}
 use Rattle.asm_placed.specs.Written.{in_scratchpad}
+use Rattle.low_ir.specs.Arrays.{array_size}
 use Rattle.low_ir.specs.declared.object.Storage.{Storage}
 use Rattle.low_ir.specs.declared.object.Storage.TheVariants.{Constant as Fixed', Global, Local}
 use Rattle.low_ir.specs.Code.{Object}
@@ -12,7 +13,7 @@ use Rattle.asm_program.specs.Numbers.{ram}
 use Rattle.simulation_relation.specs.Plans.{LiesIn}
 use Rattle.simulation_memory.proofs.ObjectLemmas.{objects_lie}
 use Rattle.image_rows.specs.declared.rows.Row.TheVariants.{Scratchpad}
-use Rattle.image_rows.specs.Rows.{room_of, small_room, row_by}
+use Rattle.image_rows.specs.Rows.{small_room, row_by}
 use Rattle.image_segments.specs.Starts.{placed_end, region_of}
 use Rattle.image_segments.specs.Segments.{spots_in}
 use Rattle.image_frames.specs.Memories.{Placement, region_by, regions_of}
@@ -78,7 +79,7 @@ by_storage false Local false = refl
 
 module _ (pl : Placement) (p : Placed) where
   pub region_is : (o : ℕ) (x : Object) → slice_get p.objects o ≡ Some x → regions_of pl p o ≡ array_region (slice_index_or pl.objects o false) x.storage
-  region_is o x e = ap (region_by (slice_index_or pl.objects o false)) e ∙ by_storage (slice_index_or pl.objects o false) x.storage (nat_le (room_of x) small_room)
+  region_is o x e = ap (region_by (slice_index_or pl.objects o false)) e ∙ by_storage (slice_index_or pl.objects o false) x.storage (nat_le (array_size x) small_room)
 
   module _ (is : IsSettled (laid_of pl p)) where
     abbrev base : ℕ → ℕ

@@ -16,7 +16,7 @@ use Rattle.low_ir.specs.Code.{Object}
 use Rattle.low_ir.specs.Places.{Placed}
 use Rattle.asm_program.specs.Numbers.{ram}
 use Rattle.image_rows.specs.declared.rows.Row.TheVariants.{Scratchpad}
-use Rattle.image_rows.specs.Rows.{room_of, small_room, row_by, row_number, row_room, spots}
+use Rattle.image_rows.specs.Rows.{small_room, row_by, row_number, row_room, spots}
 use Rattle.image_segments.specs.Starts.{placed_end, starts_behind}
 use Rattle.image_segments.specs.Segments.{Data, all_segments, present, spots_in}
 use Rattle.image_frames.specs.Memories.{Placement}
@@ -34,7 +34,7 @@ use Rattle.layout_sizes.specs.Segments.{taken_in}
 use Rattle.layout_sizes.specs.Items.{MovesItems, array_region, scratchpad_size}
 use Rattle.layout_sizes.specs.Laws.{AreSmall}
 use Rattle.layout_sizes.proofs.Counting.{instructions_few, scratchpad_row}
-use Rattle.layout_sizes.proofs.Kept.{kept_few, room_is}
+use Rattle.layout_sizes.proofs.Kept.{kept_few}
 use Rattle.layout_sizes.proofs.Lying.{region_is}
 
 -- segments without bytes take nothing
@@ -111,7 +111,7 @@ module _ (l : Laid) (placed : List Bool) where
   arrays_taken k (x ∷ xs) are =
       let b = slice_index_or placed k false in
       let own = subst (λ n. (l.regions n ≡ array_region (slice_index_or placed n false) x.storage) × (slice_index_or placed n false ≡ true → x.storage ≢ Local)) (first k) (are 0 x refl) in
-      let here = one_placed b x.storage (nat_le (room_of x) small_room) (room_of x) ∙ ap (λ n. if b then n else 0) (room_is x) in
+      let here = one_placed b x.storage (nat_le (array_size x) small_room) (array_size x) in
       let item = one_item l k x (arrays_from l (suc k) xs) b x.storage own.0 own.1 in
       let rest =
       arrays_taken (suc k) xs

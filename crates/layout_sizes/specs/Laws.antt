@@ -2,12 +2,13 @@
 use Rattle.std.specs.Prelude.{◌≡◌, ℕ, ◌+◌, ◌*◌, ◌≤◌, false, length, map, All, Some, slice_get, slice_index_or, sum_by}
 use Rattle.rv_core.specs.declared.regions.Region.TheVariants.{Spm}
 use Rattle.asm_items.specs.Placings.{base_of, blocks_of, blocks_size}
+use Rattle.low_ir.specs.Arrays.{bytes_of}
 use Rattle.low_ir.specs.Code.{Object}
 use Rattle.low_ir.specs.Places.{Placed}
 use Rattle.low_ir.specs.Room.{room}
 use Rattle.asm_program.specs.Frames.{object_at}
 use Rattle.asm_program.specs.Functions.{PlacedFunction}
-use Rattle.simulation_relation.specs.Plans.{LiesIn, object_size}
+use Rattle.simulation_relation.specs.Plans.{LiesIn}
 use Rattle.image_frames.specs.Memories.{Placement}
 use Rattle.image_definition.specs.Images.{FitsImage, image_in}
 use Rattle.image_sizes.specs.Sizes.{HasWords}
@@ -35,7 +36,7 @@ SegmentsAreSmall = (pl : Placement) (p : Placed) → IsSettled (laid_of pl p) �
 pub record LieWherePlaced (pl : Placement) (p : Placed) : Type 0 where
   pub functions : (f : ℕ) → f ≤ length p.functions → LiesIn (function_item (laid_of pl p) f).region (base_of (placing (laid_of pl p)) f) (blocks_size (blocks_of (placing (laid_of pl p)) f))
   pub function_regions : (f : ℕ) → (function_item (laid_of pl p) f).region ≡ code_region (slice_index_or pl.functions f false)
-  pub arrays : (o : ℕ) (x : Object) → slice_get p.objects o ≡ Some x → LiesIn (array_item (laid_of pl p) o x).region (object_at (laid_of pl p).memory o) (object_size x)
+  pub arrays : (o : ℕ) (x : Object) → slice_get p.objects o ≡ Some x → LiesIn (array_item (laid_of pl p) o x).region (object_at (laid_of pl p).memory o) (bytes_of x)
   pub array_regions : (o : ℕ) (x : Object) → slice_get p.objects o ≡ Some x → (array_item (laid_of pl p) o x).region ≡ array_region (slice_index_or pl.objects o false) x.storage
 
 abbrev pub ItemsLie : Type 0

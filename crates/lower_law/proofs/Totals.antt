@@ -1,6 +1,6 @@
 -- Sums over the functions of a low program.
 use Rattle.std.proofs.Common.{◌≡◌, ℕ, ◌+◌, ◌*◌, ◌≤◌, true, List, [], ◌∷◌, ◌++◌, length, map, Some, refl, sym, ap, ◌∙◌, subst, arith, length-append}
-use Rattle.std.specs.Prelude.{◌/◌, slice_get, slice_index_or, sum_by}
+use Rattle.std.specs.Prelude.{slice_get, slice_index_or, sum_by}
 use Rattle.std.proofs.Math.Nat.{mul_comm}
 use Rattle.std.proofs.lemmas.List.{get_or-map, length-map}
 use Rattle.std.proofs.lemmas.List.Concat.{flat_map-cons}
@@ -12,10 +12,12 @@ use Rattle.high_ir.specs.declared.object.Kind.TheVariants as kinds
 use Rattle.high_ir.specs.declared.object.Storage.{Storage as HighStorage}
 use Rattle.high_ir.specs.declared.object.Storage.TheVariants as storages
 use Rattle.high_ir.specs.Formed.{IsHigh}
-use Rattle.high_ir.specs.Size.{local_object_bytes}
+use Rattle.high_ir.specs.Size.{local_object_bytes, object_bytes}
 use Rattle.high_ir.specs.Standing.{loops_in, loops_of}
 use Rattle.high_ir.specs.Tree as high
 use Rattle.high_ir.specs.Words as words
+use Rattle.wcc_base.specs.Sizes.{rounded}
+use Rattle.low_ir.specs.Arrays.{array_size}
 use Rattle.low_ir.specs.Code.{Function, Note, Object}
 use Rattle.low_ir.specs.Effects.{is_member}
 use Rattle.low_ir.specs.Kinds.{kind_bytes}
@@ -110,16 +112,19 @@ bytes_same kinds.Unsigned16 = refl
 bytes_same kinds.Signed16 = refl
 bytes_same kinds.Word = refl
 
-array_same : (storage : HighStorage) (o : high.Object) → local_array_bytes (storage_of storage) (object_of o) ≡ local_object_bytes storage o
-array_same storages.Constant o = refl
-array_same storages.Global o = refl
-array_same storages.Local o = ap (λ n. (n + 3) / 4 * 4) (ap (λ n. n * o.size) (bytes_same o.kind) ∙ mul_comm (words.kind_bytes o.kind) o.size)
+pub array_same : (o : high.Object) → array_size (object_of o) ≡ object_bytes o
+array_same o = ap rounded (ap (λ n. n * o.size) (bytes_same o.kind) ∙ mul_comm (words.kind_bytes o.kind) o.size)
+
+local_same : (storage : HighStorage) (o : high.Object) → local_array_bytes (storage_of storage) (object_of o) ≡ local_object_bytes storage o
+local_same storages.Constant o = refl
+local_same storages.Global o = refl
+local_same storages.Local o = array_same o
 
 pub arrays_same : (os : List high.Object) → sum_by (λ (x : Object). local_array_bytes x.storage x) (map object_of os) ≡ sum_by (λ (o : high.Object). local_object_bytes o.storage o) os
 arrays_same [] = refl
 arrays_same (o ∷ os) =
     let a = arrays_same os in
-    let b = array_same o.storage o in
+    let b = local_same o.storage o in
     let c = sum_by-cons (λ (x : Object). local_array_bytes x.storage x) (object_of o) (map object_of os) in
     let d = sum_by-cons (λ (x : high.Object). local_object_bytes x.storage x) o os in
     omega (arith, a, b, c, d)

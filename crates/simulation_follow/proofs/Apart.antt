@@ -4,13 +4,14 @@ use Rattle.std.specs.Prelude.{◌==◌, if◌then◌else◌, slice_get}
 use Rattle.rv_core.specs.declared.row.Width.{Width}
 use Rattle.rv_core.specs.declared.row.Width.TheVariants.{Word as Whole}
 use Rattle.rv_core.specs.Arithmetic.{byte_count}
+use Rattle.low_ir.specs.Arrays.{bytes_of}
 use Rattle.low_ir.specs.declared.object.Kind.{Kind}
 use Rattle.low_ir.specs.declared.object.Kind.TheVariants.{Unsigned8, Signed8, Unsigned16, Signed16, Word as Word'}
 use Rattle.low_ir.specs.Kinds.{kind_bytes, width_of}
 use Rattle.low_ir.specs.Code.{Object}
 use Rattle.low_ir.specs.Effects.{Contents, is_member}
 use Rattle.asm_program.specs.Frames.{frame_of, position, saved_at, home_at, slot_at, return_at, object_at}
-use Rattle.simulation_relation.specs.Plans.{frame_size, object_size}
+use Rattle.simulation_relation.specs.Plans.{frame_size}
 use Rattle.simulation_relation.specs.Layouts.{Layout}
 use Rattle.simulation_relation.specs.Views.{View, IsArray, HasArrays}
 use Rattle.simulation_relation.specs.Waiting.{Returns, PlacedWaiting, Rests, AreWaiting}
@@ -110,7 +111,7 @@ module _ (l : Layout) where
 
   -- numbers in an array are read as before
   abbrev pub SameObject : ℕ → Object → View → View → Type 0
-  SameObject o x v w = (y : Width) (a : ℕ) → object_at l.memory o ≤ a → a + byte_count y ≤ object_at l.memory o + object_size x → w.read y a ≡ v.read y a
+  SameObject o x v w = (y : Width) (a : ℕ) → object_at l.memory o ≤ a → a + byte_count y ≤ object_at l.memory o + bytes_of x → w.read y a ≡ v.read y a
 
   pub array_kept : (o : ℕ) (x : Object) (c : Contents) (v w : View) → SameObject o x v w → IsArray l.memory o x c v → IsArray l.memory o x c w
   array_kept o x c v w same r =
@@ -122,7 +123,7 @@ module _ (l : Layout) where
             let less = within c.elements i u e in
             let size = r.size in
             let inside = element_within c.kind i x.size (omega arith) in
-            let kinds : kind_bytes c.kind * x.size ≡ object_size x = ap (λ k. kind_bytes k * x.size) r.kind in
+            let kinds : kind_bytes c.kind * x.size ≡ bytes_of x = ap (λ k. kind_bytes k * x.size) r.kind in
             let h = r.elements i u e in
             (same (width_of c.kind) (object_at l.memory o + kind_bytes c.kind * i) (omega arith) (omega arith) ∙ h.0, h.1);
       }

@@ -11,6 +11,7 @@ use Rattle.rv_core.specs.Memory.{loaded as loaded_blocks, read_from}
 use Rattle.rv_core.specs.Stores as stores
 use Rattle.rv_steps.specs.Steps.{Later}
 use Rattle.rv_steps.proofs.LaterLemmas.{now}
+use Rattle.low_ir.specs.Arrays.{bytes_of}
 use Rattle.low_ir.specs.declared.object.Kind.{Kind}
 use Rattle.low_ir.specs.declared.places.Place.{Place}
 use Rattle.low_ir.specs.declared.places.Place.TheVariants.{Register as InRegister, Slot}
@@ -25,7 +26,7 @@ use Rattle.asm_program.specs.Numbers.{base, machine_register}
 use Rattle.asm_program.specs.Frames.{Memory, object_at}
 use Rattle.claims_accesses.specs.Touches.{OfArrays, named}
 use Rattle.simulation_relation.specs.Noted.{Noted}
-use Rattle.simulation_relation.specs.Plans.{frame_size, object_size}
+use Rattle.simulation_relation.specs.Plans.{frame_size}
 use Rattle.asm_program.specs.Functions.{function_in, is_leaf}
 use Rattle.simulation_relation.specs.Positions.{Course}
 use Rattle.simulation_relation.specs.Layouts.{IsOpen}
@@ -136,7 +137,7 @@ module _ (g : Given) where
 
   -- where the bytes of an element lie
   record Lies (q k : ℕ) (kind : Kind) (x : Object) : Type 0 where
-    inside : k + byte_count (width_of kind) ≤ object_size x
+    inside : k + byte_count (width_of kind) ≤ bytes_of x
     lands : (object_at mem q + k) % 2 ^ 32 ≡ object_at mem q + k
     aligned : (object_at mem q + k) % byte_count (width_of kind) ≡ 0
     region : region_of (object_at mem q + k) ≡ Some (g.layout.regions q)
@@ -145,17 +146,17 @@ module _ (g : Given) where
   lies q k kind x found same even less =
       let whole = offset_is kind k even in
       let within_it = element_within g.layout kind (k / kind_bytes kind) x.size less in
-      let kinds : kind_bytes kind * x.size ≡ object_size x = ap (λ z. kind_bytes z * x.size) same in
+      let kinds : kind_bytes kind * x.size ≡ bytes_of x = ap (λ z. kind_bytes z * x.size) same in
       let top = (g.laid.plan.objects q x found).to in
       let most = region-small (g.layout.regions q) in
       let some = width-some (width_of kind) in
-      let small : object_at mem q + object_size x ≤ 2 ^ 32 = omega arith in
-      let there : k + byte_count (width_of kind) ≤ object_size x = omega arith in
+      let small : object_at mem q + bytes_of x ≤ 2 ^ 32 = omega arith in
+      let there : k + byte_count (width_of kind) ≤ bytes_of x = omega arith in
       record {
         inside = there;
         lands = omega arith;
         aligned = ap (λ z. (object_at mem q + z) % byte_count (width_of kind)) (sym whole) ∙ aligned_sum kind (object_at mem q) (k / kind_bytes kind) (g.laid.plan.aligned q x found);
-        region = region_of-part (g.layout.regions q) (object_at mem q) (object_size x) (object_at mem q + k) (g.laid.plan.objects q x found) (omega arith) (omega arith);
+        region = region_of-part (g.layout.regions q) (object_at mem q) (bytes_of x) (object_at mem q + k) (g.laid.plan.objects q x found) (omega arith) (omega arith);
       }
 
   element_of : (n q k w : ℕ) (c : Contents) (x : Object) → slice_get objects q ≡ Some x → IsArray mem q x c (view_of (state g n)) → k % kind_bytes c.kind ≡ 0 → slice_index_or c.elements (k / kind_bytes c.kind) None ≡ Some w → Element n q k w c.kind
@@ -242,21 +243,21 @@ module _ (g : Given) where
           (cases_eq i (b / kind_bytes c.kind))
 
   -- what a store to array q leaves of the others
-  others_stored : (k : Course) (n m q b v : ℕ) (kind : Kind) (x : Object) (xs : List Noted) → slice_get objects q ≡ Some x → b + byte_count (width_of kind) ≤ object_size x → Kept g k n m (width_of kind) (object_at mem q + b) v xs
+  others_stored : (k : Course) (n m q b v : ℕ) (kind : Kind) (x : Object) (xs : List Noted) → slice_get objects q ≡ Some x → b + byte_count (width_of kind) ≤ bytes_of x → Kept g k n m (width_of kind) (object_at mem q + b) v xs
       → (o : ℕ) (y : Object) → o ≢ q → slice_get objects o ≡ Some y → SameObject g.layout o y (view_of (state g n)) (view_of (state g m))
   others_stored k n m q b v kind x xs found inside kept o y other found2 w a from to =
       kept.beside w a
       (⊎_elim
-      (λ (low : object_at mem o + object_size y ≤ object_at mem q). inl (omega arith))
-      (λ (high : object_at mem q + object_size x ≤ object_at mem o). inr (omega arith))
+      (λ (low : object_at mem o + bytes_of y ≤ object_at mem q). inl (omega arith))
+      (λ (high : object_at mem q + bytes_of x ≤ object_at mem o). inr (omega arith))
       (g.laid.plan.objects_apart o q y x other found2 found))
 
-  words_stored : (k : Course) (n m q b v : ℕ) (kind : Kind) (x : Object) (xs : List Noted) → slice_get objects q ≡ Some x → b + byte_count (width_of kind) ≤ object_size x → Kept g k n m (width_of kind) (object_at mem q + b) v xs
+  words_stored : (k : Course) (n m q b v : ℕ) (kind : Kind) (x : Object) (xs : List Noted) → slice_get objects q ≡ Some x → b + byte_count (width_of kind) ≤ bytes_of x → Kept g k n m (width_of kind) (object_at mem q + b) v xs
       → (f : ℕ) → f < length g.layout.program.functions → SameWords g.layout f (view_of (state g n)) (view_of (state g m))
   words_stored k n m q b v kind x xs found inside kept f below a from to =
       kept.beside Whole a
       (⊎_elim
-      (λ (low : object_at mem q + object_size x ≤ (frame g f).at). inr (omega arith))
+      (λ (low : object_at mem q + bytes_of x ≤ (frame g f).at). inr (omega arith))
       (λ (high : (frame g f).at + frame_size (frame g f) ≤ object_at mem q). inl (omega arith))
       (g.laid.plan.beside_frames q f x found below))
 
@@ -311,7 +312,7 @@ module _ (g : Given) where
           let inside_it = l.inside in
           let some = width-some (width_of c.kind) in
           let may_store : can_store found.0.storage ≡ true = ap can_store (sym found.2.storage) ∙ may in
-          let opens : IsOpen g.image (object_at mem q + k) (byte_count (width_of c.kind)) = open-part (stores.frames_of (loaded_blocks g.image.segments)) (object_at mem q) (object_size found.0) (object_at mem q + k) (byte_count (width_of c.kind)) (omega arith) (omega arith) (g.laid.opens.objects q found.0 found.1 may_store (omega (arith, some, inside_it))) in
+          let opens : IsOpen g.image (object_at mem q + k) (byte_count (width_of c.kind)) = open-part (stores.frames_of (loaded_blocks g.image.segments)) (object_at mem q) (bytes_of found.0) (object_at mem q + k) (byte_count (width_of c.kind)) (omega arith) (omega arith) (g.laid.opens.objects q found.0 found.1 may_store (omega (arith, some, inside_it))) in
           let inside = subst (λ s. IsIn g.layout.program r.top.func h.block s r.top.end) code_is h.inside in
           let goal = Runs g (goes_on r is u (Some r.top.store)) in
           let place = course_in g r r.world h.block h.returns in

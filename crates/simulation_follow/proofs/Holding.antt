@@ -9,6 +9,7 @@ use Rattle.std.proofs.lemmas.List.Elements.{Contains-append_left, Contains-appen
 use Rattle.rv_core.specs.declared.row.Width.{Width}
 use Rattle.rv_core.specs.declared.row.Width.TheVariants.{Word as Whole}
 use Rattle.rv_core.specs.Arithmetic.{byte_count}
+use Rattle.low_ir.specs.Arrays.{bytes_of}
 use Rattle.low_ir.specs.declared.places.Place.{Place}
 use Rattle.low_ir.specs.declared.places.Place.TheVariants.{Register as InRegister, Slot}
 use Rattle.low_ir.specs.declared.run.Value.{Value}
@@ -19,7 +20,7 @@ use Rattle.low_ir.specs.Places.{File, Placed, read_place, write_place, with_regi
 use Rattle.asm_program.specs.Numbers.{base, machine_register}
 use Rattle.asm_program.specs.Frames.{slot_at, object_at}
 use Rattle.asm_program.specs.Functions.{PlacedBlock, function_in, is_leaf}
-use Rattle.simulation_relation.specs.Plans.{writes_of, block_writes, function_writes, frame_size, object_size}
+use Rattle.simulation_relation.specs.Plans.{writes_of, block_writes, function_writes, frame_size}
 use Rattle.simulation_relation.specs.Views.{view_of, IsLocated, HasRoom, Shows, HasArrays}
 use Rattle.simulation_relation.specs.Waiting.{IsIn, IsLinked}
 use Rattle.simulation_relation.specs.Following.{PlacedRunning, Holds}
@@ -156,7 +157,7 @@ module _ (g : Given) where
   same_object n m f d there inside k o x e y a from to =
       k.reads y a (beside_words f f d a (byte_count y) there inside
       (⊎_elim
-      (λ (low : object_at g.layout.memory o + object_size x ≤ (frame g f).at). inl (omega arith))
+      (λ (low : object_at g.layout.memory o + bytes_of x ≤ (frame g f).at). inl (omega arith))
       (λ (high : (frame g f).at + frame_size (frame g f) ≤ object_at g.layout.memory o). inr (omega arith))
       (g.laid.plan.beside_frames o f x e there)))
 

@@ -7,15 +7,15 @@ use Rattle.rv_core.specs.Images.{Image, AreSegments, AreLoadable}
 use Rattle.rv_core.specs.Memory.{loaded}
 use Rattle.rv_core.specs.Stores as stores
 use Rattle.rv_core.proofs.Framing.{block_of-length}
+use Rattle.low_ir.specs.Arrays.{bytes_of, array_size}
 use Rattle.low_ir.specs.Code.{Object}
 use Rattle.low_ir.specs.Effects.{can_store}
 use Rattle.low_ir.specs.Places.{Placed}
 use Rattle.asm_program.specs.Numbers.{ram}
 use Rattle.asm_program.specs.Frames.{frame_of, object_at}
-use Rattle.simulation_relation.specs.Plans.{object_size, frame_size}
+use Rattle.simulation_relation.specs.Plans.{frame_size}
 use Rattle.simulation_relation.specs.Layouts.{AreOpen, IsOpen, IsMemoryOf}
 use Rattle.simulation_memory.proofs.ObjectLemmas.{size_fits}
-use Rattle.image_rows.specs.Rows.{room_of}
 use Rattle.image_segments.specs.Laws.{Opens}
 use Rattle.image_segments.proofs.OpenLemmas.{frame_open, array_open}
 use Rattle.image_frames.specs.Memories.{Placement, memory_of}
@@ -50,10 +50,10 @@ module _ (pl : Placement) (p : Placed) (fits : FitsImage pl p) where
       let fr = frame_of (memory_of pl p) f in
       is_open (image_in pl p) fr.at (frame_size fr) (frame_size fr) (image_loadable pl p fits) (frame_open (data_in pl p) (flash_bytes pl p) (scratchpad_bytes pl p) fr.at (frame_size fr) from to (omega arith)) (omega arith)
 
-  arrays_open : (o : ℕ) (x : Object) → slice_get p.objects o ≡ Some x → can_store x.storage ≡ true → 0 < object_size x → IsOpen (image_in pl p) (object_at (memory_of pl p) o) (object_size x)
+  arrays_open : (o : ℕ) (x : Object) → slice_get p.objects o ≡ Some x → can_store x.storage ≡ true → 0 < bytes_of x → IsOpen (image_in pl p) (object_at (memory_of pl p) o) (bytes_of x)
   arrays_open o x there may some =
       let most = size_fits x in
-      is_open (image_in pl p) (object_at (memory_of pl p) o) (room_of x) (object_size x) (image_loadable pl p fits)
+      is_open (image_in pl p) (object_at (memory_of pl p) o) (array_size x) (bytes_of x) (image_loadable pl p fits)
       (array_open (data_in pl p) (flash_bytes pl p) (scratchpad_bytes pl p) o x there (λ e. absurd (false≢true (sym (ap can_store e) ∙ may))) (omega (arith, most, some))) most
 
   pub memory_open : IsMemoryOf (layout_of pl p) (image_in pl p)

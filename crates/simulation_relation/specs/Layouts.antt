@@ -14,6 +14,7 @@ use Rattle.asm_items.specs.Offsets.{IsCodeAddress}
 use Rattle.asm_items.specs.Items.{Starts, words, size}
 use Rattle.asm_items.specs.Standing.{HasWords, is_exit}
 use Rattle.asm_writing.specs.Forms.{IsLike}
+use Rattle.low_ir.specs.Arrays.{bytes_of}
 use Rattle.low_ir.specs.declared.run.Began.{Began}
 use Rattle.low_ir.specs.Code.{Object}
 use Rattle.low_ir.specs.Effects.{can_store}
@@ -22,7 +23,7 @@ use Rattle.asm_program.specs.Frames.{Memory, frame_of, object_at}
 use Rattle.asm_program.specs.Formed.{IsProgram}
 use Rattle.asm_program.specs.Functions.{PlacedBlock, function_in, block_count}
 use Rattle.claims_accesses.specs.Lines.{Access, access_at}
-use Rattle.simulation_relation.specs.Plans.{Needs, IsPlan, object_size, frame_size}
+use Rattle.simulation_relation.specs.Plans.{Needs, IsPlan, frame_size}
 use Rattle.simulation_relation.specs.Noted.{Noted, noted_at}
 
 -- a program, where its data lie, where its blocks begin and end, its code, which blocks begin at an address,
@@ -74,7 +75,7 @@ IsOpen image a n = AreOpen (frames_of (loaded image.segments)) a n
 -- each function's frame, and each array that isn't constant; one without elements may have no segment
 pub record IsMemoryOf (l : Layout) (image : Image) : Type 0 where
   pub frames : (f : ℕ) → f < length l.program.functions → IsOpen image (frame_of l.memory f).at (frame_size (frame_of l.memory f))
-  pub objects : (o : ℕ) (x : Object) → slice_get l.program.objects o ≡ Some x → can_store x.storage ≡ true → 0 < object_size x → IsOpen image (object_at l.memory o) (object_size x)
+  pub objects : (o : ℕ) (x : Object) → slice_get l.program.objects o ≡ Some x → can_store x.storage ≡ true → 0 < bytes_of x → IsOpen image (object_at l.memory o) (bytes_of x)
 
 -- which blocks begin where: blocks of the program alone, at their starts
 abbrev pub started_in : ℕ → ℕ → Option PlacedBlock → List Began

@@ -5,11 +5,11 @@ use Rattle.std.specs.Option.{option_to_list}
 use Rattle.rv_core.specs.declared.regions.Region.{Region}
 use Rattle.rv_core.specs.declared.regions.Region.TheVariants.{Flash, Ram}
 use Rattle.rv_core.specs.Regions.{region_start, region_size}
+use Rattle.low_ir.specs.Arrays.{bytes_of}
 use Rattle.low_ir.specs.declared.places.Place.{Place}
 use Rattle.low_ir.specs.declared.object.Storage.TheVariants.{Constant as Fixed'}
 use Rattle.low_ir.specs.Code.{Operand, Instr, Do, Call, Object}
 use Rattle.low_ir.specs.Places.{Placed, machine_registers}
-use Rattle.low_ir.specs.Kinds.{kind_bytes}
 use Rattle.low_ir.specs.Effects.{dest, is_member}
 use Rattle.asm_program.specs.Frames.{Frame, Memory, frame_of, object_at}
 use Rattle.asm_program.specs.Emission.{registers_among, kept_among}
@@ -55,9 +55,6 @@ pub record LiesIn (r : Region) (at size : ℕ) : Type 0 where
 abbrev pub AreApart : ℕ → ℕ → ℕ → ℕ → Type 0
 AreApart a n b k = (a + n ≤ b) ⊎ (b + k ≤ a)
 
-abbrev pub object_size : Object → ℕ
-object_size o = kind_bytes o.kind * o.size
-
 abbrev pub frame_size : Frame → ℕ
 frame_size fr = 4 * (1 + length fr.saved + length fr.homes + fr.slots)
 
@@ -73,9 +70,9 @@ pub record IsPlan (p : Placed) (m : Memory) (needs : Needs) (regions : ℕ → R
   pub frames_apart : (f g : ℕ) → f ≢ g → f < length p.functions → g < length p.functions → AreApart (frame_of m f).at (frame_size (frame_of m f)) (frame_of m g).at (frame_size (frame_of m g))
   pub saves : (f : ℕ) → f < length p.functions → Saves p m needs f
   pub calls : (f g : ℕ) (b : PlacedBlock) (d : Option Place) (args : List (Operand Place)) (note : List ℕ) → f < length p.functions → Contains (function_in p f).blocks b → Contains b.code (Call d g args note) → SavesAt p m needs f g note
-  pub objects : (o : ℕ) (x : Object) → slice_get p.objects o ≡ Some x → LiesIn (regions o) (object_at m o) (object_size x)
+  pub objects : (o : ℕ) (x : Object) → slice_get p.objects o ≡ Some x → LiesIn (regions o) (object_at m o) (bytes_of x)
   pub aligned : (o : ℕ) (x : Object) → slice_get p.objects o ≡ Some x → object_at m o % 4 ≡ 0
-  pub objects_apart : (o n : ℕ) (x y : Object) → o ≢ n → slice_get p.objects o ≡ Some x → slice_get p.objects n ≡ Some y → AreApart (object_at m o) (object_size x) (object_at m n) (object_size y)
-  pub beside_frames : (o f : ℕ) (x : Object) → slice_get p.objects o ≡ Some x → f < length p.functions → AreApart (object_at m o) (object_size x) (frame_of m f).at (frame_size (frame_of m f))
+  pub objects_apart : (o n : ℕ) (x y : Object) → o ≢ n → slice_get p.objects o ≡ Some x → slice_get p.objects n ≡ Some y → AreApart (object_at m o) (bytes_of x) (object_at m n) (bytes_of y)
+  pub beside_frames : (o f : ℕ) (x : Object) → slice_get p.objects o ≡ Some x → f < length p.functions → AreApart (object_at m o) (bytes_of x) (frame_of m f).at (frame_size (frame_of m f))
   -- only constants lie where nothing can be stored
   pub stored : (o : ℕ) (x : Object) → slice_get p.objects o ≡ Some x → regions o ≡ Flash → x.storage ≡ Fixed'

@@ -10,6 +10,7 @@ use Rattle.rv_core.specs.declared.row.Width.TheVariants.{Word as Whole}
 use Rattle.rv_core.specs.Arithmetic.{byte_count}
 use Rattle.rv_steps.specs.Steps.{Later}
 use Rattle.rv_steps.proofs.LaterLemmas.{now}
+use Rattle.low_ir.specs.Arrays.{bytes_of}
 use Rattle.low_ir.specs.declared.places.Place.{Place}
 use Rattle.low_ir.specs.declared.places.Place.TheVariants.{Register as InRegister, Slot}
 use Rattle.low_ir.specs.declared.run.Value.{Value}
@@ -22,7 +23,7 @@ use Rattle.asm_program.specs.Frames.{saved_at, home_at, slot_at, return_at, obje
 use Rattle.asm_program.specs.Emission.{registers_among}
 use Rattle.asm_program.specs.Functions.{PlacedBlock, PlacedFunction, no_function, function_in, is_leaf, entry_code}
 use Rattle.simulation_relation.specs.Noted.{Noted, noted_body}
-use Rattle.simulation_relation.specs.Plans.{parameters_of, frame_size, object_size, SavesAt}
+use Rattle.simulation_relation.specs.Plans.{parameters_of, frame_size, SavesAt}
 use Rattle.simulation_relation.specs.Positions.{Course, Rest}
 use Rattle.simulation_relation.specs.Views.{view_of, Shows}
 use Rattle.simulation_relation.specs.Waiting.{IsIn, Returns, Rests, IsLinked}
@@ -57,10 +58,10 @@ module _ (g : Given) where
   at_entry m q = reg g m (machine_register q)
 
   -- an array is outside each frame
-  object_outside : (o c a n : ℕ) (x : Object) → slice_get g.layout.program.objects o ≡ Some x → c < length g.layout.program.functions → object_at g.layout.memory o ≤ a → a + n ≤ object_at g.layout.memory o + object_size x → IsOutside g c a n
+  object_outside : (o c a n : ℕ) (x : Object) → slice_get g.layout.program.objects o ≡ Some x → c < length g.layout.program.functions → object_at g.layout.memory o ≤ a → a + n ≤ object_at g.layout.memory o + bytes_of x → IsOutside g c a n
   object_outside o c a n x found there from to =
       ⊎_elim
-      (λ (low : object_at g.layout.memory o + object_size x ≤ (frame g c).at). inl (omega arith))
+      (λ (low : object_at g.layout.memory o + bytes_of x ≤ (frame g c).at). inl (omega arith))
       (λ (high : (frame g c).at + frame_size (frame g c) ≤ object_at g.layout.memory o). inr (omega arith))
       (g.laid.plan.beside_frames o c x found there)
 

@@ -13,6 +13,7 @@ use Rattle.rv_core.specs.Runs.{Visit}
 use Rattle.asm_items.specs.declared.item.Item.TheVariants as items
 use Rattle.rv_steps.specs.Steps.{Later}
 use Rattle.rv_steps.proofs.LaterLemmas.{now, and_then}
+use Rattle.low_ir.specs.Arrays.{bytes_of}
 use Rattle.low_ir.specs.declared.places.Place.{Place}
 use Rattle.low_ir.specs.declared.places.Place.TheVariants.{Register as InRegister, Slot}
 use Rattle.low_ir.specs.declared.run.Value.{Value}
@@ -25,7 +26,7 @@ use Rattle.asm_program.specs.Frames.{object_at}
 use Rattle.asm_program.specs.Functions.{PlacedBlock, PlacedFunction, no_function, function_in, is_leaf, entry_code, at_once, block_count, opening_items}
 use Rattle.asm_program.proofs.ItemLemmas.{of_start}
 use Rattle.simulation_relation.specs.Noted.{Noted, noted, single, noted_body, noted_by, noted_at}
-use Rattle.simulation_relation.specs.Plans.{frame_size, object_size}
+use Rattle.simulation_relation.specs.Plans.{frame_size}
 use Rattle.simulation_relation.specs.Layouts.{HasCode, started_in, started}
 use Rattle.simulation_relation.specs.Positions.{Touches, Course}
 use Rattle.simulation_relation.specs.Views.{view_of, HasArrays}
@@ -165,7 +166,7 @@ module _ (g : Given) where
                     arrays_kept l (map contents p.objects) (view_of (state g 0)) (view_of (state g j))
                     (λ i x found y b from to.
                     o.beside y b
-                    (⊎_elim (λ (low : object_at l.memory i + object_size x ≤ fr.at). inl (omega (arith, low, to))) (λ (high : fr.at + frame_size fr ≤ object_at l.memory i). inr (omega (arith, high, from))) (g.laid.plan.beside_frames i p.main x found there))
+                    (⊎_elim (λ (low : object_at l.memory i + bytes_of x ≤ fr.at). inl (omega (arith, low, to))) (λ (high : fr.at + frame_size fr ≤ object_at l.memory i). inr (omega (arith, high, from))) (g.laid.plan.beside_frames i p.main x found there))
                     ∙ ap (λ (u : machine.World). read_from (λ d. d.read) y u.memory b) world) arrays;
                 linked = o.linked;
                 after = λ q. reg g n (machine_register q);

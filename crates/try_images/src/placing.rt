@@ -1,8 +1,9 @@
 // What lies in the scratchpad.
 ghost use Rattle.std.specs.Prelude.{◌≡◌, []};
 
-use image_fitting::{object_room, spend};
+use image_fitting::spend;
 use image_memory::Placement;
+use image_rows::array_size;
 use low_ir::Low;
 use low_ir::object::Object;
 use std::alloc::Global;
@@ -30,7 +31,7 @@ fn choose_arrays(alloc: Global, from: u64, objects: &[Object]) -> Result<Chosen,
     let mut left = from;
     let mut placed = Vec::new(alloc);
     for object in objects {
-        match spend(left, object_room(object)) {
+        match spend(left, array_size(object)) {
             None => placed.push(false)?,
             Some(rest) => {
                 left = rest;
