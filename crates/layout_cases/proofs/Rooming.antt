@@ -104,9 +104,6 @@ pub arrays_counted : (xs : List Object) → rooms xs ≤ 0x4000 → HaveSizes xs
 arrays_counted [] h = tt
 arrays_counted (x ∷ xs) h = (counted (bytes_of x) (head_few (array_size x) (rooms xs) h), arrays_counted xs (tail_few (array_size x) (rooms xs) h))
 
-pub row_counted : (r : ℕ) (placed : List Bool) (xs : List Object) → rooms xs ≤ 0x4000 → row_room r (spots placed 0 xs) < 2 ^ 32
-row_counted r placed xs h = let k = row_few placed r 0 xs in omega (arith, h, k)
-
 -- with two instructions in flash and one in the scratchpad
 pub segments_fit : (frames : ℕ) (placed : List Bool) (xs : List Object) (flash scratchpad : List ℕ) → rooms xs ≤ 0x4000 → 0x2000_0000 ≤ frames → frames ≤ 0x2001_0000 → length flash ≡ 8 → length scratchpad ≡ 4
     → FitSegments (record { frames = frames; placed = placed; objects = xs }) flash scratchpad

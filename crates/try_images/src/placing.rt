@@ -1,6 +1,4 @@
 // What lies in the scratchpad.
-ghost use Rattle.std.specs.Prelude.{◌≡◌, []};
-
 use image_fitting::spend;
 use image_memory::Placement;
 use image_rows::array_size;
@@ -8,16 +6,6 @@ use low_ir::Low;
 use low_ir::object::Object;
 use std::alloc::Global;
 use wcc_base::Memory;
-
-/// Nothing is placed.
-pub fn nothing(alloc: Global) -> Placement
-    ensures { result ≡ record { functions = []; objects = [] } }
-{
-    Placement {
-        functions: Vec::new(alloc),
-        objects: Vec::new(alloc),
-    }
-}
 
 /// What is placed of a row, and the bytes that are left for others.
 #[derive(Drop)]

@@ -3,10 +3,11 @@ ghost use Rattle.std.specs.Prelude.{◌≡◌, IfOk};
 ghost use Rattle.try_sources.specs.declared.comparing.Verdict.TheVariants.{Equal};
 ghost use Rattle.try_images.specs.Verdicts.{ExitsAs};
 
-use super::images::{Places, placed, unplaced, with_places};
+use super::images::{Places, placed, with_places};
 use super::runs::over_image;
 use elf_image::write;
 use high_ir::{Carried, MarkCopies};
+use layout_fitting::lay_unplaced;
 use layout_laid::Laid;
 use low_ir::LowReg;
 use low_make::lower;
@@ -58,7 +59,7 @@ fn print_unplaced(
     marks: &[MarkCopies],
     code: &LowReg,
 ) -> Result<(), Fault> {
-    let laid = unplaced(rt.alloc(), code)?;
+    let laid = lay_unplaced(rt.alloc(), code)?;
     let printed = print_run(rt, input, meant, marks, &laid);
     drop(laid);
     printed
@@ -168,7 +169,7 @@ fn write_code(rt: &HostRuntime, code: &LowReg, placement: &str, image: &str) -> 
     let laid = if placement == "everything" {
         placed(rt.alloc(), code)?
     } else {
-        unplaced(rt.alloc(), code)?
+        lay_unplaced(rt.alloc(), code)?
     };
     let written = write_laid(rt, &laid, image);
     drop(laid);
@@ -191,7 +192,7 @@ pub fn write_image(
 
 fn lay_code(rt: &HostRuntime, code: &LowReg, times: u32) -> Result<(), Fault> {
     for _ in 0..times {
-        let laid = unplaced(rt.alloc(), code)?;
+        let laid = lay_unplaced(rt.alloc(), code)?;
         drop(laid);
     }
     println!(rt; "functions {}", code.low.functions.len())?;

@@ -1,9 +1,0 @@
-use Rattle.std.proofs.Common.{◌≡◌, map}
-use Rattle.std.specs.List.{range_with_len}
-use Rattle.claims_movables.specs.Listed.{movable_of}
-use Rattle.layout_sizes.specs.Items.{sized}
-use Rattle.try_images.specs.Sizes.{size_listed}
-use Rattle.try_images.proofs.images.sizes_of.Given as goal
-
-abbrev pub invariant-loop-number : goal.invariant-loop-number
-invariant-loop-number l = l.sizes.items ≡ map (size_listed (map sized (map movable_of l.items))) (range_with_len 0 l.number)
