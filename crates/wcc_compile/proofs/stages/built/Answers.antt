@@ -4,7 +4,7 @@ use Rattle.elf_image.specs.Text.{text_of}
 use Rattle.report_text.specs.Lines.{report_text}
 use Rattle.promise_report.specs.Compiled.{IsCompiled}
 use Rattle.wcc_compile.specs.Sources.{names_of, tree_of}
-use Rattle.wcc_compile.proofs.compiling.built.Goals as goal
+use Rattle.wcc_compile.proofs.stages.built.Goals as goal
 
 pub reported-requires : goal.reported-requires
 reported-requires c = record { text = c.requires.source.0; is_source = c.requires.source.1; is_made = c.in_ok-made.ensures }

@@ -3,7 +3,7 @@ use Rattle.rv_core.specs.Table.{table_of}
 use Rattle.report_text.specs.Reports.{Report}
 use Rattle.wcc_compile.specs.Sources.{IsReportOn}
 use Rattle.wcc_compile.proofs.Reports.{is_report, is_reported}
-use Rattle.wcc_compile.proofs.reporting.reported.Goals as goal
+use Rattle.wcc_compile.proofs.stages.reported.Goals as goal
 
 pub joined-requires : goal.joined-requires
 joined-requires c =
