@@ -1,5 +1,5 @@
 -- What a plan keeps of its source, and what one more pass keeps of it.
-use Rattle.std.proofs.Common.{ℕ, suc, ◌^◌, ◌<◌, List, sym, subst, arith, All, pow-suc}
+use Rattle.std.proofs.Common.{ℕ, suc, ◌^◌, ◌<◌, ◌≤◌, List, sym, subst, arith, All, pow-suc}
 use Rattle.facts_definitions.specs.declared.facts.Facts.{Facts}
 use Rattle.facts_front.specs.Fronts.{IsSource}
 use Rattle.types_tree.specs.Tree as c
@@ -18,7 +18,7 @@ use Rattle.high_pass.specs.Listing.{Listing}
 use Rattle.compile_words.proofs.Sources.{source_is_whole}
 use Rattle.compile_sizes.specs.Limits.{IsLimited}
 use Rattle.compile_sizes.proofs.Plans.{pass_limited, source_limited}
-use Rattle.compile_carried.specs.Carried.{IsCarried, IsPlanned}
+use Rattle.compile_carried.specs.Carried.{IsCarried, IsPassed, IsPlanned}
 
 pub planned_carried : (source : List ℕ) (names : List (List ℕ)) (program : c.Program) (facts : Facts) (p : Program) (listing : Listing) → IsSource source names program facts → IsPlanned names program facts p listing → IsCarried names program facts 0 p listing
 planned_carried source names program facts p listing is planned =
@@ -49,3 +49,14 @@ pass_carried names program facts passes old new whole step made before is_high l
       elements = subst (λ (os : List Object). All (λ (o : Object). 0 < o.size) os) (sym lawful.objects) before.elements;
       limited = pass_limited old new step lawful before.limited;
     }
+
+-- whatever the pass promises
+pub passed_carried : (names : List (List ℕ)) (program : c.Program) (facts : Facts) (passes : ℕ) (did : Program → Program → Listing → Type 0) (old new : Program) (whole made : Listing) → IsCarried names program facts passes old whole → IsHigh new → IsPassed did old new whole made → IsCarried names program facts (suc passes) new made
+passed_carried names program facts passes did old new whole made before is_high passed = pass_carried names program facts passes old new whole passed.step made before is_high passed.lawful passed.continues
+
+-- a greater bound on factors
+pub factors_wider : (n m : ℕ) (listing : Listing) → n ≤ m → FactorsWithin n listing → FactorsWithin m listing
+factors_wider n m listing le h = record {
+  loops = λ i d lt j e within. let few = h.loops i d lt j e within in omega (arith, few, le);
+  nevers = λ i d lt. let few = h.nevers i d lt in omega (arith, few, le);
+}

@@ -11,7 +11,8 @@ use Rattle.high_ir.specs.Tree.{Program}
 use Rattle.high_ir.specs.Weight.{weight}
 use Rattle.high_ir.specs.Whole.{IsWhole}
 use Rattle.high_pass.specs.Carries.{Carries}
-use Rattle.high_pass.specs.Law.{FactorsWithin, ReachWithin}
+use Rattle.high_pass.specs.Composing.{Continues, composed}
+use Rattle.high_pass.specs.Law.{FactorsWithin, IsLawful, ReachWithin}
 use Rattle.high_pass.specs.Listing.{Listing}
 use Rattle.compile_sizes.specs.Limits.{IsLimited}
 
@@ -19,6 +20,14 @@ use Rattle.compile_sizes.specs.Limits.{IsLimited}
 pub record IsPlanned (names : List (List ℕ)) (source : c.Program) (facts : Facts) (p : Program) (listing : Listing) : Type 0 where
   pub program : p ≡ program_planned source facts (main_of source names)
   pub listed : listing ≡ planned_listing source facts
+
+-- what a pass that promises this made of a program with its copies of a source, and of these
+pub record IsPassed (did : Program → Program → Listing → Type 0) (old new : Program) (whole made : Listing) : Type 0 where
+  pub step : Listing
+  pub does : did old new step
+  pub lawful : IsLawful old new step
+  pub listed : made ≡ composed whole step
+  pub continues : Continues old new whole made
 
 -- what so many passes, whichever they are, make of the plan
 pub record IsCarried (names : List (List ℕ)) (source : c.Program) (facts : Facts) (passes : ℕ) (p : Program) (listing : Listing) : Type 0 where
