@@ -1,1 +1,1 @@
-mod Both
+pub mod Both
