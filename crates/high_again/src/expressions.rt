@@ -18,12 +18,7 @@ pub fn let_go_expr(expr: Expr) {
     drop(expr);
 }
 
-fn binary(
-    alloc: Global,
-    operator: BinaryOperator,
-    left: Expr,
-    right: Expr,
-) -> Result<Expr, Memory>
+fn binary(alloc: Global, operator: BinaryOperator, left: Expr, right: Expr) -> Result<Expr, Memory>
     ensures { IfOk result (λ e. expr_of e ≡ Binary operator (expr_of left) (expr_of right)) }
 {
     let left = match boxed(alloc, left) {

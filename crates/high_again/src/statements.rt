@@ -28,13 +28,7 @@ fn block(alloc: Global, body: Statement) -> Result<Statement, Memory>
 }
 
 /// A loop of this number, whose starts are from `min` to `max`.
-fn loop_of(
-    alloc: Global,
-    id: u32,
-    min: u32,
-    max: u32,
-    body: Statement,
-) -> Result<Statement, Memory>
+fn loop_of(alloc: Global, id: u32, min: u32, max: u32, body: Statement) -> Result<Statement, Memory>
     ensures { IfOk result (λ s. statement_of s ≡ Loop id min max (statement_of body)) }
 {
     Ok(Statement::Loop {
@@ -87,12 +81,7 @@ fn choice(
     }
 }
 
-fn copied_keep(
-    alloc: Global,
-    array: Array,
-    index: &Expr,
-    value: &Expr,
-) -> Result<Statement, Memory>
+fn copied_keep(alloc: Global, array: Array, index: &Expr, value: &Expr) -> Result<Statement, Memory>
     ensures { IfOk result (λ s. statement_of s ≡ Keep array (expr_of index.now) (expr_of value.now)) }
 {
     let index = copied_expr(alloc, index)?;

@@ -9,8 +9,8 @@ pub invariant_of-program : goal.invariant_of-program
 invariant_of-program c =
     let old = c.args.old.now in
     let same = from_parts (program_of old) (map function_of c.in-Ok.functions.items) (map object_of c.in_ok-objects.objects.items)
-        (c.in-Ok.ensures ∙ ap (map function_of) c.deref-2.ensures.value)
-        (c.in_ok-objects.ensures ∙ ap (map object_of) c.deref.ensures.value) in
+    (c.in-Ok.ensures ∙ ap (map function_of) c.deref-2.ensures.value)
+    (c.in_ok-objects.ensures ∙ ap (map object_of) c.deref.ensures.value) in
     record { is_high = subst IsHigh (sym same) old.is_high }
 
 pub returns-in-Ok : goal.returns-in-Ok
