@@ -12,9 +12,9 @@ use Rattle.facts_definitions.specs.declared.facts.Facts.{Facts}
 use Rattle.facts_front.specs.Fronts.{IsSource}
 use Rattle.types_tree.specs.Tree as c
 use Rattle.plan_checked.proofs.Sources.{checked}
-use Rattle.high_ir.specs.Tree.{Program}
 use Rattle.high_pass.specs.Listing.{LoopEntry, listing_of}
 use Rattle.low_ir.specs.Code.{Low}
+use Rattle.low_ir.specs.declared.places.LowReg.{LowReg}
 use Rattle.low_ir.specs.Placings.{placed_of}
 use Rattle.low_ir.specs.Programs.{low_of}
 use Rattle.layout_laid.specs.declared.laid.Laid as lays
@@ -34,12 +34,12 @@ use Rattle.compile_turns.proofs.Whole.{all_kept}
 use Rattle.compile_bounds.proofs.Faults.{only_memory}
 
 -- of a program in memory, whatever its loops are called
-module _ (p : Program) (y : lays.Laid) (h : IsInMemory p y) (es : List LoopEntry) where
+module _ (code : LowReg) (y : lays.Laid) (h : IsInMemory code y) (es : List LoopEntry) where
   abbrev low : Low
-  low = low_of h.code.low
+  low = low_of code.low
 
   abbrev laid : Laid
-  laid = laid_of nothing (placed_of h.code)
+  laid = laid_of nothing (placed_of code)
 
   abbrev claims : Claims
   claims = claims_of laid
@@ -59,16 +59,16 @@ module _ (p : Program) (y : lays.Laid) (h : IsInMemory p y) (es : List LoopEntry
       bound_same es (table_of c) claims s shapes y.lists.spans.items own.same_claims (subst (λ ps. CanBound (table_of c) (under claims s) shapes ps) (sym h.laid.lists.spans) can)
 
 module _ (source : List ℕ) (names : List (List ℕ)) (program : c.Program) (facts : Facts) (m : Made) (is : IsSource source names program facts) (made : IsMade names program facts m) where
-  light : IsLight (low_of made.in_memory.code.low)
+  light : IsLight (low_of made.code.low)
   light =
-      let low = low_of made.in_memory.code.low in
+      let low = low_of made.code.low in
       let are = (checked source names program facts is).facts_are in
-      let kept = made.keeps_source in
-      let lowered = made.in_memory.keeps_program in
+      let carried = made.carried in
+      let keeps = made.lowered.keeps_program in
       record {
-        turns = all_kept program names facts made.program (listing_of m.copies) low are kept.carries kept.is_high lowered;
-        light = source_light program names facts made.program low are kept.weight lowered;
+        turns = all_kept program names facts made.program (listing_of m.copies) low are carried.carries carried.is_high keeps;
+        light = source_light program names facts made.program low are carried.weight keeps;
       }
 
   pub made_bounded : (c : Costs) (s : System) → IsSystemOf m.laid.image (named (listing_of m.copies).loops m.laid.claimed.claims) s → CanBound (table_of c) s m.laid.claimed.shapes.items m.laid.lists.spans.items
-  made_bounded c s h = can_bound made.program m.laid made.in_memory (listing_of m.copies).loops light c s h
+  made_bounded c s h = can_bound made.code m.laid made.in_memory (listing_of m.copies).loops light c s h

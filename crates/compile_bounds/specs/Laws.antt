@@ -1,5 +1,5 @@
 -- The claims on what is made of a source, its flow system, and the search for its greatest flow.
-use Rattle.std.specs.Prelude.{◌≡◌, ℕ, ◌<◌, List, [], All}
+use Rattle.std.specs.Prelude.{◌≡◌, ℕ, ◌^◌, ◌<◌, List, [], All}
 use Rattle.rv_core.specs.declared.costs.Costs.{Costs}
 use Rattle.rv_core.specs.Table.{table_of}
 use Rattle.code_flow_system.specs.Systems.{System, IsSystemOf}
@@ -16,11 +16,12 @@ use Rattle.compile_claims.specs.Named.{named}
 use Rattle.compile_made.specs.declared.made.Made.{Made}
 use Rattle.compile_made.specs.Made.{IsMade}
 
--- loops have numbers below how many there are, in the claims, in their copies and in the source; there are no restrictions
+-- loops have numbers below how many there are, in the claims and in their copies; those of the source have small ones; there are no
+-- restrictions
 pub record CanBeNamed (m : Made) : Type 0 where
   pub there : All (λ c. c.source < m.loops) m.laid.claimed.claims.loops
   pub listed : All (λ e. All (λ l. l.id < m.loops) e.new) (listing_of m.copies).loops
-  pub old : All (λ (e : LoopCopies). e.old < m.loops) m.copies.loops.items
+  pub old : All (λ (e : LoopCopies). e.old < 2 ^ 26) m.copies.loops.items
   pub facts : m.laid.claimed.claims.facts ≡ []
 
 -- claims can be named by the loops of the source

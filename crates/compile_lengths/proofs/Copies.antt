@@ -1,13 +1,14 @@
 -- How long the copy lines of a source are.
-use Rattle.std.proofs.Common.{◌≡◌, ℕ, zero, suc, ◌+◌, ◌*◌, ◌≤◌, List, [], ◌∷◌, length, map, refl, sym, ap, subst, arith, All}
+use Rattle.std.proofs.Common.{◌≡◌, ℕ, zero, suc, ◌+◌, ◌*◌, ◌≤◌, List, [], ◌∷◌, ◌++◌, length, map, length-append, refl, sym, ap, ◌∙◌, subst, arith, All}
 use Rattle.std.specs.Prelude.{slice_index_or, sum_by}
 use Rattle.std.specs.List.{flat_map, range_with_len}
-use Rattle.std.proofs.lemmas.List.{append-nil}
+use Rattle.std.proofs.lemmas.List.Concat.{flat_map-cons}
 use Rattle.std.proofs.lemmas.List.Elements.{All-head, All-tail}
 use Rattle.std.proofs.lemmas.List.Sorted.{length_permutation}
+use Rattle.std.proofs.lemmas.List.Sums.{sum_by-append, sum_by-cons}
 use Rattle.c_tree.specs.declared.expression.NameId.{NameId}
-use Rattle.high_pass.specs.Listing.{MarkEntry}
-use Rattle.plan_runs.specs.Kept.{same_mark}
+use Rattle.high_pass.specs.Listing.{HasEachBelow, Listing, MarkEntry, listed_marks}
+use Rattle.high_pass.proofs.Counting.{sum_by-HasEachBelow, sum_by-flat_map}
 use Rattle.compile_lines.specs.CopyLines.{AreLinesOf, places_at}
 use Rattle.compile_names.specs.Laws.{IsNamed}
 use Rattle.report_sizes.specs.Room.{copies_room}
@@ -30,8 +31,16 @@ room_split : (cs : List CopyLine) → copies_room cs ≡ 6 * length cs + (names_
 room_split [] = omega arith
 room_split (c ∷ cs) = let rest = room_split cs in omega (arith, rest)
 
-next : (k : ℕ) → suc k ≡ k + 1
-next k = omega arith
+-- a row of numbers, by two names
+ranged : (g : ℕ → ℕ) (a n : ℕ) → sum_by g (range_with_len a n) ≡ summed g (upto a n)
+ranged g a zero = refl
+ranged g a (suc n) =
+    let rest : sum_by g (range_with_len (a + 1) n) ≡ summed g (upto (suc a) n) = subst (λ k. sum_by g (range_with_len k n) ≡ summed g (upto (suc a) n)) (next a) (ranged g (suc a) n) in
+    let all : sum_by g (range_with_len a (suc n)) ≡ g a + sum_by g (range_with_len (a + 1) n) = sum_by-cons g a (range_with_len (a + 1) n) in
+    all ∙ ap (λ s. g a + s) rest
+  where
+    next : (k : ℕ) → suc k ≡ k + 1
+    next k = omega arith
 
 module _ (names : List (List ℕ)) (places : List (List ℕ)) where
   names_same : (ids : List NameId) (es : List MarkEntry) (cs : List CopyLine) → AreLinesOf names places ids es cs → names_in cs ≡ ids_length names ids
@@ -52,32 +61,53 @@ module _ (names : List (List ℕ)) (places : List (List ℕ)) where
       let rest = lines_few ids es cs h.1 (All-tail (IsNamed names) id ids named) in
       omega (arith, some, rest)
 
-  -- where each mark is its own copy
+  -- a line has the addresses of its marks
   abbrev places_of : ℕ → ℕ
   places_of k = length (slice_index_or places k [])
 
-  own_places : (k : ℕ) → length (flat_map (places_at places) (k ∷ [])) ≡ places_of k
-  own_places k = ap (λ (l : List ℕ). length l) (append-nil (places_at places k))
+  marks_places : (ms : List ℕ) → length (flat_map (places_at places) ms) ≡ sum_by places_of ms
+  marks_places [] = refl
+  marks_places (m ∷ ms) =
+      let parts : length (flat_map (places_at places) (m ∷ ms)) ≡ length (places_at places m ++ flat_map (places_at places) ms) = ap (λ (l : List ℕ). length l) (flat_map-cons (places_at places) m ms) in
+      let both = length-append (places_at places m) (flat_map (places_at places) ms) in
+      let own : length (places_at places m) ≡ places_of m = refl in
+      let rest = marks_places ms in
+      let all = sum_by-cons places_of m ms in
+      omega (arith, parts, both, own, rest, all)
 
-  places_few : (a n : ℕ) (ids : List NameId) (cs : List CopyLine) → AreLinesOf names places ids (map same_mark (range_with_len a n)) cs → places_in cs ≤ summed places_of (upto a n)
-  places_few a zero [] [] h = omega arith
-  places_few a zero [] (c ∷ cs) h = absurd h
-  places_few a zero (id ∷ ids) cs h = absurd h
-  places_few a (suc n) [] [] h = omega arith
-  places_few a (suc n) [] (c ∷ cs) h = absurd h
-  places_few a (suc n) (id ∷ ids) [] h = absurd h
-  places_few a (suc n) (id ∷ ids) (c ∷ cs) h =
-      let one = length_permutation (flat_map (places_at places) (a ∷ [])) c.places h.0.places_are in
-      let own = own_places a in
-      let rest = places_few (suc a) n ids cs (subst (λ k. AreLinesOf names places ids (map same_mark (range_with_len k n)) cs) (sym (next a)) h.1) in
-      omega (arith, one, own, rest)
+  abbrev entry_places : MarkEntry → ℕ
+  entry_places e = sum_by places_of e.new
 
-  pub copies_few : (n : ℕ) (ids : List NameId) (cs : List CopyLine) → AreLinesOf names places ids (map same_mark (range_with_len 0 n)) cs → All (IsNamed names) ids
-      → copies_room cs ≤ 7 * ids_length names ids + 9 * sum_by (λ (l : List ℕ). length l) places
-  copies_few n ids cs h named =
-      let split = room_split cs in
-      let own = names_same ids (map same_mark (range_with_len 0 n)) cs h in
-      let many = lines_few ids (map same_mark (range_with_len 0 n)) cs h named in
-      let few = places_few 0 n ids cs h in
+  places_few : (ids : List NameId) (es : List MarkEntry) (cs : List CopyLine) → AreLinesOf names places ids es cs → places_in cs ≤ sum_by entry_places es
+  places_few [] es [] h = omega arith
+  places_few [] es (c ∷ cs) h = absurd h
+  places_few (id ∷ ids) [] cs h = absurd h
+  places_few (id ∷ ids) (e ∷ es) [] h = absurd h
+  places_few (id ∷ ids) (e ∷ es) (c ∷ cs) h =
+      let one = length_permutation (flat_map (places_at places) e.new) c.places h.0.places_are in
+      let own = marks_places e.new in
+      let rest = places_few ids es cs h.1 in
+      let all = sum_by-cons entry_places e es in
+      omega (arith, one, own, rest, all)
+
+  -- no mark is listed twice
+  marks_few : (c : Listing) (n : ℕ) → HasEachBelow n (listed_marks c) → sum_by entry_places c.marks ≤ sum_by (λ (l : List ℕ). length l) places
+  marks_few c n each =
+      let copies = flat_map (λ (e : MarkEntry). e.new) c.marks in
+      let nevers = map (λ v. v.mark) c.nevers in
+      let flat = sum_by-flat_map places_of (λ (e : MarkEntry). e.new) c.marks in
+      let both = sum_by-append places_of copies nevers in
+      let once = sum_by-HasEachBelow places_of n (listed_marks c) each in
+      let row = ranged places_of 0 n in
       let all : summed places_of (upto 0 n) ≤ sum_by (λ (l : List ℕ). length l) places = first_numbers (λ (l : List ℕ). length l) [] refl n places in
+      omega (arith, flat, both, once, row, all)
+
+  pub copies_few : (c : Listing) (n : ℕ) → HasEachBelow n (listed_marks c) → (ids : List NameId) (cs : List CopyLine) → AreLinesOf names places ids c.marks cs → All (IsNamed names) ids
+      → copies_room cs ≤ 7 * ids_length names ids + 9 * sum_by (λ (l : List ℕ). length l) places
+  copies_few c n each ids cs h named =
+      let split = room_split cs in
+      let own = names_same ids c.marks cs h in
+      let many = lines_few ids c.marks cs h named in
+      let few = places_few ids c.marks cs h in
+      let all = marks_few c n each in
       omega (arith, split, own, many, few, all)

@@ -14,6 +14,7 @@ use Rattle.low_ir.specs.Code.{Low, Note}
 use Rattle.low_ir.specs.Places.{Placed, assignment, in_slots, placed}
 use Rattle.low_ir.specs.Placings.{assignment_of, placed_of}
 use Rattle.low_ir.specs.Programs.{low_of}
+use Rattle.low_ir.specs.declared.places.LowReg.{LowReg}
 use Rattle.lower_budget.specs.Costs.{marks_at, marks_in}
 use Rattle.elf_image.specs.Text.{text_of}
 use Rattle.claims_definition.specs.Listed.{Laid, claims_of}
@@ -26,7 +27,7 @@ use Rattle.layout_sizes.specs.Items.{globals_size, instructions_in}
 use Rattle.lower_definition.specs.Objects.{object_of}
 use Rattle.simulation_marks.specs.Laws.{blocks_standing, functions_standing, has_mark}
 use Rattle.simulation_marks.proofs.Standing.{all_few, all_stand}
-use Rattle.compile_made.specs.Made.{IsInMemory}
+use Rattle.compile_made.specs.Made.{IsInMemory, IsLowered}
 use Rattle.compile_sizes.specs.Limits.{IsLimited, nothing}
 use Rattle.compile_sizes.proofs.Functions.{functions_few}
 use Rattle.compile_sizes.proofs.Sizes.{limited_fit, slots_few}
@@ -96,12 +97,12 @@ functions_same (fn ∷ fns) =
     let all = sum_by-cons (λ (x : low.Function ℕ Note). sum_by marks_at x.blocks) fn fns in
     omega (arith, one, rest, all)
 
-module _ (p : Program) (is_high : IsHigh p) (limited : IsLimited p) (y : lays.Laid) (h : IsInMemory p y) where
+module _ (p : Program) (is_high : IsHigh p) (limited : IsLimited p) (code : LowReg) (lowered : IsLowered p code) (y : lays.Laid) (h : IsInMemory code y) where
   abbrev q : Low
-  q = low_of h.code.low
+  q = low_of code.low
 
   abbrev over : Placed
-  over = placed_of h.code
+  over = placed_of code
 
   abbrev own : Laid
   own = laid_of nothing over
@@ -111,7 +112,7 @@ module _ (p : Program) (is_high : IsHigh p) (limited : IsLimited p) (y : lays.La
 
   sizes : HasSizes nothing over
   sizes =
-      subst (λ ps. HasSizes nothing (placed (assignment ps) q)) (sym h.slots) (limited_fit p q (assignment (map in_slots q.functions)) limited h.keeps_program (slots_few q))
+      subst (λ ps. HasSizes nothing (placed (assignment ps) q)) (sym lowered.slots) (limited_fit p q (assignment (map in_slots q.functions)) limited lowered.keeps_program (slots_few q))
 
   instructions : instructions_in nothing over ≤ 1589248
   instructions =
@@ -121,7 +122,7 @@ module _ (p : Program) (is_high : IsHigh p) (limited : IsLimited p) (y : lays.La
 
   pub low_functions : length q.functions ≤ 256
   low_functions =
-      let few = functions_few p q h.keeps_program in
+      let few = functions_few p q lowered.keeps_program in
       let most = limited.functions in
       omega (arith, few, most)
 
@@ -136,18 +137,18 @@ module _ (p : Program) (is_high : IsHigh p) (limited : IsLimited p) (y : lays.La
   claims_loops =
       let few = h.keeps_low.few.loops in
       let same = h.keeps_low.rooms.loops in
-      let lowered = h.keeps_program.loops in
+      let kept = lowered.keeps_program.loops in
       let planned = program_loops p is_high in
       let most = operations_few in
-      omega (arith, few, same, lowered, planned, most)
+      omega (arith, few, same, kept, planned, most)
 
   -- the addresses of all marks
   pub places_few : (n : ℕ) → sum_by (λ (l : List ℕ). length l) (places_below own n) ≤ 98304
   places_few n =
       let few : sum_by (λ (l : List ℕ). length l) (places_below own n) ≤ functions_standing over.functions = all_few own n in
-      let stand = all_stand (assignment_of h.code) q in
+      let stand = all_stand (assignment_of code) q in
       let same = functions_same q.functions in
-      let marks = h.keeps_program.marks in
+      let marks = lowered.keeps_program.marks in
       let most = operations_few in
       omega (arith, few, stand, same, marks, most)
 
@@ -160,6 +161,6 @@ module _ (p : Program) (is_high : IsHigh p) (limited : IsLimited p) (y : lays.La
       let kept = small.kept in
       let code = instructions in
       let globals = globals_few p.objects in
-      let same : globals_size over.objects ≡ globals_size (map object_of p.objects) = ap globals_size h.keeps_program.objects in
+      let same : globals_size over.objects ≡ globals_size (map object_of p.objects) = ap globals_size lowered.keeps_program.objects in
       let most = limited.globals in
       omega (arith, text, segments, kept, code, globals, same, most)

@@ -1,7 +1,8 @@
 //! What is made of a source: its image in memory, and what became in it of the source's marks and loops.
 //!
-//! `specs/Made` says what such a thing keeps of its source. That it is made so is the promise of `compile_image`; what is
-//! shown of it (its search, its report, its runs) rests on this alone.
+//! `specs/Made` has a record for each stage, joined by the programs between them: the plan, what passes keep of the source
+//! (`compile_carried`), the low form over its places, the image. What is shown of what is made (its search, its report, its
+//! runs) rests on these alone, and but for the first on no plan.
 #![tactic(auto)]
 
 mod made;

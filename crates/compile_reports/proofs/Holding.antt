@@ -46,9 +46,9 @@ greatest_shares (Spent columns pivots) mark with_parts own h marked greatest = a
 module _ (source : List ℕ) (names : List (List ℕ)) (program : Program) (facts : Facts) (m : Made) (t : Table) (r : Report) (is : IsSource source names program facts) (made : IsMade names program facts m) (reported : IsReported t names facts m r) where
   opens : (f : ℕ) → f < length (over names program facts m t r made reported).functions → Opens (function_in (over names program facts m t r made reported) f) (length facts.functions)
   opens f lt =
-      let low = low_of made.in_memory.code.low in
+      let low = low_of made.code.low in
       let same = made.in_memory.keeps_low.rooms.functions in
-      made_opens source names program facts made.program low (assignment_of made.in_memory.code) is made.planned made.in_memory.keeps_program f (omega (arith, same, lt))
+      made_opens source names program facts made.program low (assignment_of made.code) is made.carried.carries.functions made.lowered.keeps_program f (omega (arith, same, lt))
 
   fit : TellsShares r → SharesFit t reported.system r.cert.flow.parts r.shares
   fit tells =

@@ -30,7 +30,7 @@ system_sound image claims s h = no_flaws (flaws claims) (λ n flaw. h.no_bad n (
 
 module _ (names : List (List ℕ)) (program : Program) (facts : Facts) (m : Made) (t : Table) (r : Report) (made : IsMade names program facts m) (reported : IsReported t names facts m r) where
   abbrev pub over : Placed
-  over = placed_of made.in_memory.code
+  over = placed_of made.code
 
   abbrev pub laid : Laid
   laid = laid_of nothing over

@@ -3,14 +3,12 @@ use Rattle.std.proofs.Common.{◌≡◌, ℕ, zero, suc, ◌<◌, List, [], ◌�
 use Rattle.std.specs.Prelude.{slice_get}
 use Rattle.std.proofs.lemmas.List.{length-map}
 use Rattle.std.proofs.lemmas.Option.{get_or_from_slice_get, slice_get_within}
-use Rattle.facts_definitions.specs.FlowFacts.{main_of, name_id}
+use Rattle.facts_definitions.specs.FlowFacts.{name_id}
 use Rattle.types_tree.specs.Tree.{function_name}
 use Rattle.facts_definitions.specs.declared.facts.Facts.{Facts}
 use Rattle.facts_front.specs.Fronts.{IsSource}
 use Rattle.types_tree.specs.Tree as c
-use Rattle.plan_forms.proofs.Programs.{length_planned}
 use Rattle.high_ir.specs.Tree.{Program}
-use Rattle.plan_definition.specs.Programs.{plan_of, program_planned}
 use Rattle.plan_formed.proofs.Facts.{says}
 use Rattle.low_ir.specs.Code.{Block, Function, Low, Note}
 use Rattle.low_ir.specs.Formed.{opening}
@@ -58,8 +56,8 @@ functions_counted source names program facts is =
     ∙ length-map (map function_name program.functions) name_id
     ∙ length-map program.functions function_name
 
-pub made_opens : (source : List ℕ) (names : List (List ℕ)) (program : c.Program) (facts : Facts) (p : Program) (q : Low) (a : Assignment) → IsSource source names program facts → p ≡ program_planned program facts (main_of program names) → KeepsProgram p q
+pub made_opens : (source : List ℕ) (names : List (List ℕ)) (program : c.Program) (facts : Facts) (p : Program) (q : Low) (a : Assignment) → IsSource source names program facts → length p.functions ≡ length program.functions → KeepsProgram p q
     → (f : ℕ) → f < length q.functions → Opens (function_in (placed a q) f) (length facts.functions)
-made_opens source names program facts p q a is planned keeps f lt =
-    let count = ap (λ (x : Program). length x.functions) planned ∙ length_planned (plan_of program facts) program.variables facts.ranks.of_functions program.functions 0 ∙ sym (functions_counted source names program facts is) in
+made_opens source names program facts p q a is as_many keeps f lt =
+    let count = as_many ∙ sym (functions_counted source names program facts is) in
     subst (Opens (function_in (placed a q) f)) count (lowered_opens p q a keeps f lt)

@@ -7,6 +7,7 @@ use Rattle.std.proofs.lemmas.List.{get_or_past}
 use Rattle.std.proofs.lemmas.List.Elements.{All-head}
 use Rattle.std.proofs.lemmas.List.FromFn.{get_or-map-range_with_len, length-map-range_with_len}
 use Rattle.std.proofs.lemmas.Option.{get_or_from_slice_get, slice_get_within}
+use Rattle.low_ir.specs.declared.places.LowReg.{LowReg}
 use Rattle.low_ir.specs.declared.places.Place.{Place}
 use Rattle.low_ir.specs.Code.{Block, Function, Low, Note}
 use Rattle.low_ir.specs.Formed.{HasMarkBelow, IsLow, mark_of}
@@ -15,7 +16,6 @@ use Rattle.low_ir.specs.Placings.{assignment_of, placed_of}
 use Rattle.low_ir.specs.Programs.{low_of}
 use Rattle.low_ir.specs.Runs.{block_in}
 use Rattle.low_ir.specs.Turns.{mark_in}
-use Rattle.high_ir.specs.Tree.{Program}
 use Rattle.claims_definition.specs.Laws.{IsPlaceOf}
 use Rattle.claims_definition.specs.Listed.{Laid, places_of}
 use Rattle.claims_image.specs.Images.{laid_of}
@@ -52,25 +52,25 @@ module _ (low : Low) (is : IsLow low) (mark : ℕ) where
   marked_below : (a : Assignment) (f b : ℕ) → mark_of (placed a low) f b ≡ Some mark → mark < low.marks
   marked_below a f b e = in_function f b (slice_get low.functions f) refl (sym (in_functions a 0 low.functions f b) ∙ e)
 
-module _ (program : Program) (y : lays.Laid) (h : IsInMemory program y) where
+module _ (code : LowReg) (y : lays.Laid) (is_low : IsLow (low_of code.low)) (h : IsInMemory code y) where
   abbrev pub laid : Laid
-  laid = laid_of nothing (placed_of h.code)
+  laid = laid_of nothing (placed_of code)
 
   -- past the marks of the program there are no addresses
-  none_past : (mark : ℕ) (xs : List ℕ) → h.code.low.marks ≤ mark → All (IsPlaceOf laid mark) xs → xs ≡ []
+  none_past : (mark : ℕ) (xs : List ℕ) → code.low.marks ≤ mark → All (IsPlaceOf laid mark) xs → xs ≡ []
   none_past mark [] past all = refl
   none_past mark (x ∷ xs) past all =
       let first = All-head (IsPlaceOf laid mark) x xs all in
-      let below : mark < h.code.low.marks = marked_below (low_of h.code.low) h.keeps_program.is_low mark (assignment_of h.code) first.function first.block first.marked in
+      let below : mark < code.low.marks = marked_below (low_of code.low) is_low mark (assignment_of code) first.function first.block first.marked in
       absurd (omega (arith, past, below))
 
-  by_place : (mark : ℕ) → slice_index_or (places_below laid h.code.low.marks) mark [] ≡ places_of laid mark
+  by_place : (mark : ℕ) → slice_index_or (places_below laid code.low.marks) mark [] ≡ places_of laid mark
   by_place mark = ⊎_elim
-      (λ (low : mark < h.code.low.marks). get_or-map-range_with_len (places_of laid) 0 h.code.low.marks mark mark [] low (plain mark))
-      (λ (past : h.code.low.marks ≤ mark).
-      get_or_past (places_below laid h.code.low.marks) mark [] (subst (λ n. n ≤ mark) (sym (length-map-range_with_len (places_of laid) 0 h.code.low.marks)) past)
+      (λ (low : mark < code.low.marks). get_or-map-range_with_len (places_of laid) 0 code.low.marks mark mark [] low (plain mark))
+      (λ (past : code.low.marks ≤ mark).
+      get_or_past (places_below laid code.low.marks) mark [] (subst (λ n. n ≤ mark) (sym (length-map-range_with_len (places_of laid) 0 code.low.marks)) past)
       ∙ sym (none_past mark (places_of laid mark) past (h.keeps_low.marks mark).each))
-      (cases_lt mark h.code.low.marks)
+      (cases_lt mark code.low.marks)
     where
       plain : (n : ℕ) → 0 + n ≡ n
       plain n = omega arith

@@ -2,7 +2,6 @@
 use Rattle.std.proofs.Common.{◌≡◌, ℕ, ℤ, pos, List, [], ◌++◌, refl, sym, ap, ◌∙◌, subst}
 use Rattle.std.specs.Prelude.{slice_index_or}
 use Rattle.std.proofs.lemmas.Option.{get_or_from_slice_get, slice_get_within}
-use Rattle.high_ir.specs.Whole.{IsWhole}
 use Rattle.frac128.specs.Terms.{int_sum_by}
 use Rattle.frac128.proofs.TermsLemmas.{int_sum_by-same}
 use Rattle.rv_core.specs.Images.{Image}
@@ -12,12 +11,12 @@ use Rattle.code_flow_system.specs.Claims.{Claims}
 use Rattle.code_flow_system.specs.KeptRuns.{KeepsClaims, visit_count}
 use Rattle.code_flow_system.specs.Systems.{IsSystemOf}
 use Rattle.facts_definitions.specs.declared.facts.Facts.{Facts}
-use Rattle.facts_front.specs.Fronts.{IsSource}
 use Rattle.types_tree.specs.Tree.{Program}
 use Rattle.high_pass.specs.Listing.{Listing, LoopEntry, MarkEntry, listing_of}
 use Rattle.high_pass.proofs.Entries.{number_at}
 use Rattle.plan_carried.specs.Sources.{source_marks}
 use Rattle.low_ir.specs.Code.{Low}
+use Rattle.low_ir.specs.declared.places.LowReg.{LowReg}
 use Rattle.low_ir.specs.Places.{Placed, Placing}
 use Rattle.low_ir.specs.Placings.{placed_of, placings_of}
 use Rattle.low_ir.specs.Programs.{low_of}
@@ -27,7 +26,6 @@ use Rattle.claims_definition.specs.Listed.{claims_of}
 use Rattle.claims_image.specs.Images.{laid_of}
 use Rattle.compile_image_law.specs.Laws.{EndsAsMain, IsCompiled, passed}
 use Rattle.compile_image_law.proofs.Sources.{source_shows}
-use Rattle.compile_words.proofs.Sources.{source_is_whole}
 use Rattle.compile_sizes.specs.Limits.{nothing}
 use Rattle.compile_claims.specs.Laws.{under}
 use Rattle.compile_claims.specs.Named.{named}
@@ -44,24 +42,27 @@ use Rattle.compile_reports.specs.Reported.{IsReported}
 use Rattle.compile_runs.proofs.Counting.{IsSummed, lines_summed}
 use Rattle.compile_runs.proofs.Places.{places_same}
 
-module _ (source : List ℕ) (names : List (List ℕ)) (program : Program) (facts : Facts) (m : Made) (t : Table) (r : Report) (is : IsSource source names program facts) (made : IsMade names program facts m) (reported : IsReported t names facts m r) where
+module _ (names : List (List ℕ)) (program : Program) (facts : Facts) (m : Made) (t : Table) (r : Report) (made : IsMade names program facts m) (reported : IsReported t names facts m r) where
   abbrev listing : Listing
   listing = listing_of m.copies
 
   abbrev loops : List LoopEntry
   loops = listing.loops
 
-  abbrev memory : IsInMemory made.program m.laid
+  abbrev code : LowReg
+  code = made.code
+
+  abbrev memory : IsInMemory code m.laid
   memory = made.in_memory
 
   abbrev low : Low
-  low = low_of memory.code.low
+  low = low_of code.low
 
   abbrev placings : List Placing
-  placings = placings_of memory.code
+  placings = placings_of code
 
   abbrev over : Placed
-  over = placed_of memory.code
+  over = placed_of code
 
   abbrev image : Image
   image = image_in nothing over
@@ -78,8 +79,8 @@ module _ (source : List ℕ) (names : List (List ℕ)) (program : Program) (fact
 
   compiled : IsCompiled made.program low nothing placings (under claims reported.system) t r.cert
   compiled = record {
-    whole = subst IsWhole (sym made.planned) (source_is_whole source names program facts is);
-    keeps_program = memory.keeps_program;
+    whole = made.carried.whole;
+    keeps_program = made.lowered.keeps_program;
     keeps_low = memory.keeps_low;
     system = system_same loops image claims reported.system system_is;
     scale = reported.form.scale.0;
@@ -95,11 +96,11 @@ module _ (source : List ℕ) (names : List (List ℕ)) (program : Program) (fact
     line_counts k c summed =
         let e = summed.entry in
         let past : MarkEntry = record { old = k; new = [] } in
-        let number : e.old ≡ k = ap (λ (x : MarkEntry). x.old) (sym (get_or_from_slice_get listing.marks k e past summed.there)) ∙ number_at (λ (x : MarkEntry). x.old) listing.marks (source_marks program facts) k past made.keeps_source.carries.marks refl in
+        let number : e.old ≡ k = ap (λ (x : MarkEntry). x.old) (sym (get_or_from_slice_get listing.marks k e past summed.there)) ∙ number_at (λ (x : MarkEntry). x.old) listing.marks (source_marks program facts) k past made.carried.carries.marks refl in
         let there : slice_index_or listing.marks k e ≡ e = get_or_from_slice_get listing.marks k e e summed.there in
         let counted = subst (λ (x : MarkEntry). int_sum_by (passed nothing over run) x.new ≡ pos (slice_index_or counts x.old 0)) there (h.counted k e (slice_get_within listing.marks k e summed.there)) in
         summed.sum
-        ∙ int_sum_by-same (λ mark. int_sum_by (visit_count run.visits) (places_at m.laid.lists.places.items mark)) (passed nothing over run) e.new (λ mark. ap (int_sum_by (visit_count run.visits)) (places_same made.program m.laid memory mark))
+        ∙ int_sum_by-same (λ mark. int_sum_by (visit_count run.visits) (places_at m.laid.lists.places.items mark)) (passed nothing over run) e.new (λ mark. ap (int_sum_by (visit_count run.visits)) (places_same code m.laid made.lowered.keeps_program.is_low memory mark))
         ∙ counted
         ∙ ap (λ i. pos (slice_index_or counts i 0)) number
 
@@ -114,5 +115,5 @@ module _ (source : List ℕ) (names : List (List ℕ)) (program : Program) (fact
 
   pub runs_as_source : RunsAsSource program names facts t m.laid.image r
   runs_as_source input bytes output value counts means =
-      let ends = source_shows program names facts made.program listing low nothing placings (under claims reported.system) t r.cert made.keeps_source.carries compiled input bytes output value counts means in
+      let ends = source_shows program names facts made.program listing low nothing placings (under claims reported.system) t r.cert made.carried.carries compiled input bytes output value counts means in
       (ends.0, subst (λ i. RunsAs r output value counts (mrun (setup i t input) ends.0)) (sym memory.laid.image) (as_reported input output value counts ends.0 ends.1))

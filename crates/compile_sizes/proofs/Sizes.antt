@@ -9,7 +9,7 @@ use Rattle.low_placed_room.proofs.Rooms.{room_kept}
 use Rattle.lower_law.specs.Programs.{KeepsProgram}
 use Rattle.image_sizes.specs.Sizes.{HasSizes, constants_room, variables_room}
 use Rattle.image_sizes.proofs.FitLemmas.{nothing_fits}
-use Rattle.compile_sizes.specs.Limits.{HasFewSlots, IsLimited, nothing}
+use Rattle.compile_sizes.specs.Limits.{HasFewSlots, IsLimited, nothing, slotted}
 use Rattle.compile_sizes.proofs.Arrays.{constants_few, variables_few}
 use Rattle.compile_sizes.proofs.Functions.{frames_few, functions_few}
 
@@ -35,8 +35,11 @@ limited_fit p q a limited keeps few =
     })
 
 -- each register in a slot of its own
-pub slots_few : (q : Low) → HasFewSlots (assignment (map in_slots q.functions)) q
+slots_few : (q : Low) → HasFewSlots (assignment (map in_slots q.functions)) q
 slots_few q f fn e =
     let inside = slice_get_within q.functions f fn e in
     let same = ap (λ (x : Placing). x.slots) (get_or-map in_slots q.functions f fn no_placing inside) ∙ ap (λ (x : Function ℕ Note). x.size) (get_or_from_slice_get q.functions f fn fn e) in
     omega (arith, same)
+
+pub slotted_fit : (p : high.Program) (q : Low) → IsLimited p → KeepsProgram p q → HasSizes nothing (slotted q)
+slotted_fit p q limited keeps = limited_fit p q (assignment (map in_slots q.functions)) limited keeps (slots_few q)

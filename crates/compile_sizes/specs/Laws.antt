@@ -26,6 +26,6 @@ PassesKeepLimits = (old new : high.Program) (listing : Listing) → IsLawful old
 abbrev pub LimitedProgramsFit : Type 0
 LimitedProgramsFit = (p : high.Program) (q : Low) (a : Assignment) → IsLimited p → KeepsProgram p q → HasFewSlots a q → HasSizes nothing (placed a q)
 
--- from a source to its low program, where each register has a slot
-abbrev pub SourcesFit : Type 0
-SourcesFit = (source : List ℕ) (names : List (List ℕ)) (program : c.Program) (facts : Facts) (q : Low) → IsSource source names program facts → KeepsProgram (program_planned program facts (main_of program names)) q → HasSizes nothing (slotted q)
+-- where each register has a slot
+abbrev pub SlottedProgramsFit : Type 0
+SlottedProgramsFit = (p : high.Program) (q : Low) → IsLimited p → KeepsProgram p q → HasSizes nothing (slotted q)

@@ -1,5 +1,5 @@
 // The laws of the sizes of sources.
-ghost use Rattle.compile_sizes.specs.Laws.{LimitedProgramsFit, PassesKeepLimits, PlansKeepLimits, SourcesFit};
+ghost use Rattle.compile_sizes.specs.Laws.{LimitedProgramsFit, PassesKeepLimits, PlansKeepLimits, SlottedProgramsFit};
 
 /// The plan of a source keeps the limits.
 pub fn plans_keep_limits()
@@ -16,7 +16,7 @@ pub fn limited_programs_fit()
     ensures { LimitedProgramsFit }
 {}
 
-/// From a source to its low program.
-pub fn sources_fit()
-    ensures { SourcesFit }
+/// And so over slots, one for each register.
+pub fn slotted_programs_fit()
+    ensures { SlottedProgramsFit }
 {}

@@ -10,11 +10,7 @@ use Rattle.code_flow_system.specs.declared.moves.Move.{Move}
 use Rattle.code_flow_system.specs.Claims.{Claims}
 use Rattle.code_flow_system.specs.Systems.{IsSystemOf, System}
 use Rattle.facts_definitions.specs.declared.facts.Facts.{Facts}
-use Rattle.facts_front.specs.Fronts.{IsSource}
 use Rattle.types_tree.specs.Tree.{Program}
-use Rattle.plan_checked.proofs.Sources.{checked}
-use Rattle.plan_elements.specs.Elements.{HasElements as HaveSome}
-use Rattle.plan_elements.proofs.Programs.{plan_some}
 use Rattle.high_ir.specs.Tree as high
 use Rattle.high_pass.specs.Listing.{LoopEntry, listing_of}
 use Rattle.low_ir.specs.Code.{Object}
@@ -41,7 +37,7 @@ use Rattle.compile_told.proofs.Unplaced.{moves_none, unplaced}
 
 module _ (names : List (List ℕ)) (program : Program) (facts : Facts) (m : Made) (made : IsMade names program facts m) where
   abbrev over : Placed
-  over = placed (assignment (placings_of made.in_memory.code)) (low_of made.in_memory.code.low)
+  over = placed (assignment (placings_of made.code)) (low_of made.code.low)
 
   abbrev own : Laid
   own = laid_of nothing over
@@ -52,33 +48,31 @@ module _ (names : List (List ℕ)) (program : Program) (facts : Facts) (m : Made
   pub made_unplaced : scratchpad_taken m.laid.image.segments ≡ 0
   made_unplaced = subst (λ (i : Image). scratchpad_taken i.segments ≡ 0) (sym image_is) (unplaced over (made.in_memory.keeps_low.small (moves_none over)))
 
-  module _ (source : List ℕ) (is : IsSource source names program facts) where
-    elements : HasElements over
-    elements o x e =
-        let some : HaveSome made.program = subst HaveSome (sym made.planned) (plan_some names program facts (checked source names program facts is)) in
-        let from = map_got object_of made.program.objects o x (sym (ap (λ l. slice_get l o) made.in_memory.keeps_program.objects) ∙ e) in
-        subst (λ (z : Object). 0 < z.size) from.2 (all_got (λ (y : high.Object). 0 < y.size) made.program.objects o from.0 some from.1)
+  elements : HasElements over
+  elements o x e =
+      let from = map_got object_of made.program.objects o x (sym (ap (λ l. slice_get l o) made.lowered.keeps_program.objects) ∙ e) in
+      subst (λ (z : Object). 0 < z.size) from.2 (all_got (λ (y : high.Object). 0 < y.size) made.program.objects o from.0 made.carried.elements from.1)
 
-    module _ (t : Table) (r : Report) (s : System) (reported : IsReported t names facts m r) (system : IsSystemOf m.laid.image r.claims s) where
-      abbrev es : List LoopEntry
-      es = (listing_of m.copies).loops
+  module _ (t : Table) (r : Report) (s : System) (reported : IsReported t names facts m r) (system : IsSystemOf m.laid.image r.claims s) where
+    abbrev es : List LoopEntry
+    es = (listing_of m.copies).loops
 
-      claims_are : r.claims ≡ named es (claims_of own)
-      claims_are = reported.claims ∙ ap (named es) made.in_memory.laid.claimed.claims
+    claims_are : r.claims ≡ named es (claims_of own)
+    claims_are = reported.claims ∙ ap (named es) made.in_memory.laid.claimed.claims
 
-      -- under the claims on the image, whose loops have numbers of their own
-      own_system : IsSystemOf (image_in nothing over) (claims_of own) (under (claims_of own) s)
-      own_system =
-          system_same es (image_in nothing over) (claims_of own) s
-          (subst (λ (c : Claims). IsSystemOf (image_in nothing over) c s) claims_are (subst (λ (i : Image). IsSystemOf i r.claims s) image_is system))
+    -- under the claims on the image, whose loops have numbers of their own
+    own_system : IsSystemOf (image_in nothing over) (claims_of own) (under (claims_of own) s)
+    own_system =
+        system_same es (image_in nothing over) (claims_of own) s
+        (subst (λ (c : Claims). IsSystemOf (image_in nothing over) c s) claims_are (subst (λ (i : Image). IsSystemOf i r.claims s) image_is system))
 
-      pub reported_lined : AreLined m.laid.image r s
-      reported_lined =
-          let kept = made.in_memory.keeps_low in
-          let filled = kept.filled (moves_none over) elements in
-          let Lined : Image → List Within → Move → Type 0 = λ image lines move. accesses (row_of move.instr.op).class ≡ true → IsLined image lines move in
-          let each : All (Lined (image_in nothing over) (regions_of own)) s.moves =
-          All-weaker (Contains s.moves) (Lined (image_in nothing over) (regions_of own)) (λ move there loads. move_lined own (image_in nothing over) kept.claims (under (claims_of own) s) own_system kept.listed kept.lines filled move there loads) s.moves
-          (All-contains_itself s.moves) in
-          subst (λ (i : Image). All (Lined i r.claims.regions) s.moves) (sym image_is)
-          (subst (λ (lines : List Within). All (Lined (image_in nothing over) lines) s.moves) (sym (ap (λ (c : Claims). c.regions) claims_are)) each)
+    pub reported_lined : AreLined m.laid.image r s
+    reported_lined =
+        let kept = made.in_memory.keeps_low in
+        let filled = kept.filled (moves_none over) elements in
+        let Lined : Image → List Within → Move → Type 0 = λ image lines move. accesses (row_of move.instr.op).class ≡ true → IsLined image lines move in
+        let each : All (Lined (image_in nothing over) (regions_of own)) s.moves =
+        All-weaker (Contains s.moves) (Lined (image_in nothing over) (regions_of own)) (λ move there loads. move_lined own (image_in nothing over) kept.claims (under (claims_of own) s) own_system kept.listed kept.lines filled move there loads) s.moves
+        (All-contains_itself s.moves) in
+        subst (λ (i : Image). All (Lined i r.claims.regions) s.moves) (sym image_is)
+        (subst (λ (lines : List Within). All (Lined (image_in nothing over) lines) s.moves) (sym (ap (λ (c : Claims). c.regions) claims_are)) each)

@@ -53,10 +53,10 @@ shared_got (Spent columns pivots) all shares h i s e = absurd (none-some s (ap (
 
 module _ (source : List ℕ) (names : List (List ℕ)) (program : Program) (facts : Facts) (m : Made) (t : Table) (r : Report) (is : IsSource source names program facts) (made : IsMade names program facts m) (reported : IsReported t names facts m r) where
   abbrev q : Low
-  q = low_of made.in_memory.code.low
+  q = low_of made.code.low
 
   abbrev a : Assignment
-  a = assignment (placings_of made.in_memory.code)
+  a = assignment (placings_of made.code)
 
   abbrev own : Laid
   own = laid_of nothing (placed a q)
@@ -68,16 +68,16 @@ module _ (source : List ℕ) (names : List (List ℕ)) (program : Program) (fact
   claims_are = reported.claims ∙ ap (renamed es) made.in_memory.laid.claimed.claims
 
   many : length facts.functions ≡ length made.program.functions
-  many = functions_counted source names program facts is ∙ sym made.keeps_source.carries.functions
+  many = functions_counted source names program facts is ∙ sym made.carried.carries.functions
 
   openings : (f : ℕ) → f < length made.program.functions → Contains (mark_copies (listing_of m.copies).marks f) f
-  openings f low = made.keeps_source.carries.openings f (subst (λ n. f < n) made.keeps_source.carries.functions low)
+  openings f low = made.carried.carries.openings f (subst (λ n. f < n) made.carried.carries.functions low)
 
   -- the function whose code a share has
   record HasCode (i : ℕ) (s : Share) : Type 0 where
     function : ℕ
     place : slice_get (by_address own) i ≡ Some function
-    name : s.name ≡ name_at names facts.functions made.program q made.in_memory.keeps_program a nothing many function
+    name : s.name ≡ name_at names facts.functions made.program q made.lowered.keeps_program a nothing many function
     first : s.first ≡ base_of (placing own) function
 
   has_code : (i : ℕ) (s : Share) → slice_get r.shares i ≡ Some s → HasCode i s
@@ -97,9 +97,9 @@ module _ (source : List ℕ) (names : List (List ℕ)) (program : Program) (fact
 
   pub told : facts.restrictions ≡ [] → TellsFacts program names facts r
   told plain =
-      let keeps = made.in_memory.keeps_program in
+      let keeps = made.lowered.keeps_program in
       let kept = made.in_memory.keeps_low in
-      let carries = made.keeps_source.carries in
+      let carries = made.carried.carries in
       let marks = (listing_of m.copies).marks in
       let loops = source_loops program facts in
       let places = m.laid.lists.places.items in
@@ -108,7 +108,7 @@ module _ (source : List ℕ) (names : List (List ℕ)) (program : Program) (fact
         facts_told = subst (λ (rs : List Restriction). AreFactLines facts (places_told facts r) rs r.claims.facts) (sym plain)
             (subst (λ (cs : List FactClaim). AreFactLines facts (places_told facts r) [] cs) (sym (ap (λ (c : Claims). c.facts) claims_are)) tt);
         loops = subst (λ (cs : List LoopClaim). All (IsLoopLine loops) cs) (sym (ap (λ (c : Claims). c.loops) claims_are))
-            (loops_lined loops (source_behaviour program names facts) refl made.program (listing_of m.copies) carries made.keeps_source.is_high q keeps a own refl kept.loops);
+            (loops_lined loops (source_behaviour program names facts) refl made.program (listing_of m.copies) carries made.carried.is_high q keeps a own refl kept.loops);
         nevers = subst (λ (cs : List Never). All (IsNeverLine loops) cs) (sym (ap (λ (c : Claims). c.nevers) claims_are)) (All-nil (IsNeverLine loops));
         shares = λ i d lt.
             let s = slice_index_or r.shares i d in

@@ -1,8 +1,6 @@
 -- Each function and each marker of a source has its copies.
 use Rattle.std.proofs.Common.{◌≡◌, ℕ, ◌++◌, List, length, map, sym, ap, ◌∙◌, arith, length-append}
-use Rattle.std.specs.List.{range_with_len}
 use Rattle.std.proofs.lemmas.List.{length-map}
-use Rattle.std.proofs.lemmas.List.FromFn.{length-range_with_len}
 use Rattle.facts_definitions.specs.FlowFacts.{name_id}
 use Rattle.types_tree.specs.Tree.{function_name}
 use Rattle.facts_definitions.specs.declared.facts.Facts.{Facts}
@@ -10,9 +8,9 @@ use Rattle.facts_front.specs.Fronts.{IsSource}
 use Rattle.types_tree.specs.Tree.{Program}
 use Rattle.plan_carried.specs.Sources.{source_marks}
 use Rattle.plan_checked.proofs.Sources.{checked}
-use Rattle.high_pass.specs.Listing.{mark_entry}
+use Rattle.high_pass.specs.Listing.{MarkEntry, listing_of, mark_entry}
+use Rattle.high_pass.proofs.Entries.{length_of_entries}
 use Rattle.plan_formed.proofs.Facts.{says}
-use Rattle.plan_runs.specs.Kept.{same_mark}
 use Rattle.compile_made.specs.declared.made.Made.{Made}
 use Rattle.compile_made.specs.Made.{IsMade}
 
@@ -24,6 +22,6 @@ as_many source names program facts m is made =
     ap (λ (x : Facts). length x.functions) said.facts_are ∙ length-map (map function_name program.functions) name_id ∙ length-map program.functions function_name in
     let n = source_marks program facts in
     let marks : length m.copies.marks.items ≡ n =
-    sym (length-map m.copies.marks.items mark_entry) ∙ ap (λ l. length l.marks) made.listed ∙ length-map (range_with_len 0 n) same_mark ∙ length-range_with_len 0 n in
+    sym (length-map m.copies.marks.items mark_entry) ∙ length_of_entries (λ (e : MarkEntry). e.old) (listing_of m.copies).marks n made.carried.carries.marks in
     let both = length-append facts.functions facts.markers in
     omega (arith, functions, marks, both)

@@ -1,7 +1,7 @@
 //! From the bytes of a source to its image and the report on it.
 //!
-//! [`compile`] is the list of its stages: the source, its image, the claims by the loops of the source, the flow system, its
-//! bound, the report.
+//! `src/stages.rt` is the list of the stages behind the source: its plan, the low form, the image, what is told of the source,
+//! the bound of the image's flow system, the report. A stage that comes in is one line there.
 //!
 //! Proved: what [`compile`] answers is what `promise_report` promises (`IsCompiled`): on every input on which the run of the
 //! source is defined and keeps its annotations the image prints and returns what the source does, within the cycles of the
@@ -16,8 +16,9 @@
 mod compiler;
 mod compiling;
 mod finding;
+mod joining;
 mod laws;
-mod reporting;
+mod stages;
 mod telling;
 
 pub use compiler::WccCompiler;

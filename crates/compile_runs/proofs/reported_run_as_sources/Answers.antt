@@ -2,4 +2,4 @@ use Rattle.compile_runs.proofs.Runs.{runs_as_source}
 use Rattle.compile_runs.proofs.reported_run_as_sources.Goals as goal
 
 pub returns : goal.returns
-returns g = λ source names program facts m t r is made reported. runs_as_source source names program facts m t r is made reported
+returns g = λ source names program facts m t r is made reported. runs_as_source names program facts m t r made reported

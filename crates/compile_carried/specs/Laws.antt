@@ -1,0 +1,27 @@
+-- The plan of a source is carried, and so is what passes make of it.
+use Rattle.std.specs.Prelude.{ℕ, suc, ◌^◌, ◌<◌, List, All}
+use Rattle.facts_definitions.specs.declared.facts.Facts.{Facts}
+use Rattle.facts_front.specs.Fronts.{IsSource}
+use Rattle.types_tree.specs.Tree as c
+use Rattle.plan_carried.specs.Sources.{source_behaviour}
+use Rattle.high_ir.specs.Formed.{IsHigh}
+use Rattle.high_ir.specs.Standing.{Bounded}
+use Rattle.high_ir.specs.Tree.{Program}
+use Rattle.high_pass.specs.Composing.{Continues}
+use Rattle.high_pass.specs.Law.{IsLawful}
+use Rattle.high_pass.specs.Listing.{Listing}
+use Rattle.compile_carried.specs.Carried.{IsCarried, IsPlanned}
+
+-- before any pass
+abbrev pub PlansAreCarried : Type 0
+PlansAreCarried = (source : List ℕ) (names : List (List ℕ)) (program : c.Program) (facts : Facts) (p : Program) (listing : Listing) → IsSource source names program facts → IsPlanned names program facts p listing → IsCarried names program facts 0 p listing
+
+-- and behind one more, whose copies of copies continue those of the passes before it
+abbrev pub PassesCarry : Type 0
+PassesCarry =
+    (names : List (List ℕ)) (program : c.Program) (facts : Facts) (passes : ℕ) (old new : Program) (whole step made : Listing) → IsCarried names program facts passes old whole → IsHigh new → IsLawful old new step → Continues old new whole made
+    → IsCarried names program facts (suc passes) new made
+
+-- a source has few loops, so their numbers are small
+abbrev pub SourcesHaveFewLoops : Type 0
+SourcesHaveFewLoops = (source : List ℕ) (names : List (List ℕ)) (program : c.Program) (facts : Facts) → IsSource source names program facts → All (λ (l : Bounded). l.id < 2 ^ 26) (source_behaviour program names facts).loops

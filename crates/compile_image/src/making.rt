@@ -1,0 +1,72 @@
+// From a source to its image, a function for each stage.
+ghost use Rattle.std.specs.Prelude.{◌≡◌, ℕ, List, map, IfOk};
+ghost use Rattle.facts_front.specs.Fronts.{IsSource};
+ghost use Rattle.types_tree.specs.View.{program_of as source_of};
+ghost use Rattle.high_ir.specs.Programs.{program_of};
+ghost use Rattle.high_pass.specs.Listing.{listing_of};
+ghost use Rattle.low_ir.specs.Places.{in_slots};
+ghost use Rattle.low_ir.specs.Placings.{placed_of, placings_of};
+ghost use Rattle.low_ir.specs.Programs.{low_of};
+ghost use Rattle.lower_law.specs.Programs.{KeepsProgram};
+ghost use Rattle.image_sizes.specs.Sizes.{HasSizes};
+ghost use Rattle.compile_sizes.specs.Limits.{nothing};
+ghost use Rattle.compile_carried.specs.Carried.{IsPlanned};
+ghost use Rattle.compile_made.specs.Made.{IsInMemory, IsLowered};
+
+use facts_front::Source;
+use high_ir::{Carried, High};
+use high_make::make;
+use image_memory::Placement;
+use low_ir::{LowReg, all_slots};
+use low_layout::{Laid, lay};
+use low_make::lower;
+use std::alloc::Global;
+use wcc_base::Memory;
+
+/// The plan of a source in the high form, and what became in it of the source's marks and loops.
+pub fn planned(alloc: Global, source: &Source) -> Result<Carried, Memory>
+    requires { (text : List ℕ) × IsSource text source.now.typed.program.names.items (source_of source.now.typed.program) source.now.facts }
+    ensures { IfOk result (λ c. IsPlanned source.now.typed.program.names.items (source_of source.now.typed.program) source.now.facts (program_of c.program) (listing_of c.copies)) }
+{
+    make(alloc, &source.typed, &source.facts)
+}
+
+/// A program in the low form, with a slot for each register.
+fn code_of(alloc: Global, program: &High) -> Result<LowReg, Memory>
+    ensures keeps { IfOk result (λ c. KeepsProgram (program_of program.now) (low_of c.low)) }
+    ensures slots { IfOk result (λ c. placings_of c ≡ map in_slots (low_of c.low).functions) }
+{
+    let low = lower(alloc, program)?;
+    all_slots(alloc, low)
+}
+
+/// A program in the low form, over its places.
+pub fn lowered(alloc: Global, program: High) -> Result<LowReg, Memory>
+    ensures { IfOk result (IsLowered (program_of program)) }
+{
+    let code = code_of(alloc, &program);
+    drop(program);
+    code
+}
+
+/// Nothing lies in the scratchpad.
+fn nothing(alloc: Global) -> Placement
+    ensures { result ≡ nothing }
+{
+    Placement {
+        functions: Vec::new(alloc),
+        objects: Vec::new(alloc),
+    }
+}
+
+/// The image of a program over its places, with the claims on it, where the program has room.
+pub fn laid(alloc: Global, code: LowReg) -> Result<Laid, Memory>
+    requires { HasSizes nothing (placed_of code) }
+    ensures { IfOk result (IsInMemory code) }
+{
+    let placement = nothing(alloc);
+    let laid = lay(alloc, &code, &placement);
+    drop(code);
+    drop(placement);
+    laid
+}

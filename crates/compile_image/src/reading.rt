@@ -1,0 +1,29 @@
+// The source.
+ghost use Rattle.std.specs.Prelude.{◌≡◌, [], IfErr, IfOk};
+ghost use Rattle.facts_front.specs.Fronts.{IsSource};
+ghost use Rattle.types_tree.specs.View.{program_of};
+ghost use Rattle.promise_compiler.specs.Refusals.{Fails};
+
+use facts_front::{Source, read_source};
+use promise_compiler::Refusal;
+use std::alloc::Global;
+
+/// The typed program of a source without restrictions, and its facts.
+pub fn read(alloc: Global, text: &[u8]) -> Result<Source, Refusal>
+    ensures source { IfOk result (λ s. IsSource text.now s.typed.program.names.items (program_of s.typed.program) s.facts) }
+    ensures plain { IfOk result (λ s. s.facts.restrictions ≡ []) }
+    ensures err { IfErr result (Fails text.now) }
+{
+    match read_source(alloc, text) {
+        Ok(source) => {
+            if source.facts.restrictions.as_slice().is_empty() {
+                Ok(source)
+            } else {
+                source.let_go();
+                Err(Refusal::Form)
+            }
+        }
+        Err(facts_front::Refusal::Memory) => Err(Refusal::Memory),
+        Err(refusal) => Err(Refusal::Front(refusal)),
+    }
+}

@@ -1,0 +1,59 @@
+// Marks and loops that are their own copies.
+ghost use Rattle.std.specs.Prelude.{◌≡◌, IfOk, map};
+ghost use Rattle.std.specs.List.{range_with_len};
+ghost use Rattle.high_ir.specs.Programs.{program_of};
+ghost use Rattle.high_pass.specs.Listing.{listing_of, loop_entry, mark_entry};
+ghost use Rattle.high_again.specs.Same.{same_listing, same_loop, same_mark};
+
+use high_ir::{Copies, High, LoopCopies, LoopCopy, MarkCopies};
+use std::alloc::Global;
+use wcc_base::Memory;
+
+fn same_mark(alloc: Global, mark: u32) -> Result<MarkCopies, Memory>
+    ensures { IfOk result (λ c. mark_entry c ≡ same_mark mark) }
+{
+    let mut new = Vec::new(alloc);
+    new.push(mark)?;
+    Ok(MarkCopies { old: mark, new })
+}
+
+fn same_marks(alloc: Global, marks: u32) -> Result<Vec<MarkCopies>, Memory>
+    ensures { IfOk result (λ v. map mark_entry v.items ≡ map same_mark (range_with_len 0 marks)) }
+{
+    let mut copies = Vec::new(alloc);
+    for mark in 0..marks {
+        copies.push(same_mark(alloc, mark)?)?;
+    }
+    Ok(copies)
+}
+
+fn same_loop(alloc: Global, id: u32) -> Result<LoopCopies, Memory>
+    ensures { IfOk result (λ c. loop_entry c ≡ same_loop id) }
+{
+    let mut new = Vec::new(alloc);
+    new.push(LoopCopy { id, factor: 1 })?;
+    Ok(LoopCopies { old: id, new })
+}
+
+fn same_loops(alloc: Global, loops: u32) -> Result<Vec<LoopCopies>, Memory>
+    ensures { IfOk result (λ v. map loop_entry v.items ≡ map same_loop (range_with_len 0 loops)) }
+{
+    let mut copies = Vec::new(alloc);
+    for id in 0..loops {
+        copies.push(same_loop(alloc, id)?)?;
+    }
+    Ok(copies)
+}
+
+/// The marks and loops of a program, each its own copy.
+pub fn same_copies(alloc: Global, program: &High) -> Result<Copies, Memory>
+    ensures { IfOk result (λ c. listing_of c ≡ same_listing (program_of program.now)) }
+{
+    let marks = same_marks(alloc, program.marks)?;
+    let loops = same_loops(alloc, program.loops)?;
+    Ok(Copies {
+        marks,
+        loops,
+        nevers: Vec::new(alloc),
+    })
+}
