@@ -1,17 +1,14 @@
 //! From the bytes of a source to its image in memory, a call for each stage.
 //!
 //! [`read`] gives the typed program of a source without restrictions, with its facts; [`planned`] its plan, a program in the
-//! high form; [`passed`] what a pass makes of such a program; [`lowered`] that one in the low form, with a place for each
-//! register; [`laid`] the image. Each stage lets go what it was made of, and keeps a record of `compile_carried` or
-//! `compile_made`.
+//! high form; [`lowered`] that program in the low form, with a place for each register; [`laid`] the image. Each stage lets go
+//! what it was made of, and keeps a record of `compile_carried` or `compile_made`.
 //!
 //! The crate knows no report, and no stage the next one: `wcc_compile` puts them in a row.
 #![tactic(auto)]
 
 mod making;
-mod passing;
 mod reading;
 
 pub use making::{laid, lowered, planned};
-pub use passing::passed;
 pub use reading::read;

@@ -3,8 +3,7 @@ use Rattle.std.specs.Prelude.{◌≡◌, ℕ, List, map}
 use Rattle.facts_definitions.specs.declared.facts.Facts.{Facts}
 use Rattle.types_tree.specs.Tree as c
 use Rattle.high_ir.specs.Tree.{Program}
-use Rattle.high_again.specs.Same.{IsSame}
-use Rattle.high_pass.specs.Listing.{Listing, listing_of}
+use Rattle.high_pass.specs.Listing.{listing_of}
 use Rattle.low_ir.specs.declared.places.LowReg.{LowReg}
 use Rattle.low_ir.specs.Places.{in_slots}
 use Rattle.low_ir.specs.Placings.{placings_of}
@@ -14,7 +13,7 @@ use Rattle.layout_laid.specs.declared.laid.Laid.{Laid}
 use Rattle.layout_laid.specs.Laid.{IsLaid}
 use Rattle.layout_kept.specs.Kept.{KeepsLow}
 use Rattle.compile_sizes.specs.Limits.{nothing}
-use Rattle.compile_carried.specs.Carried.{IsCarried, IsPassed, IsPlanned}
+use Rattle.compile_carried.specs.Carried.{IsCarried, IsPlanned}
 use Rattle.compile_made.specs.declared.made.Made.{Made}
 
 -- a program in the low form, with a slot for each register
@@ -29,14 +28,10 @@ pub record IsInMemory (code : LowReg) (y : Laid) : Type 0 where
 
 -- a source in memory
 pub record IsMade (names : List (List ℕ)) (source : c.Program) (facts : Facts) (m : Made) : Type 0 where
-  -- its plan in the high form
-  pub plan : Program
-  pub copies : Listing
-  pub planned : IsPlanned names source facts plan copies
-  -- what passes make of it: the same again
+  -- its plan in the high form, which no pass changes yet
   pub program : Program
-  pub passed : IsPassed IsSame plan program copies (listing_of m.copies)
-  pub carried : IsCarried names source facts 1 program (listing_of m.copies)
+  pub planned : IsPlanned names source facts program (listing_of m.copies)
+  pub carried : IsCarried names source facts 0 program (listing_of m.copies)
   pub loops : m.loops ≡ program.loops
   -- its code in the low form
   pub code : LowReg

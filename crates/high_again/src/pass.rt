@@ -15,7 +15,7 @@ use wcc_base::Memory;
 /// Makes the same program again.
 pub struct Again;
 
-fn again(alloc: Global, old: &High) -> Result<Carried, Memory>
+fn made_again(alloc: Global, old: &High) -> Result<Carried, Memory>
     ensures law { IfOk result (λ a. IsLawful (program_of old.now) (program_of a.program) (listing_of a.copies)) }
     ensures same { IfOk result (λ a. IsSame (program_of old.now) (program_of a.program) (listing_of a.copies)) }
 {
@@ -35,6 +35,6 @@ impl Pass for Again {
     ghost did = { λ pass old new copies. IsSame old new copies };
 
     fn run(&self, alloc: Global, old: &High) -> Result<Carried, Memory> {
-        again(alloc, old)
+        made_again(alloc, old)
     }
 }

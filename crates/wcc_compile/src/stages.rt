@@ -13,13 +13,12 @@ use crate::finding::find;
 use crate::joining::joined;
 use crate::laws::reported_are_compiled;
 use crate::telling::tell;
-use compile_image::{laid, lowered, passed, planned};
+use compile_image::{laid, lowered, planned};
 use compile_lengths::texts_are_short;
 use compile_made::Made;
 use compile_reports::reported_are_reports;
 use elf_image::read_of_write;
 use facts_front::Source;
-use high_again::Again;
 use high_ir::Carried;
 use layout_laid::Laid;
 use promise_compiler::Built;
@@ -28,13 +27,12 @@ use std::alloc::Global;
 use wcc_base::Memory;
 use wcc_report::Report;
 
-/// A source in memory: its plan in the high form, what passes make of that, the low form, the image.
+/// A source in memory: its plan in the high form, that in the low form, the image.
 fn made(alloc: Global, source: &Source) -> Result<Made, Memory>
     requires { (text : List ℕ) × IsOf text source.now }
     ensures { IfOk result (IsMade (names_of source.now) (tree_of source.now) source.now.facts) }
 {
-    let plan = planned(alloc, source)?;
-    let Carried { program, copies } = passed(alloc, plan, &Again)?;
+    let Carried { program, copies } = planned(alloc, source)?;
     let loops = program.loops;
     let code = lowered(alloc, program)?;
     let laid = laid(alloc, code)?;

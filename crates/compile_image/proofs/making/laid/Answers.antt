@@ -8,8 +8,8 @@ use Rattle.layout_kept.specs.Kept.{KeepsLow}
 use Rattle.compile_made.specs.Made.{IsInMemory}
 use Rattle.compile_image.proofs.making.laid.Goals as goal
 
-pub lay-requires : goal.lay-requires
-lay-requires c = subst (λ pl. HasSizes pl (placed_of c.args.code)) (sym c.nothing-placement.ensures) c.requires
+pub lay-laid-requires : goal.lay-laid-requires
+lay-laid-requires c = subst (λ pl. HasSizes pl (placed_of c.args.code)) (sym c.nothing-placement.ensures) c.requires
 
 pub returns : goal.returns
 returns c =

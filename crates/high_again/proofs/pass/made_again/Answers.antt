@@ -3,7 +3,7 @@ use Rattle.high_ir.specs.Programs.{program_of}
 use Rattle.high_pass.specs.Law.{IsLawful}
 use Rattle.high_pass.specs.Listing.{listing_of}
 use Rattle.high_again.proofs.Lawful.{lawful}
-use Rattle.high_again.proofs.pass.again.Goals as goal
+use Rattle.high_again.proofs.pass.made_again.Goals as goal
 
 pub returns-in-Ok-clause-law : goal.returns-in-Ok-clause-law
 returns-in-Ok-clause-law c =
