@@ -10,13 +10,14 @@ import sys
 from pathlib import Path
 
 TEXTS = Path(__file__).resolve().parent / "texts.txt"
-COMMANDS = ("compile", "run", "eval", "check", "report", "make")
+COMMANDS = ("compile", "run", "eval", "check", "report", "make", "respond")
 # Lines of these kinds end with a byte place in the source, unless they speak of another file.
 PLACED = ("refused", "undefined", "broken")
-ELSEWHERE = ("image-", "report-", "table-")
+ELSEWHERE = ("image-", "report-", "table-", "tasks-")
 FROM_SOURCE = ("compile", "eval")
 # The options of commands, each with the greatest number that it takes, or None where it takes a file's name.
-OPTIONS = {"compile": {"--table": None}, "run": {"--limit": 1 << 62, "--table": None}, "check": {"--table": None}}
+OPTIONS = {"compile": {"--table": None}, "run": {"--limit": 1 << 62, "--table": None}, "check": {"--table": None},
+           "respond": {"--table": None}}
 # The greatest number that `make` takes as its first word, from 1 on.
 MOST_MADE = 100
 MOST_SOURCE = 1048576
@@ -146,6 +147,10 @@ def filled(text, words):
 def explained(table, line, words):
     """What there is to say of a line, but for `usage`."""
     line = line.split()
+    if line[0] == "late":
+        late = late_of(table, int(line[1]), words)
+        if late:
+            return late
     found = place_of(line, words)
     if line[0] == "broken":
         is_pragma = found is not None and found[0][found[1]:].startswith((b"#", b"_Pragma"))
@@ -160,6 +165,42 @@ def explained(table, line, words):
         return [f"wcc: {headline}", *more]
     place = Place(words[1], *found)
     return [f"{place}: {headline}", *place.shown(), *more]
+
+
+def cycles_in(path):
+    """The cycles that a report says, in its first lines, or None."""
+    if not stat.S_ISREG(os.stat(path).st_mode):
+        return None
+    with open(path, "rb") as file:
+        match = re.match(rb"(?:version 2\n)?cycles ([0-9]{1,20})\n", file.read(99))
+    return int(match[1]) if match else None
+
+
+def taken(tasks, number):
+    """What the period of a late task is taken by: its own job, and the jobs above it that begin in it."""
+    (_, _, period, _, report), above = tasks[number - 1], tasks[:number - 1]
+    own, cycles = cycles_in(report), [cycles_in(task[4]) for task in above]
+    jobs = [-(-int(period) // int(task[2])) for task in above]
+    parts = [f"its own job {own}", *(f"{task[1]} {count} times {it}" for task, count, it in zip(above, jobs, cycles))]
+    return f"{', '.join(parts)}: {own + sum(count * it for count, it in zip(jobs, cycles))} cycles"
+
+
+def late_of(table, number, words):
+    """What there is to say of a task that is late, where the list can be read again, or None."""
+    path = parted(OPTIONS["respond"], words[1:])[0][0]
+    try:
+        lines = [printable(it) for it in source_of(path).decode(errors="replace").split("\n")]
+        tasks = [it.split(" ") for it in lines[:number]]
+        headline, *more = table["late task"]
+        shown = [f"{path}:{number}: {filled(headline, tasks[-1][1:])}", f"{number:5} | {lines[number - 1]}"]
+    except (OSError, AttributeError, IndexError):
+        return None
+    try:
+        shown.append(f"      | {taken(tasks, number)}")
+    except (OSError, TypeError, ValueError, IndexError, ZeroDivisionError):
+        # A report that isn't there any more: what its task takes is left out.
+        pass
+    return shown + more
 
 
 def number_of(count):
