@@ -15,15 +15,16 @@ sys.path[:0] = [str(HERE), str(HERE.parent)]
 from places import Lines, printable  # noqa: E402
 
 TEXTS = HERE / "texts.txt"
-COMMANDS = ("compile", "run", "eval", "check", "report", "make")
+COMMANDS = ("compile", "run", "eval", "check", "report", "make", "respond")
 # Lines of these kinds end with a byte place in the source, unless they speak of another file.
 PLACED = ("refused", "undefined", "broken")
-ELSEWHERE = ("image-", "report-", "table-")
+ELSEWHERE = ("image-", "report-", "table-", "tasks-")
 FROM_SOURCE = ("compile", "eval")
 # The options of commands, each with the greatest number that it takes, or None where it takes a file's name.
-OPTIONS = {"compile": {"--table": None}, "run": {"--limit": 1 << 62, "--table": None}, "check": {"--table": None}}
+OPTIONS = {"compile": {"--table": None}, "run": {"--limit": 1 << 62, "--table": None}, "check": {"--table": None},
+           "respond": {"--table": None}}
 # Which of the files that the words name by their places are read, and which are written.
-READ = {"compile": slice(1), "run": slice(2), "eval": slice(2), "check": slice(2), "report": slice(1)}
+READ = {"compile": slice(1), "run": slice(2), "eval": slice(2), "check": slice(2), "report": slice(1), "respond": slice(1)}
 WRITTEN = {"compile": slice(1, 3), "run": slice(2, 3), "eval": slice(2, 3), "make": slice(1, 4)}
 # The greatest number that `make` takes as its first word, from 1 on.
 MOST_MADE = 100
@@ -148,6 +149,8 @@ def included(table, place):
 def explained(table, line, words):
     """What there is to say of a line, but for `usage`."""
     call = Call(line, words)
+    if call.line[0] == "late" and (said := late_of(table, int(call.line[1]), words)):
+        return said
     texts, rest = entry_of(table, call.asked())
     if texts is None:
         return []
@@ -159,6 +162,42 @@ def explained(table, line, words):
         return [f"wcc: {headline}", *facts, *more]
     place = call.lines.place(call.at)
     return [f"{place}: {headline}", *place.shown(), *included(table, place), *facts, *more]
+
+
+def cycles_in(path):
+    """The cycles that a report says, in its first lines, or None."""
+    if not stat.S_ISREG(os.stat(path).st_mode):
+        return None
+    with open(path, "rb") as file:
+        match = re.match(rb"(?:version 2\n)?cycles ([0-9]{1,20})\n", file.read(99))
+    return int(match[1]) if match else None
+
+
+def taken(tasks, number):
+    """What the period of a late task is taken by: its own job, and the jobs above it that begin in it."""
+    (_, _, period, _, report), above = tasks[number - 1], tasks[:number - 1]
+    own, cycles = cycles_in(report), [cycles_in(task[4]) for task in above]
+    jobs = [-(-int(period) // int(task[2])) for task in above]
+    parts = [f"its own job {own}", *(f"{task[1]} {count} times {it}" for task, count, it in zip(above, jobs, cycles))]
+    return f"{', '.join(parts)}: {own + sum(count * it for count, it in zip(jobs, cycles))} cycles"
+
+
+def late_of(table, number, words):
+    """What there is to say of a task that is late, where the list can be read again, or None."""
+    path = parted(OPTIONS["respond"], words[1:])[0][0]
+    try:
+        lines = [printable(it) for it in source_of(path).decode(errors="replace").split("\n")]
+        tasks = [it.split(" ") for it in lines[:number]]
+        headline, *more = table["late task"]
+        shown = [f"{path}:{number}: {filled(headline, tasks[-1][1:])}", f"{number:5} | {lines[number - 1]}"]
+    except (OSError, AttributeError, IndexError):
+        return None
+    try:
+        shown.append(f"      | {taken(tasks, number)}")
+    except (OSError, TypeError, ValueError, IndexError, ZeroDivisionError):
+        # A report that isn't there any more: what its task takes is left out.
+        pass
+    return shown + more
 
 
 def number_of(count):

@@ -1,4 +1,4 @@
-//! Tests of the command that compiles, on stores and sinks in memory: each call of the store and of the sink fails once.
+//! Tests of the commands that compile and that answer tasks, on stores and sinks in memory: each call fails once.
 //!
 //! What becomes of the files then was worked out by hand from `docs/COMMANDS.md`.
 //!

@@ -1,4 +1,5 @@
-// A source that is compiled on a store and a sink in memory, where calls fail.
+// A source that is compiled, and tasks that are answered, on a store and a sink in memory, where calls
+// fail.
 
 use command_perform::perform;
 use std::alloc::Global;
@@ -136,6 +137,50 @@ fn a_failing_sink_ends_a_done_call(rt: HostRuntime) -> Result<(), Fail> {
         assert_eq!(rt; out.bytes.as_slice(), b"".as_slice());
         for name in ["a.elf", "a.txt"] {
             assert_eq!(rt; written(&files.files, name).is_empty(), source.is_empty());
+        }
+    }
+    Ok(())
+}
+
+const TASKS: &str = "task a 100 a.elf a.txt\ntask b 120 a.elf a.txt\n";
+
+// Each call of the store fails in turn, until one is left over: those that read the list of tasks,
+// and those that read the image and the report of one task after the other.
+#[test]
+fn each_failing_read_of_tasks_is_told(rt: HostRuntime) -> Result<(), Fail> {
+    let alloc = rt.alloc();
+    let files = store(alloc, &[("a.c", SOURCE.as_bytes())])?;
+    let mut made = CalmStore::new(alloc, files);
+    let (status, _) = said(alloc, "compile a.c a.elf a.txt", &mut made)?;
+    assert_eq!(rt; status, Status::Done);
+    let image = written(&made.files, "a.elf");
+    let report = written(&made.files, "a.txt");
+    let given = [
+        ("t.txt", TASKS.as_bytes()),
+        ("a.elf", image),
+        ("a.txt", report),
+    ];
+    let line = words_of(alloc, "respond t.txt")?;
+    for step in [40, 10_000] {
+        let of_task = calls(image.len(), step)
+            .saturating_add(calls(report.len(), step))
+            .saturating_add(2);
+        let reads = calls(TASKS.len(), step)
+            .saturating_add(1)
+            .saturating_add(of_task.saturating_mul(2));
+        for call in 1..reads.saturating_add(2) {
+            let mut failing = Vec::new(alloc);
+            failing.push(u32::try_from(call).unwrap_or(0))?;
+            let mut files = MemStore::new(alloc, store(alloc, &given)?, step, failing);
+            let mut out = CalmSink::new(alloc);
+            let status = perform(&WccCompiler, alloc, &line, &mut files, &mut out);
+            let (wanted, lines) = if call <= reads {
+                (Status::ReadFault, "read fault\n")
+            } else {
+                (Status::Done, "response a 60\nresponse b 120\n")
+            };
+            assert_eq!(rt; status, wanted, "at {step} {call}");
+            assert_eq!(rt; out.bytes.as_slice(), lines.as_bytes());
         }
     }
     Ok(())

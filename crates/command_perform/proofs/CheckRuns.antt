@@ -17,7 +17,7 @@ use Rattle.report_check.specs.Checks.{StopsAt}
 use Rattle.report_check.specs.Checks.{IsAccepted}
 use Rattle.report_check.proofs.ExclusionLemmas.{never_fails, stands}
 use Rattle.command_words.specs.Requests.{CheckRequest, ReportRequest}
-use Rattle.command_perform.specs.Words.{Check, Report}
+use Rattle.command_perform.specs.Words.{Named, Check, Report}
 use Rattle.command_perform.specs.Outputs.{Outputs}
 use Rattle.command_perform.specs.Ends.{IsRefusal}
 use Rattle.command_perform.specs.Checking.{row_status, no_status, RefusesCheck}
@@ -65,7 +65,7 @@ accept_only asked (image ∷ report ∷ tables) c = record {
   makes = λ made m. status_of made _ m.2.made_is;
 }
 
-pub accept_ends : (asked : CheckRequest) (files : Option Files) (old : StoreState) → old.files ≡ files → IsSomeAnd files (λ fs. Fit (wanted_of (Check asked)) fs × CanAccept (contents_of (wanted_of (Check asked)) fs)) → CanEnd (Some (Check asked)) old status.Done
+pub accept_ends : (asked : CheckRequest) (files : Option Files) (old : StoreState) → old.files ≡ files → IsSomeAnd files (λ fs. Fit (wanted_of (Check asked)) fs × CanAccept (contents_of (wanted_of (Check asked)) fs)) → CanEnd (Some (Named (Check asked))) old status.Done
 accept_ends asked None old e c = absurd c
 accept_ends asked (Some fs) old e c = rw e (c.0, accept_only asked (contents_of (wanted_of (Check asked)) fs) c.1)
 
@@ -75,6 +75,6 @@ summary_only asked text c = record {
   makes = λ made m. status_of made _ m.made_is;
 }
 
-pub summary_ends : (asked : ReportRequest) (files : Option Files) (old : StoreState) → old.files ≡ files → IsSomeAnd files (λ fs. CanSummarize (bytes_of fs asked.report)) → CanEnd (Some (Report asked)) old status.Done
+pub summary_ends : (asked : ReportRequest) (files : Option Files) (old : StoreState) → old.files ≡ files → IsSomeAnd files (λ fs. CanSummarize (bytes_of fs asked.report)) → CanEnd (Some (Named (Report asked))) old status.Done
 summary_ends asked None old e c = absurd c
 summary_ends asked (Some fs) old e c = rw e ((c.short, tt), summary_only asked (bytes_of fs asked.report) c)

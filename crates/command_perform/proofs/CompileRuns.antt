@@ -26,7 +26,7 @@ use Rattle.facts_laws.proofs.Sources as laws
 use Rattle.promise_report.specs.Compiled.{IsCompiled}
 use Rattle.command_words.specs.Requests.{CompileRequest}
 use Rattle.command_perform.specs.declared.compile.Texts.{Texts}
-use Rattle.command_perform.specs.Words.{Compile}
+use Rattle.command_perform.specs.Words.{Named, Compile}
 use Rattle.command_perform.specs.Lines.{cycles_line}
 use Rattle.command_perform.specs.Outputs.{Outputs}
 use Rattle.command_perform.specs.Sources.{refusal_status, RefusesProgram}
@@ -137,14 +137,14 @@ refused_only asked source tables s short c = record {
   makes = λ made m. absurd (compiled_passes m.0 source m.2.texts s short m.2.compiles c.2);
 }
 
-pub unrestricted_ends : (asked : CompileRequest) (files : Option Files) (old : StoreState) → old.files ≡ files → IsSomeAnd files (λ fs. Fit (wanted_of (Compile asked)) fs × IsOfSource IsUnrestricted (contents_of (wanted_of (Compile asked)) fs)) → CanEnd (Some (Compile asked)) old status.Done
+pub unrestricted_ends : (asked : CompileRequest) (files : Option Files) (old : StoreState) → old.files ≡ files → IsSomeAnd files (λ fs. Fit (wanted_of (Compile asked)) fs × IsOfSource IsUnrestricted (contents_of (wanted_of (Compile asked)) fs)) → CanEnd (Some (Named (Compile asked))) old status.Done
 unrestricted_ends asked None old e c = absurd c
 unrestricted_ends asked (Some fs) old e c = rw e (c.0, unrestricted_only asked (bytes_of fs asked.source) (contents_of (wanted_table asked.table) fs) c.0.0 c.1)
 
-pub restricted_ends : (asked : CompileRequest) (files : Option Files) (old : StoreState) → old.files ≡ files → IsSomeAnd files (λ fs. Fit (wanted_of (Compile asked)) fs × IsOfSource IsRestricted (contents_of (wanted_of (Compile asked)) fs)) → CanEnd (Some (Compile asked)) old status.Form
+pub restricted_ends : (asked : CompileRequest) (files : Option Files) (old : StoreState) → old.files ≡ files → IsSomeAnd files (λ fs. Fit (wanted_of (Compile asked)) fs × IsOfSource IsRestricted (contents_of (wanted_of (Compile asked)) fs)) → CanEnd (Some (Named (Compile asked))) old status.Form
 restricted_ends asked None old e c = absurd c
 restricted_ends asked (Some fs) old e c = rw e (c.0, restricted_only asked (bytes_of fs asked.source) (contents_of (wanted_table asked.table) fs) c.0.0 c.1)
 
-pub refused_ends : (asked : CompileRequest) (s : Status) (files : Option Files) (old : StoreState) → old.files ≡ files → IsSomeAnd files (λ fs. Fit (wanted_of (Compile asked)) fs × IsOfSource (λ k. RefusesProgram k s) (contents_of (wanted_of (Compile asked)) fs)) → CanEnd (Some (Compile asked)) old s
+pub refused_ends : (asked : CompileRequest) (s : Status) (files : Option Files) (old : StoreState) → old.files ≡ files → IsSomeAnd files (λ fs. Fit (wanted_of (Compile asked)) fs × IsOfSource (λ k. RefusesProgram k s) (contents_of (wanted_of (Compile asked)) fs)) → CanEnd (Some (Named (Compile asked))) old s
 refused_ends asked s None old e c = absurd c
 refused_ends asked s (Some fs) old e c = rw e (c.0, refused_only asked (bytes_of fs asked.source) (contents_of (wanted_table asked.table) fs) s c.0.0 c.1)

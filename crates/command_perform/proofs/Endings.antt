@@ -5,17 +5,16 @@ use Rattle.wcc_base.specs.Outside.{Files, StoreState, SinkState, told_append, Ro
 use Rattle.wcc_base.specs.declared.status.Status.{Status}
 use Rattle.wcc_base.specs.declared.status.Status.TheVariants as status
 use Rattle.command_perform.specs.declared.make.Made.{Made}
-use Rattle.command_perform.specs.Words.{Command}
+use Rattle.command_perform.specs.Words.{Asked}
 use Rattle.command_perform.specs.Outputs.{Outputs, outputs_of}
 use Rattle.command_perform.specs.StatusLines.{line_of}
-use Rattle.command_perform.specs.Commands.{wanted_of}
-use Rattle.command_perform.specs.Gathering.{NotGathered, OnlyRead}
+use Rattle.command_perform.specs.Gathering.{NotRead, OnlyRead}
 use Rattle.command_perform.specs.Finishing.{all_put, Partly, NoneFailed, WriteFailed, IsCut, status_after_fault, Reported, Finished}
-use Rattle.command_perform.specs.Ends.{RefusesIn, MakesIn, IsRefusal, IsEnd, Ending, read_fault, too_long, refused, whole, in_part, memory_in_part, memory, ReadFailed, IsIdle, EndsWith, Fails}
+use Rattle.command_perform.specs.Ends.{OverlongIn, RefusesIn, MakesIn, IsRefusal, IsEnd, Ending, read_fault, too_long, refused, whole, in_part, memory_in_part, memory, ReadFailed, IsIdle, EndsWith, Fails}
 use Rattle.command_perform.specs.Promises.{HasMade, IsDone, HasFailed, IsStoreFault, IsUntold, Answers}
 use Rattle.command_perform.proofs.Counts.{unchanged, none_more, write_failed, all_read, fault_read, none_read, refusal_counts}
 
-made_ends : (c : Command) (old mid new : StoreState) (out out' : SinkState) (made : Outputs) (result : Status) → mid.files ≡ old.files → NoneFailed old mid → IsEnd made.status → MakesIn c old.files made → Finished made mid new out out' result → EndsWith (Some c) old new out out' result
+made_ends : (c : Asked) (old mid new : StoreState) (out out' : SinkState) (made : Outputs) (result : Status) → mid.files ≡ old.files → NoneFailed old mid → IsEnd made.status → MakesIn c old.files made → Finished made mid new out out' result → EndsWith (Some c) old new out out' result
 made_ends c old mid new out out' made result e n i m f =
     ⊎_elim
     (λ a. (made.status, made.lines, whole made i m (a.0 ∙ ap (all_put made.files) e) (none_more old mid new n a.1), a.2))
@@ -25,40 +24,40 @@ made_ends c old mid new out out' made result e n i m f =
     b)
     f
 
-not_gathered : {T : Type 0} (c : Command) (old new : StoreState) (s : Status) → OnlyRead {T = T} old new (Err s) → NotGathered (wanted_of c) old.files s → Ending c old new s (line_of s)
-not_gathered c old new status.ReadFault o n = read_fault (fault_read old new o)
-not_gathered c old new status.Memory o n = memory (none_read old new status.Memory refl o)
-not_gathered c old new (status.Limit which found) o n =
+not_read : {T : Type 0} (c : Asked) (old new : StoreState) (s : Status) → OnlyRead {T = T} old new (Err s) → NotRead (OverlongIn c old.files) s → Ending c old new s (line_of s)
+not_read c old new status.ReadFault o n = read_fault (fault_read old new o)
+not_read c old new status.Memory o n = memory (none_read old new status.Memory refl o)
+not_read c old new (status.Limit which found) o n =
     subst (λ (k : ℕ). Ending c old new (status.Limit which k) (line_of (status.Limit which k))) (sym n.0) (too_long which (none_read old new (status.Limit which found) refl o) n.1)
-not_gathered c old new s o n = absurd n
+not_read c old new s o n = absurd n
 
-memory_ending : {T : Type 0} (c : Command) (old new : StoreState) (s : Status) → s ≡ status.Memory → OnlyRead {T = T} old new (Err s) → Ending c old new s (line_of s)
+memory_ending : {T : Type 0} (c : Asked) (old new : StoreState) (s : Status) → s ≡ status.Memory → OnlyRead {T = T} old new (Err s) → Ending c old new s (line_of s)
 memory_ending {T = T} c old new s m o =
     subst (λ (t : Status). OnlyRead {T = T} old new (Err t) → Ending c old new t (line_of t)) (sym m) (λ k. memory (none_read old new status.Memory refl k)) o
 
-fails_ending : {T : Type 0} (c : Command) (old new : StoreState) (s : Status) → OnlyRead {T = T} old new (Err s) → Fails c old.files s → Ending c old new s (line_of s)
+fails_ending : {T : Type 0} (c : Asked) (old new : StoreState) (s : Status) → OnlyRead {T = T} old new (Err s) → Fails c old.files s → Ending c old new s (line_of s)
 fails_ending {T = T} c old new s o f =
-    ⊎_elim (λ n. not_gathered c old new s o n) (λ b. ⊎_elim (λ m. memory_ending c old new s m o) (λ r. refused s (none_read old new s (refusal_counts T s old.read_faults r.0) o) r.0 r.1) b) f
+    ⊎_elim (λ n. not_read c old new s o n) (λ b. ⊎_elim (λ m. memory_ending c old new s m o) (λ r. refused s (none_read old new s (refusal_counts T s old.read_faults r.0) o) r.0 r.1) b) f
 
-fails_end : {T : Type 0} (c : Command) (old mid new : StoreState) (out out' : SinkState) (s result : Status) → OnlyRead {T = T} old mid (Err s) → Fails c old.files s → (new ≡ mid) × Reported s (line_of s) out out' result → EndsWith (Some c) old new out out' result
+fails_end : {T : Type 0} (c : Asked) (old mid new : StoreState) (out out' : SinkState) (s result : Status) → OnlyRead {T = T} old mid (Err s) → Fails c old.files s → (new ≡ mid) × Reported s (line_of s) out out' result → EndsWith (Some c) old new out out' result
 fails_end c old mid new out out' s result o f u =
     (s, line_of s, subst (λ (k : StoreState). Ending c old k s (line_of s)) (sym u.0) (fails_ending c old mid s o f), u.1)
 
 -- what was made or not was finished
-pub performs : (asked : Option Command) (c : Command) (r : Result Made Status) (old mid new : StoreState) (out out' : SinkState) (result : Status) → asked ≡ Some c → OnlyRead old mid r
+pub performs : (asked : Option Asked) (c : Asked) (r : Result Made Status) (old mid new : StoreState) (out out' : SinkState) (result : Status) → asked ≡ Some c → OnlyRead old mid r
     → MatchResult r (λ m. IsEnd m.status × MakesIn c old.files (outputs_of m)) (λ s. Fails c old.files s)
     → MatchResult r (λ m. Finished (outputs_of m) mid new out out' result) (λ s. (new ≡ mid) × Reported s (line_of s) out out' result) → EndsWith asked old new out out' result
-performs asked c (Ok m) old mid new out out' result a o x y = subst (λ (k : Option Command). EndsWith k old new out out' result) (sym a) (made_ends c old mid new out out' (outputs_of m) result o.same (all_read old mid m o) x.0 x.1 y)
-performs asked c (Err s) old mid new out out' result a o x y = subst (λ (k : Option Command). EndsWith k old new out out' result) (sym a) (fails_end c old mid new out out' s result o x y)
+performs asked c (Ok m) old mid new out out' result a o x y = subst (λ (k : Option Asked). EndsWith k old new out out' result) (sym a) (made_ends c old mid new out out' (outputs_of m) result o.same (all_read old mid m o) x.0 x.1 y)
+performs asked c (Err s) old mid new out out' result a o x y = subst (λ (k : Option Asked). EndsWith k old new out out' result) (sym a) (fails_end c old mid new out out' s result o x y)
 
-refusal_answers : (c : Command) (old new : StoreState) (out out' : SinkState) (s : Status) → IsRefusal s → RefusesIn c old.files s → new ≡ old → Answers (Some c) old new out out' s × Answers (Some c) old new out out' (status_after_fault s)
+refusal_answers : (c : Asked) (old new : StoreState) (out out' : SinkState) (s : Status) → IsRefusal s → RefusesIn c old.files s → new ≡ old → Answers (Some c) old new out out' s × Answers (Some c) old new out out' (status_after_fault s)
 refusal_answers c old new out out' (status.Refused code detail at) i r e = ((r, e), (r, e))
 refusal_answers c old new out out' (status.No code detail at) i r e = ((r, e), (r, e))
 refusal_answers c old new out out' (status.Limit which found) i r e = ((inr r, e), (inr r, e))
 refusal_answers c old new out out' status.Form i r e = ((r, e), (r, e))
 refusal_answers c old new out out' s i r e = absurd i
 
-whole_answers : (c : Command) (old new : StoreState) (out out' : SinkState) (made : Outputs) (s : Status) → made.status ≡ s → IsEnd s → MakesIn c old.files made → new.files ≡ all_put made.files old.files → NoneFailed old new → ((out'.written ≡ told_append made.lines out.written) × (out'.faults ≡ out.faults) → Answers (Some c) old new out out' s) × (Rose out.faults out'.faults → Answers (Some c) old new out out' (status_after_fault s))
+whole_answers : (c : Asked) (old new : StoreState) (out out' : SinkState) (made : Outputs) (s : Status) → made.status ≡ s → IsEnd s → MakesIn c old.files made → new.files ≡ all_put made.files old.files → NoneFailed old new → ((out'.written ≡ told_append made.lines out.written) × (out'.faults ≡ out.faults) → Answers (Some c) old new out out' s) × (Rose out.faults out'.faults → Answers (Some c) old new out out' (status_after_fault s))
 whole_answers c old new out out' made status.Done q i m e n =
     let h : HasMade c old new status.Done made = record { status_is = q; makes = m; files = e; counts = n } in
     (λ p. (made, h, p.0, p.1), λ f. inr (made, h, f))
@@ -68,7 +67,7 @@ whole_answers c old new out out' made (status.Stopped kind code at cycles) q i m
 whole_answers c old new out out' made s q i m e n = absurd i
 
 -- what an ending answers, where its lines are printed, and where the sink failed
-ending_answers : (c : Command) (old new : StoreState) (out out' : SinkState) (s : Status) (lines : List ℕ) → Ending c old new s lines → ((out'.written ≡ told_append lines out.written) × (out'.faults ≡ out.faults) → Answers (Some c) old new out out' s) × (Rose out.faults out'.faults → Answers (Some c) old new out out' (status_after_fault s))
+ending_answers : (c : Asked) (old new : StoreState) (out out' : SinkState) (s : Status) (lines : List ℕ) → Ending c old new s lines → ((out'.written ≡ told_append lines out.written) × (out'.faults ≡ out.faults) → Answers (Some c) old new out out' s) × (Rose out.faults out'.faults → Answers (Some c) old new out out' (status_after_fault s))
 ending_answers c old new out out' s lines (read_fault r) = (λ p. r, λ f. r)
 ending_answers c old new out out' s lines (too_long which e o) = (λ p. (inl (refl, o), e), λ f. (inl (refl, o), e))
 ending_answers c old new out out' s lines (refused t e i r) = let a = refusal_answers c old new out out' t i r e in (λ p. a.0, λ f. a.1)
@@ -80,7 +79,7 @@ ending_answers c old new out out' s lines (memory_in_part made m p n) = (λ q. i
 ending_answers c old new out out' s lines (memory e) = let n = unchanged old new e in (λ q. inl n, λ f. inl n)
 
 -- what is known where memory ran out in printing the lines of an ending
-cut_answers : (c : Command) (old new : StoreState) (out out' : SinkState) (s : Status) (lines : List ℕ) → Ending c old new s lines → IsCut lines out out' → out'.faults ≡ out.faults → NoneFailed old new ⊎ IsUntold old new out out'
+cut_answers : (c : Asked) (old new : StoreState) (out out' : SinkState) (s : Status) (lines : List ℕ) → Ending c old new s lines → IsCut lines out out' → out'.faults ≡ out.faults → NoneFailed old new ⊎ IsUntold old new out out'
 cut_answers c old new out out' s lines (read_fault r) k e = inr (record { fault = status.ReadFault; failed = r; cut = k; counts = e })
 cut_answers c old new out out' s lines (too_long which u o) k e = inl (unchanged old new u)
 cut_answers c old new out out' s lines (refused t u i r) k e = inl (unchanged old new u)
@@ -106,25 +105,25 @@ idle_ends out out' status.Memory result i r = ⊎_elim (λ a. inr a.0) (⊎_elim
 idle_ends out out' s result i r = absurd i
 
 -- the words ask for no command
-pub no_command : (asked : Option Command) (old : StoreState) (out out' : SinkState) (result : Status) → asked ≡ None → Reported status.Usage (line_of status.Usage) out out' result → EndsWith asked old old out out' result
-no_command asked old out out' result none r = subst (λ (k : Option Command). EndsWith k old old out out' result) (sym none) (status.Usage, tt, refl, r)
+pub no_command : (asked : Option Asked) (old : StoreState) (out out' : SinkState) (result : Status) → asked ≡ None → Reported status.Usage (line_of status.Usage) out out' result → EndsWith asked old old out out' result
+no_command asked old out out' result none r = subst (λ (k : Option Asked). EndsWith k old old out out' result) (sym none) (status.Usage, tt, refl, r)
 
 -- memory ran out in reading the words
-pub unread_words : (asked : Option Command) (old : StoreState) (out out' : SinkState) (result : Status) → Reported status.Memory (line_of status.Memory) out out' result → EndsWith asked old old out out' result
+pub unread_words : (asked : Option Asked) (old : StoreState) (out out' : SinkState) (result : Status) → Reported status.Memory (line_of status.Memory) out out' result → EndsWith asked old old out out' result
 unread_words None old out out' result r = (status.Memory, tt, refl, r)
 unread_words (Some c) old out out' result r = (status.Memory, line_of status.Memory, memory refl, r)
 
 -- each ending is a row of the table of answers
-pub answers_of : (asked : Option Command) (old new : StoreState) (out out' : SinkState) (result : Status) → EndsWith asked old new out out' result → Answers asked old new out out' result
+pub answers_of : (asked : Option Asked) (old new : StoreState) (out out' : SinkState) (result : Status) → EndsWith asked old new out out' result → Answers asked old new out out' result
 answers_of None old new out out' result x = idle_answers old new out out' x.0 result x.1 x.2 x.3
 answers_of (Some c) old new out out' result x =
     let Told : Status → Type 0 = λ t. Answers (Some c) old new out out' t in
     let k = ending_answers c old new out out' x.0 x.1 x.2 in
     ⊎_elim (λ a. subst Told (sym a.0) (k.0 (a.1, a.2))) (⊎_elim (λ a. subst Told (sym a.0) (cut_answers c old new out out' x.0 x.1 x.2 a.1 a.2)) (λ a. subst Told (sym a.0) (k.1 a.2))) x.3
 
-pub done_of : (asked : Option Command) (old new : StoreState) (out out' : SinkState) (result : Status) → EndsWith asked old new out out' result → result ≡ status.Done → IsDone asked old new out out'
+pub done_of : (asked : Option Asked) (old new : StoreState) (out out' : SinkState) (result : Status) → EndsWith asked old new out out' result → result ≡ status.Done → IsDone asked old new out out'
 done_of asked old new out out' result x e = subst (λ t. Answers asked old new out out' t) e (answers_of asked old new out out' result x)
 
-pub no_command_of : (asked : Option Command) (old new : StoreState) (out out' : SinkState) (result : Status) → EndsWith asked old new out out' result → asked ≡ None → (result ≡ status.Usage) ⊎ (result ≡ status.Memory)
+pub no_command_of : (asked : Option Asked) (old new : StoreState) (out out' : SinkState) (result : Status) → EndsWith asked old new out out' result → asked ≡ None → (result ≡ status.Usage) ⊎ (result ≡ status.Memory)
 no_command_of None old new out out' result x e = idle_ends out out' x.0 result x.1 x.3
 no_command_of (Some c) old new out out' result x e = absurd cc

@@ -19,7 +19,7 @@ use Rattle.types_tree.specs.Tree.{Program}
 use Rattle.meaning_laws.specs.Told.{IsTold}
 use Rattle.meaning_laws.proofs.Sources.{runs_are_told}
 use Rattle.command_words.specs.Requests.{EvalRequest}
-use Rattle.command_perform.specs.Words.{Eval}
+use Rattle.command_perform.specs.Words.{Named, Eval}
 use Rattle.command_perform.specs.Outputs.{Outputs}
 use Rattle.command_perform.specs.Sources.{refusal_status, RefusesProgram}
 use Rattle.command_perform.specs.Evaluating.{run_outputs, IsRun, MakesRun, Evaluates, IsRejected}
@@ -93,10 +93,10 @@ refusal_only asked source input s e = record {
   makes = λ made m. absurd (not_refused source input m.run s e.source_short m.is_run e.refuses);
 }
 
-pub run_ends : (asked : EvalRequest) (run : SourceRun) (files : Option Files) (old : StoreState) → old.files ≡ files → IsSomeAnd files (λ fs. Evaluates (bytes_of fs asked.source) (bytes_of fs asked.input) run) → CanEnd (Some (Eval asked)) old (run_outputs asked run).status
+pub run_ends : (asked : EvalRequest) (run : SourceRun) (files : Option Files) (old : StoreState) → old.files ≡ files → IsSomeAnd files (λ fs. Evaluates (bytes_of fs asked.source) (bytes_of fs asked.input) run) → CanEnd (Some (Named (Eval asked))) old (run_outputs asked run).status
 run_ends asked run None old e c = absurd c
 run_ends asked run (Some fs) old e c = rw e ((c.source_short, (c.input_short, tt)), run_only asked (bytes_of fs asked.source) (bytes_of fs asked.input) run c)
 
-pub refusal_ends : (asked : EvalRequest) (s : Status) (files : Option Files) (old : StoreState) → old.files ≡ files → IsSomeAnd files (λ fs. IsRejected (bytes_of fs asked.source) (bytes_of fs asked.input) s) → CanEnd (Some (Eval asked)) old s
+pub refusal_ends : (asked : EvalRequest) (s : Status) (files : Option Files) (old : StoreState) → old.files ≡ files → IsSomeAnd files (λ fs. IsRejected (bytes_of fs asked.source) (bytes_of fs asked.input) s) → CanEnd (Some (Named (Eval asked))) old s
 refusal_ends asked s None old e c = absurd c
 refusal_ends asked s (Some fs) old e c = rw e ((c.source_short, (c.input_short, tt)), refusal_only asked (bytes_of fs asked.source) (bytes_of fs asked.input) s c)

@@ -6,7 +6,7 @@ use Rattle.wcc_base.specs.declared.status.Status.TheVariants as status
 use Rattle.elf_image.proofs.FaultLemmas.{is_image}
 use Rattle.rv_core.specs.Table.{Table}
 use Rattle.command_words.specs.Requests.{RunRequest}
-use Rattle.command_perform.specs.Words.{Run}
+use Rattle.command_perform.specs.Words.{Named, Run}
 use Rattle.command_perform.specs.Outputs.{Outputs}
 use Rattle.command_perform.specs.Gathering.{Fit, contents_of}
 use Rattle.command_perform.proofs.Charges.{same_costs, no_table_fault}
@@ -30,6 +30,6 @@ exit_only asked (image ∷ input ∷ tables) c = record {
   makes = λ made m. exit_made asked image input c.0 m.0 made (same_costs tables c.0 m.0 c.1 m.1) c.2 m.2;
 }
 
-pub exit_ends : (asked : RunRequest) (files : Option Files) (old : StoreState) → old.files ≡ files → IsSomeAnd files (λ fs. Fit (wanted_of (Run asked)) fs × CanExitRun asked (contents_of (wanted_of (Run asked)) fs)) → CanEnd (Some (Run asked)) old status.Done
+pub exit_ends : (asked : RunRequest) (files : Option Files) (old : StoreState) → old.files ≡ files → IsSomeAnd files (λ fs. Fit (wanted_of (Run asked)) fs × CanExitRun asked (contents_of (wanted_of (Run asked)) fs)) → CanEnd (Some (Named (Run asked))) old status.Done
 exit_ends asked None old e c = absurd c
 exit_ends asked (Some fs) old e c = rw e (c.0, exit_only asked (contents_of (wanted_of (Run asked)) fs) c.1)

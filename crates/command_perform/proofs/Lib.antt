@@ -11,3 +11,5 @@ pub mod Evaluations
 pub mod CompileRuns
 pub mod NumberedRuns
 pub mod CheckRuns
+pub mod TaskRuns
+pub mod RespondRuns

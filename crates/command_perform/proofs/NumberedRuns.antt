@@ -24,7 +24,7 @@ use Rattle.facts_laws.proofs.Sources as laws
 use Rattle.command_words.specs.Requests.{MakeRequest}
 use Rattle.command_perform.specs.declared.compile.Texts.{Texts}
 use Rattle.command_perform.specs.declared.make.Made.{Made}
-use Rattle.command_perform.specs.Words.{Make}
+use Rattle.command_perform.specs.Words.{Named, Make}
 use Rattle.command_perform.specs.Outputs.{Outputs, outputs_of}
 use Rattle.command_perform.specs.Compiling.{Compiles}
 use Rattle.command_perform.specs.Running.{run_of, run_limits, Simulates}
@@ -84,6 +84,6 @@ numbered_only asked few k = record {
   makes = λ made m. made_done asked made k m;
 }
 
-pub numbered_ends : (asked : MakeRequest) (files : Option Files) (old : StoreState) → old.files ≡ files → IsSome files → asked.number ≤ 100 → IsKept (numbered_text asked.number) [] → CanEnd (Some (Make asked)) old status.Done
+pub numbered_ends : (asked : MakeRequest) (files : Option Files) (old : StoreState) → old.files ≡ files → IsSome files → asked.number ≤ 100 → IsKept (numbered_text asked.number) [] → CanEnd (Some (Named (Make asked))) old status.Done
 numbered_ends asked None old e some few k = absurd cc
 numbered_ends asked (Some fs) old e some few k = rw e (tt, numbered_only asked few k)

@@ -5,24 +5,28 @@ use Rattle.wcc_base.specs.Limits.{greatest_of}
 use Rattle.wcc_base.specs.declared.limits.Bound.{Bound}
 use Rattle.wcc_base.specs.declared.status.Status.{Status}
 use Rattle.wcc_base.specs.declared.status.Status.TheVariants as status
-use Rattle.command_perform.specs.Words.{Command}
+use Rattle.command_perform.specs.Words.{Asked, Named, Respond}
 use Rattle.command_perform.specs.Outputs.{Outputs}
 use Rattle.command_perform.specs.StatusLines.{line_of}
 use Rattle.command_perform.specs.Commands.{wanted_of, Refuses, Makes}
-use Rattle.command_perform.specs.Gathering.{Overlong, Gathered, NotGathered}
+use Rattle.command_perform.specs.Responding.{OverlongTasks, RefusesTasks, MakesResponses}
+use Rattle.command_perform.specs.Gathering.{Overlong, Gathered, NotRead}
 use Rattle.command_perform.specs.Finishing.{all_put, Partly, NoneFailed, WriteFailed, Reported}
 
--- a file that the command reads passes this limit, and those before it are within theirs, where the store tells them
-abbrev pub OverlongIn : Command → Option Files → Bound → Type 0
-OverlongIn c files which = IfSome files (λ fs. Overlong (wanted_of c) fs which)
+-- a file that is read passes this limit, and those before it are within theirs, where the store tells them
+abbrev pub OverlongIn : Asked → Option Files → Bound → Type 0
+OverlongIn (Named c) files which = IfSome files (λ fs. Overlong (wanted_of c) fs which)
+OverlongIn (Respond asked) files which = IfSome files (λ fs. OverlongTasks asked fs which)
 
 -- the files were read, and are refused with this status
-abbrev pub RefusesIn : Command → Option Files → Status → Type 0
-RefusesIn c files s = (contents : List (List ℕ)) × Gathered (wanted_of c) files contents × Refuses c contents s
+abbrev pub RefusesIn : Asked → Option Files → Status → Type 0
+RefusesIn (Named c) files s = (contents : List (List ℕ)) × Gathered (wanted_of c) files contents × Refuses c contents s
+RefusesIn (Respond asked) files s = RefusesTasks asked files s
 
 -- the files were read, and this is made of them
-abbrev pub MakesIn : Command → Option Files → Outputs → Type 0
-MakesIn c files made = (contents : List (List ℕ)) × Gathered (wanted_of c) files contents × Makes c contents made
+abbrev pub MakesIn : Asked → Option Files → Outputs → Type 0
+MakesIn (Named c) files made = (contents : List (List ℕ)) × Gathered (wanted_of c) files contents × Makes c contents made
+MakesIn (Respond asked) files made = MakesResponses asked files made
 
 -- the statuses of a refusal
 abbrev pub IsRefusal : Status → Type 0
@@ -45,7 +49,7 @@ pub record ReadFailed (old new : StoreState) : Type 0 where
   pub writes : new.write_faults ≡ old.write_faults
 
 -- how a command ends, with the status and the lines that are printed, one row for each kind of ending. Of the counts of faults one rose where a fault is told, and else none
-pub data Ending (c : Command) (old new : StoreState) : Status → List ℕ → Type 0 where
+pub data Ending (c : Asked) (old new : StoreState) : Status → List ℕ → Type 0 where
   read_fault : ReadFailed old new → Ending c old new status.ReadFault (line_of status.ReadFault)
   too_long : (which : Bound) → new ≡ old → OverlongIn c old.files which → Ending c old new (status.Limit which (greatest_of which + 1)) (line_of (status.Limit which (greatest_of which + 1)))
   refused : (s : Status) → new ≡ old → IsRefusal s → RefusesIn c old.files s → Ending c old new s (line_of s)
@@ -61,10 +65,13 @@ IsIdle status.Memory = Unit {0}
 IsIdle s = ⊥
 
 -- how the call ends: no command was done, and the store is as it was; or the command ended so; and its lines were printed
-abbrev pub EndsWith : Option Command → StoreState → StoreState → SinkState → SinkState → Status → Type 0
+abbrev pub EndsWith : Option Asked → StoreState → StoreState → SinkState → SinkState → Status → Type 0
 EndsWith None old new out out' result = (s : Status) × IsIdle s × (new ≡ old) × Reported s (line_of s) out out' result
 EndsWith (Some c) old new out out' result = (s : Status) × (lines : List ℕ) × Ending c old new s lines × Reported s lines out out' result
 
--- why nothing is made: the files weren't read, or memory ran out, or they are refused
-abbrev pub Fails : Command → Option Files → Status → Type 0
-Fails c files s = NotGathered (wanted_of c) files s ⊎ ((s ≡ status.Memory) ⊎ (IsRefusal s × RefusesIn c files s))
+-- why nothing is made: a file wasn't read, or memory ran out, or what was read is refused
+abbrev pub FailsBy : (Bound → Type 0) → (Status → Type 0) → Status → Type 0
+FailsBy Passes Refused s = NotRead Passes s ⊎ ((s ≡ status.Memory) ⊎ (IsRefusal s × Refused s))
+
+abbrev pub Fails : Asked → Option Files → Status → Type 0
+Fails c files s = FailsBy (OverlongIn c files) (RefusesIn c files) s

@@ -34,12 +34,15 @@ Overlong (w ∷ ws) fs which =
 abbrev pub Gathered : Wants → Option Files → List (List ℕ) → Type 0
 Gathered ws files contents = IfSome files (λ fs. (contents ≡ contents_of ws fs) × Fit ws fs)
 
--- why they weren't: a fault, a limit, of which one more is found, or want of memory
+-- why a file wasn't read: a fault, a limit that it passes, of which one more is found, or want of memory
+abbrev pub NotRead : (Bound → Type 0) → Status → Type 0
+NotRead Passes status.ReadFault = Unit {0}
+NotRead Passes (status.Limit which found) = (found ≡ greatest_of which + 1) × Passes which
+NotRead Passes status.Memory = Unit {0}
+NotRead Passes s = ⊥
+
 abbrev pub NotGathered : Wants → Option Files → Status → Type 0
-NotGathered ws files status.ReadFault = Unit {0}
-NotGathered ws files (status.Limit which found) = (found ≡ greatest_of which + 1) × IfSome files (λ fs. Overlong ws fs which)
-NotGathered ws files status.Memory = Unit {0}
-NotGathered ws files s = ⊥
+NotGathered ws files s = NotRead (λ which. IfSome files (λ fs. Overlong ws fs which)) s
 
 -- the count of faults in reading behind a step: raised exactly where such a fault is its status
 abbrev pub reads_counted : {T : Type 0} → ℕ → Result T Status → ℕ

@@ -12,8 +12,10 @@ pub mod Checking
 pub mod Gathering
 pub mod Tables
 pub mod Commands
+pub mod Responding
 pub mod Finishing
 pub mod Ends
 pub mod Promises
 pub mod Asked
 pub mod Files
+pub mod Tasks

@@ -7,7 +7,7 @@ use Rattle.report_check.specs.Summaries.{kind_word}
 use Rattle.rv_sim.specs.declared.ending.Ending.{Ending}
 use Rattle.rv_sim.specs.declared.ending.Ending.TheVariants.{Exit, Trap, CycleLimit, OutputFull}
 use Rattle.command_perform.specs.declared.lines.Part.{Part}
-use Rattle.command_perform.specs.declared.lines.Part.TheVariants.{Word, Number, Signed, Address}
+use Rattle.command_perform.specs.declared.lines.Part.TheVariants.{Word, Name, Number, Signed, Address}
 
 -- eight hexadecimal digits in lower case
 abbrev pub address_text : ℕ → List ℕ
@@ -18,6 +18,7 @@ address_text a =
 -- what a part of a line shows
 abbrev pub shown : Part → List ℕ
 shown (Word text) = text.now
+shown (Name bytes) = bytes.now
 shown (Number n) = decimal n
 shown (Signed z) = signed_decimal z
 shown (Address a) = address_text a
@@ -47,6 +48,14 @@ yes_line cycles greatest = row (codes "yes " ∷ decimal cycles ∷ greatest_tex
 -- the line of an exit
 abbrev pub exit_line : ℤ → ℕ → List ℕ
 exit_line value cycles = row (codes "exit " ∷ signed_decimal value ∷ codes " cycles " ∷ decimal cycles ∷ codes "\n" ∷ [])
+
+-- the line of the response of a task
+abbrev pub response_line : List ℕ → ℕ → List ℕ
+response_line name response = row (codes "response " ∷ name ∷ codes " " ∷ decimal response ∷ codes "\n" ∷ [])
+
+-- that of a task that is late, by the number of its line in the list
+abbrev pub late_line : ℕ → List ℕ
+late_line number = row (codes "late " ∷ decimal number ∷ codes "\n" ∷ [])
 
 -- the line of a source that was made, of so many bytes
 abbrev pub made_line : ℕ → List ℕ

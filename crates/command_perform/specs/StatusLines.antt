@@ -37,7 +37,8 @@ refused_text code detail =
     else (if code == 8 then codes "bound"
     else (if code == 9 then codes "table-" ++ decimal detail
     else (if code == 10 then codes "image-" ++ decimal detail
-    else codes "report-" ++ decimal detail)))))))))
+    else (if code == 12 then codes "tasks-" ++ decimal detail
+    else codes "report-" ++ decimal detail))))))))))
 
 -- what of a certificate, or of what it speaks of, fails, by its code: some say where, by a number or by an address
 abbrev pub failed_line : ℕ → ℕ → ℕ → List ℕ

@@ -1,10 +1,10 @@
 -- What the words of a command line ask of this program: what `command_words` reads in them, as far as it is built.
 use Rattle.std.specs.Prelude.{◌||◌, ℕ, Bool, List, Option, Some, None, is_some, if◌then◌else◌, option_and_then}
-use Rattle.command_words.specs.Requests.{Request, CompileRequest, CheckRequest, RunRequest, EvalRequest, ReportRequest, MakeRequest}
-use Rattle.command_words.specs.Requests.{Compile as AsksCompile, Check as AsksCheck, Run as AsksRun, Eval as AsksEval, Report as AsksReport, Make as AsksMake}
+use Rattle.command_words.specs.Requests.{Request, CompileRequest, CheckRequest, RunRequest, EvalRequest, ReportRequest, MakeRequest, RespondRequest}
+use Rattle.command_words.specs.Requests.{Compile as AsksCompile, Check as AsksCheck, Run as AsksRun, Eval as AsksEval, Report as AsksReport, Make as AsksMake, Respond as AsksRespond}
 use Rattle.command_words.specs.Asked.{asked_by as request_by}
 
--- a command that is built
+-- a command whose files the words name
 pub data Command : Type 0 where
   Compile : (asked : CompileRequest) → Command
   Check : (asked : CheckRequest) → Command
@@ -13,20 +13,25 @@ pub data Command : Type 0 where
   Report : (asked : ReportRequest) → Command
   Make : (asked : MakeRequest) → Command
 
+-- what is asked: such a command, or the responses of the tasks of a list, whose lines name files of their own
+pub data Asked : Type 0 where
+  Named : (command : Command) → Asked
+  Respond : (asked : RespondRequest) → Asked
+
 -- an option of `compile` is given that isn't built
 abbrev pub has_options : CompileRequest → Bool
 has_options r = is_some r.spm || (is_some r.unroll || (is_some r.inline || r.derive))
 
--- the command of a request; where it isn't built, or an option that is given, there is none
-abbrev pub built : Request → Option Command
-built (AsksCompile r) = if has_options r then None else Some (Compile r)
-built (AsksCheck r) = Some (Check r)
-built (AsksRun r) = Some (Run r)
-built (AsksEval r) = if r.derive then None else Some (Eval r)
-built (AsksReport r) = Some (Report r)
-built (AsksMake r) = Some (Make r)
-built request = None
+-- what a request asks; where an option is given that isn't built, there is nothing
+abbrev pub built : Request → Option Asked
+built (AsksCompile r) = if has_options r then None else Some (Named (Compile r))
+built (AsksCheck r) = Some (Named (Check r))
+built (AsksRun r) = Some (Named (Run r))
+built (AsksEval r) = if r.derive then None else Some (Named (Eval r))
+built (AsksReport r) = Some (Named (Report r))
+built (AsksMake r) = Some (Named (Make r))
+built (AsksRespond r) = Some (Respond r)
 
 -- what the words ask, if they ask for a command
-abbrev pub asked_by : List (List ℕ) → Option Command
+abbrev pub asked_by : List (List ℕ) → Option Asked
 asked_by words = option_and_then built (request_by words)

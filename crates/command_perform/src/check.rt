@@ -80,9 +80,14 @@ fn outputs<'a>(alloc: Global, checked: Checked) -> Result<Made<'a>, Memory>
     })
 }
 
-// Checks the report of the image with these costs.
+/// Checks the report of the image with these costs.
 #[tactic(auto, using(crate::proofs::CheckRuns::refuses_check))]
-fn check_files(alloc: Global, costs: &Costs, image: &[u8], report: &[u8]) -> Result<Checked, Status>
+pub fn check_files(
+    alloc: Global,
+    costs: &Costs,
+    image: &[u8],
+    report: &[u8],
+) -> Result<Checked, Status>
     ensures { MatchResult result (IsChecked (table_of costs.now) image.now report.now)
         (λ s. (s ≡ status.Memory) ⊎ (IsRefusal s × RefusesCheck (table_of costs.now) image.now report.now s)) }
 {

@@ -20,7 +20,8 @@ pub struct Wanted<'a> {
     pub which: Bound,
 }
 
-fn want<'a>(name: &'a str, which: Bound) -> Wanted<'a>
+/// A file that is read, up to the limit of what it holds.
+pub fn want<'a>(name: &'a str, which: Bound) -> Wanted<'a>
     ensures { wanted result ≡ (name.now, which) }
 {
     Wanted { name, which }
@@ -44,8 +45,8 @@ fn read_wanted<S: Store>(alloc: Global, store: &mut S, file: Wanted) -> Result<I
     }
 }
 
-// Reads files in order.
-fn read_each<S: Store>(
+/// Reads files in order.
+pub fn read_each<S: Store>(
     alloc: Global,
     store: &mut S,
     files: &[Wanted],
@@ -70,8 +71,8 @@ fn read_each<S: Store>(
     Ok(contents)
 }
 
-// Reads a file, and behind it the table of costs where one is named.
-fn read_charged<S: Store>(
+/// Reads a file, and behind it the table of costs where one is named.
+pub fn read_charged<S: Store>(
     alloc: Global,
     store: &mut S,
     file: Wanted,

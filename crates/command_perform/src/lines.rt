@@ -3,7 +3,7 @@ ghost use Rattle.std.specs.Prelude.{◌≡◌, ◌<◌, [], ◌∷◌, codes, If
 ghost use Rattle.std.specs.Fmt.{decimal};
 ghost use Rattle.std.specs.Char.{digit_char};
 ghost use Rattle.report_check.specs.Summaries.{kind_word};
-ghost use Rattle.command_perform.specs.Lines.{address_text, all_shown, row, cycles_line, greatest_text, yes_line, exit_line, made_line, ran_line, value_line, undefined_line, broken_line, run_line};
+ghost use Rattle.command_perform.specs.Lines.{address_text, all_shown, row, cycles_line, greatest_text, yes_line, exit_line, response_line, late_line, made_line, ran_line, value_line, undefined_line, broken_line, run_line};
 
 use path_answer::Kind;
 use rv_sim::Ending;
@@ -14,6 +14,8 @@ use wcc_base::Memory;
 #[derive(Clone, Copy)]
 pub enum Part<'a> {
     Word(&'a str),
+    /// The bytes of a name.
+    Name(&'a [u8]),
     Number(u64),
     Signed(i32),
     /// Eight hexadecimal digits.
@@ -90,6 +92,26 @@ pub fn yes_line<'a>(cycles: u64, greatest: bool) -> [Part<'a>; 4]
         Part::Word(greatest_word(greatest)),
         Part::Word("\n"),
     ]
+}
+
+/// The line of the response of a task.
+pub fn response_line<'a>(name: &'a [u8], response: u64) -> [Part<'a>; 5]
+    ensures { all_shown result ≡ response_line name.now response }
+{
+    [
+        Part::Word("response "),
+        Part::Name(name),
+        Part::Word(" "),
+        Part::Number(response),
+        Part::Word("\n"),
+    ]
+}
+
+/// The line of a task that is late.
+pub fn late_line<'a>(number: u64) -> [Part<'a>; 3]
+    ensures { all_shown result ≡ late_line number }
+{
+    [Part::Word("late "), Part::Number(number), Part::Word("\n")]
 }
 
 /// The line of a source that was made.

@@ -1,7 +1,7 @@
 // A command from its words to its status.
 ghost use Rattle.std.specs.Prelude.{◌≡◌, map, string_bytes, MatchResult};
-ghost use Rattle.command_perform.specs.Words.{asked_by};
-ghost use Rattle.command_perform.specs.Asked.{command_of};
+ghost use Rattle.command_perform.specs.Words.{asked_by, Named};
+ghost use Rattle.command_perform.specs.Asked.{command_of, asked_of};
 ghost use Rattle.command_perform.specs.Outputs.{outputs_of};
 ghost use Rattle.command_perform.specs.Gathering.{OnlyRead};
 ghost use Rattle.command_perform.specs.Ends.{IsEnd, MakesIn, Fails, EndsWith};
@@ -9,27 +9,46 @@ ghost use Rattle.command_perform.specs.Ends.{IsEnd, MakesIn, Fails, EndsWith};
 use crate::finish::finish;
 use crate::gather::gather;
 use crate::make::{Made, make};
+use crate::respond::respond;
 use crate::status_lines::report_status;
-use crate::words::{Command, read_command};
+use crate::words::{Asked, Command, read_command};
 use promise_compiler::Compiler;
 use std::alloc::Global;
 use wcc_base::{Sink, Status, Store};
 
-// Reads the files of a command, and makes of them what it asks.
-fn work<'a, C: Compiler, S: Store>(
+// Reads the files that the words name, and makes of them what the command asks.
+fn work_on_files<'a, C: Compiler, S: Store>(
     compiler: &C,
     alloc: Global,
     store: &mut S,
     command: Command<'a>,
 ) -> Result<Made<'a>, Status>
     ensures made { MatchResult result
-        (λ m. IsEnd m.status × MakesIn (command_of command.entry) (S.state store.old).files (outputs_of m))
-        (λ s. Fails (command_of command.entry) (S.state store.old).files s) }
+        (λ m. IsEnd m.status × MakesIn (Named (command_of command.entry)) (S.state store.old).files (outputs_of m))
+        (λ s. Fails (Named (command_of command.entry)) (S.state store.old).files s) }
     ensures reads { OnlyRead (S.state store.old) (S.state store.new) result }
 {
     match gather(alloc, store, command) {
         Ok(contents) => make(compiler, alloc, command, contents),
         Err(status) => Err(status),
+    }
+}
+
+// Reads what is asked for, and makes of it what is asked.
+fn work<'a, C: Compiler, S: Store>(
+    compiler: &C,
+    alloc: Global,
+    store: &mut S,
+    asked: Asked<'a>,
+) -> Result<Made<'a>, Status>
+    ensures made { MatchResult result
+        (λ m. IsEnd m.status × MakesIn (asked_of asked.entry) (S.state store.old).files (outputs_of m))
+        (λ s. Fails (asked_of asked.entry) (S.state store.old).files s) }
+    ensures reads { OnlyRead (S.state store.old) (S.state store.new) result }
+{
+    match asked {
+        Asked::Named(command) => work_on_files(compiler, alloc, store, command),
+        Asked::Respond(asked) => respond(alloc, store, asked),
     }
 }
 
@@ -45,8 +64,8 @@ pub fn perform<C: Compiler, S: Store, O: Sink>(
     ensures { EndsWith (asked_by (map string_bytes words.now)) (S.state store.old) (S.state store.new) (O.state out.old) (O.state out.new) result }
 {
     match read_command(alloc, words) {
-        Ok(Some(command)) => {
-            let made = work(compiler, alloc, store, command);
+        Ok(Some(asked)) => {
+            let made = work(compiler, alloc, store, asked);
             finish(store, out, made)
         }
         Ok(None) => report_status(out, Status::Usage),

@@ -34,6 +34,7 @@ fn put_part<O: Sink>(out: &mut O, part: &Part) -> Result<(), Fault>
     let mut buffer = Buffer::new();
     match part {
         Part::Word(word) => put_all(out, word.as_bytes()),
+        Part::Name(name) => put_all(out, *name),
         Part::Number(number) => put_all(out, buffer.format(*number).as_bytes()),
         Part::Signed(number) => put_all(out, buffer.format(*number).as_bytes()),
         Part::Address(at) => put_all(out, &address(*at)),

@@ -47,6 +47,7 @@ fn refused_parts(code: u8, detail: u8) -> (Part<'static>, Part<'static>)
         8 => (Part::Word("bound"), none),
         9 => (Part::Word("table-"), number),
         10 => (Part::Word("image-"), number),
+        12 => (Part::Word("tasks-"), number),
         _ => (Part::Word("report-"), number),
     }
 }

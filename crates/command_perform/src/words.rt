@@ -1,17 +1,17 @@
-// The commands that are built.
+// What words ask of this program.
 ghost use Rattle.std.specs.Prelude.{◌≡◌, IfOk, map, option_map, string_bytes};
 ghost use Rattle.command_words.specs.Held.{compile_request, request_of};
 ghost use Rattle.command_perform.specs.Words.{has_options, built, asked_by};
-ghost use Rattle.command_perform.specs.Asked.{command_of};
+ghost use Rattle.command_perform.specs.Asked.{asked_of};
 
 use command_words::{
-    CheckRequest, CompileRequest, EvalRequest, MakeRequest, ReportRequest, Request, RunRequest,
-    read_words,
+    CheckRequest, CompileRequest, EvalRequest, MakeRequest, ReportRequest, Request, RespondRequest,
+    RunRequest, read_words,
 };
 use std::alloc::Global;
 use wcc_base::Memory;
 
-/// A command that is built, with what it is asked.
+/// A command whose files the words name, with what it is asked.
 #[derive(Clone, Copy)]
 pub enum Command<'a> {
     Compile(CompileRequest<'a>),
@@ -22,6 +22,14 @@ pub enum Command<'a> {
     Make(MakeRequest<'a>),
 }
 
+/// What is asked: such a command, or the responses of the tasks of a list, whose lines name files of
+/// their own.
+#[derive(Clone, Copy)]
+pub enum Asked<'a> {
+    Named(Command<'a>),
+    Respond(RespondRequest<'a>),
+}
+
 // Whether an option of `compile` is given that isn't built.
 fn has_options(r: &CompileRequest) -> bool
     ensures { result ≡ has_options (compile_request r.now) }
@@ -29,34 +37,34 @@ fn has_options(r: &CompileRequest) -> bool
     r.spm.is_some() || r.unroll.is_some() || r.inline.is_some() || r.derive
 }
 
-// The command of a request, where it and its options are built.
-fn built<'a>(request: Request<'a>) -> Option<Command<'a>>
-    ensures { option_map command_of result ≡ built (request_of request.entry) }
+// What a request asks, where its options are built.
+fn built<'a>(request: Request<'a>) -> Option<Asked<'a>>
+    ensures { option_map asked_of result ≡ built (request_of request.entry) }
 {
     match request {
         Request::Compile(r) => {
             if has_options(&r) {
                 return None;
             }
-            Some(Command::Compile(r))
+            Some(Asked::Named(Command::Compile(r)))
         }
-        Request::Check(r) => Some(Command::Check(r)),
-        Request::Run(r) => Some(Command::Run(r)),
+        Request::Check(r) => Some(Asked::Named(Command::Check(r))),
+        Request::Run(r) => Some(Asked::Named(Command::Run(r))),
         Request::Eval(r) => {
             if r.derive {
                 return None;
             }
-            Some(Command::Eval(r))
+            Some(Asked::Named(Command::Eval(r)))
         }
-        Request::Report(r) => Some(Command::Report(r)),
-        Request::Make(r) => Some(Command::Make(r)),
-        Request::Respond(_) => None,
+        Request::Report(r) => Some(Asked::Named(Command::Report(r))),
+        Request::Make(r) => Some(Asked::Named(Command::Make(r))),
+        Request::Respond(r) => Some(Asked::Respond(r)),
     }
 }
 
 /// What the words ask, if they ask for a command.
-pub fn read_command<'a>(alloc: Global, words: &'a [String]) -> Result<Option<Command<'a>>, Memory>
-    ensures { IfOk result (λ o. option_map command_of o ≡ asked_by (map string_bytes words.now)) }
+pub fn read_command<'a>(alloc: Global, words: &'a [String]) -> Result<Option<Asked<'a>>, Memory>
+    ensures { IfOk result (λ o. option_map asked_of o ≡ asked_by (map string_bytes words.now)) }
 {
     match read_words(alloc, words) {
         Ok(Some(request)) => Ok(built(request)),

@@ -2,8 +2,8 @@
 //!
 //! `wcc` is the top call: words, a store of files and a sink in, a status out. It compiles sources
 //! without restrictions, checks reports on images, runs images, evaluates sources, sums reports up,
-//! and makes sources from numbers. `main` gives it the real files and the standard output, and ends
-//! with the status's code.
+//! makes sources from numbers, and says how long tasks take beside each other. `main` gives it the
+//! real files and the standard output, and ends with the status's code.
 //!
 //! Proved, for every store and every sink: at each status what became of the files and of the
 //! printed lines, and why; at Done that a written image does what its source does on every input on

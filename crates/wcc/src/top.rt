@@ -21,13 +21,15 @@ pub fn wcc<S: Store, O: Sink>(alloc: Global, words: &[String], store: &mut S, ou
     // The promise: on every input on which its source is kept, a written image does what the source
     // does within the printed cycles, and the written report, whose claims are the source's facts,
     // holds of it; cycles that are said to hold bound each finished run that keeps the claims, on
-    // every input; and what is said of a run is what the machine does.
+    // every input; what is said of a run is what the machine does; and the responses of tasks are the
+    // least ones of the cycles that their reports are found to hold, and no job ends later.
     ensures done { result ≡ Status.Done → IsDone (asked_by (map string_bytes words.now)) (S.state store.old) (S.state store.new) (O.state out.old) (O.state out.new) }
 
     // What can only end in one way ends so, unless a fault is counted or memory runs out: a source
     // without restrictions is compiled, one with a restriction is answered by its form, a report that
-    // holds is found to hold, an image that exits within the limits is run, and a report is summed up
-    // (the laws of `command_perform`).
+    // holds is found to hold, an image that exits within the limits is run, a report is summed up, and
+    // tasks whose reports hold and of which none is late have their responses (the laws of
+    // `command_perform`).
     ensures succeeds { (s : Status) → CanEnd (asked_by (map string_bytes words.now)) (S.state store.old) s
         → NoFault (S.state store.old) (S.state store.new) (O.state out.old) (O.state out.new)
         → (result ≡ s) ⊎ (result ≡ Status.Memory) }
