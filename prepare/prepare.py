@@ -15,8 +15,8 @@ from subprocess import DEVNULL, PIPE
 
 INCLUDE = Path(__file__).resolve().parent.parent / "include"
 PREPROCESSORS = (("gcc", "-E"), ("clang", "-E"), ("cpp",))
-# C11 as the standard says it, on a machine of which nothing is known.
-FLAGS = ("-x", "c", "-std=c11", "-ffreestanding", "-nostdinc", "-undef", "-D__WCC__=1")
+# C11 as the standard says it, on a machine of which nothing is known but that char has no sign.
+FLAGS = ("-x", "c", "-std=c11", "-ffreestanding", "-nostdinc", "-undef", "-funsigned-char", "-D__WCC__=1")
 REFUSED, WRONG_WORDS, READ_FAULT, WRITE_FAULT, NOTHING_AT_HAND = 1, 2, 4, 5, 70
 DESCRIPTION = "Makes a source for compile and eval of a C file, by the preprocessor at hand and the headers of include/."
 ABOUT = "docs/PORTING.md says what the language leaves out and what to write instead, and what the headers have."
