@@ -5,9 +5,11 @@ often a run came there; and how near the restrictions came. Last come the pragma
 these inputs, by the second evaluator, and nothing of it is proved. README.md beside this file says more.
 """
 import os
+import re
 import sys
 from dataclasses import dataclass
 from pathlib import Path
+from typing import NamedTuple
 
 TOP = Path(__file__).resolve().parent.parent
 sys.path[:0] = [str(TOP), str(TOP / "explain")]
@@ -30,6 +32,20 @@ HELP = [
 ]
 # A run is left behind so many starts and calls: a loop without a bound need not end.
 MOST_STEPS = 20_000_000
+
+
+class Written(NamedTuple):
+    """How annotations are written."""
+    title: str
+    bound: str
+    restriction: str
+    without: str
+
+
+PRAGMAS = Written("Pragmas", "#pragma loopbound min {} max {}", "#pragma flowrestriction 1*{} <= {}*main", "")
+MACROS = Written("Annotations", "LOOPBOUND({}, {})", "RESTRICTION(1*{} <= {}*main)", ", and -D NO_RESTRICTIONS leaves them out")
+# A line marker of <wcc.h>, by which a source has its macros.
+WITH_MACROS = re.compile(rb'^# \d+ "(?:[^"\n]*/)?wcc\.h"', re.M)
 
 
 class Endless(Exception):
@@ -140,16 +156,16 @@ class Seen:
         return run, ended
 
     def bounds(self):
-        """For each loop that was entered its place, and the pragma that says what was seen of it."""
+        """Each loop that was entered, with the bound that says what was seen of it."""
         for loop, seen in self.loops.items():
             if seen.count and not seen.is_endless and seen.most <= MOST_STARTS:
-                yield loop, f"loopbound min {seen.fewest or 0} max {seen.most}"
+                yield loop, seen.fewest or 0, seen.most
 
     def restrictions(self):
-        """The pragmas that say how often functions and markers came at most."""
-        for name, (_, seen) in [*self.functions.items(), *self.markers.items()]:
+        """The place and the name of functions and markers, and how often each came at most."""
+        for name, (at, seen) in [*self.functions.items(), *self.markers.items()]:
             if name != "main" and seen.most <= MOST_FACTOR:
-                yield f"flowrestriction 1*{name} <= {seen.most}*main"
+                yield at, name, seen.most
 
 
 # What is said
@@ -226,13 +242,22 @@ class Report:
             yield f"  {place.shown()[0]}"
 
     def pragmas(self, seen):
-        bounds, restrictions = list(seen.bounds()), list(seen.restrictions())
+        """The annotations, as the source writes them: by the macros of <wcc.h> where it has that header."""
+        write = MACROS if WITH_MACROS.search(self.lines.source) else PRAGMAS
+        bounds = [(self.place(loop.at), bound) for loop, *bound in seen.bounds() if not self.is_given(loop.at)]
+        restrictions = [bound for at, *bound in seen.restrictions() if not self.is_given(at)]
         if bounds or restrictions:
-            yield from ["", "Pragmas that say so. They are seen and not proved: another input may break them."]
-        yield from (f"  before {self.place(loop.at)}: #pragma {text}" for loop, text in bounds)
-        yield from (f"  at file level: #pragma {text}" for text in restrictions)
+            yield from ["", f"{write.title} that say so. They are seen and not proved: another input may break them."]
+        yield from (f"  before {place}: {write.bound.format(*bound)}" for place, bound in bounds)
+        if restrictions:
+            yield f"  `compile` takes no restrictions yet{write.without}; `eval` does:"
+        yield from (f"  at file level: {write.restriction.format(*bound)}" for bound in restrictions)
         if len(restrictions) > MOST["restrictions"]:
             yield f"  A source takes at most {MOST['restrictions']} restrictions."
+
+    def is_given(self, at):
+        """Whether this is of <wide.h>, which nobody annotates."""
+        return os.path.basename(self.place(at).file.name) == "wide.h"
 
 
 def room(relation, sides):

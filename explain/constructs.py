@@ -7,8 +7,9 @@ import re
 from evaluator.parser import LOOP, OPERAND, SPECS, TYPE
 from evaluator.rules import BUILT_IN
 from evaluator.tokens import OUTSIDE_WORDS, PRAGMAS
-from names import ASSEMBLY, ATTRIBUTES, COMPILER_WORDS, HEADERS_OF_OTHERS, HEADERS_OF_TYPES, is_compiler_word
-from spot import OUTSIDE
+from names import (ANNOTATIONS, ASSEMBLY, AT_HAND, ATTRIBUTES, COMPILER_WORDS, HEADERS_OF_OTHERS, HEADERS_OF_TYPES,
+                   is_compiler_word)
+from spot import CLOSING, OPENING, OUTSIDE
 
 # What stands before a bracket that is none of an expression, and what an operand ends with.
 HEADS, OPERANDS = {"if", "while", "for", "switch"}, {"name", ")", "]"}
@@ -32,6 +33,16 @@ CHARACTERS = [
     ("escape", re.compile(r"'\\[^'\"?\\abfnrtvx0-7uU]'")),
     ("character letter", re.compile(r"'[^\x00-\x7f]'")),
 ]
+
+
+class Elsewhere(tuple):
+    """The words of an entry and what fills it, of which another place than that of the refusal is shown."""
+
+    @classmethod
+    def of(cls, spot, ahead, *words):
+        construct = cls(words)
+        construct.at = spot.token(ahead).at
+        return construct
 
 
 # What is outside by its tokens
@@ -148,12 +159,26 @@ def syntax(spot):
     if wanted is None:
         return None
     if wanted == LOOP:
-        return ("lone bound",)
+        return ("bound semicolon",) if spot.kind() == ";" and spot.kind(1) in ("for", "while", "do") else ("lone bound",)
     if spot.kind() in PRAGMAS:
         return ("misplaced " + spot.kind(),)
     if wanted == "{":
         return ("switch",)
-    return compiler_word(spot) or SIGNS.get(spot.kind(), lambda *_: None)(spot, wanted)
+    return annotation(spot) or compiler_word(spot) or SIGNS.get(spot.kind(), lambda *_: None)(spot, wanted)
+
+
+def annotation(spot):
+    """A macro of <wcc.h> without its header, at the place or before it."""
+    if spot.text() in ANNOTATIONS:
+        return lacking(spot, 0)
+    before = -2 if spot.kind(-1) in ("++", "--", "*", "&") else -1
+    opening = spot.opening(before) if spot.kind(before) == ")" else None
+    return lacking(spot, opening - 1) if opening is not None and spot.text(opening - 1) in ANNOTATIONS else None
+
+
+def lacking(spot, ahead):
+    """A name of a header of include/ that isn't included."""
+    return Elsewhere.of(spot, ahead, "lacking header", spot.text(ahead), AT_HAND[spot.text(ahead)])
 
 
 def compiler_word(spot):
@@ -361,9 +386,11 @@ def only_qualifiers(spot):
 def type_name(spot, ahead):
     """A name where only that of a type could stand. One that stands before is that of an object or a function."""
     text = spot.text(ahead)
+    if text in AT_HAND:
+        return lacking(spot, ahead)
     if text in HEADERS_OF_TYPES:
-        return "header type", text, HEADERS_OF_TYPES[text]
-    return None if text in BUILT_IN or spot.stands_before(ahead) else ("type name", text)
+        return Elsewhere.of(spot, ahead, "header type", text, HEADERS_OF_TYPES[text])
+    return None if text in BUILT_IN or spot.stands_before(ahead) else Elsewhere.of(spot, ahead, "type name", text)
 
 
 SIGNS = {"*": star, "&": ampersand, "&&": two_ampersands, "[": square, "(": round_bracket, ")": closing_round,
@@ -405,6 +432,11 @@ def undeclared(spot):
         return ("attribute",) if text in ATTRIBUTES else ("asm",)
     if is_compiler_word(text):
         return "compiler word", text
+    marked = next(calls_around(spot), None)
+    if marked in ANNOTATIONS:
+        return "lacking header", marked, AT_HAND[marked]
+    if text in AT_HAND:
+        return lacking(spot, 0)
     if text in HEADERS_OF_TYPES:
         return "header type", text, HEADERS_OF_TYPES[text]
     if text in HEADERS_OF_OTHERS:
@@ -419,7 +451,7 @@ def not_constant(spot):
         ahead = 1
         while spot.kind(ahead) not in (None, ":", ";", "name"):
             ahead += 1
-        return ("constant name", spot.text(ahead)) if spot.kind(ahead) == "name" else None
+        return ("constant name", spot.text(ahead)) if spot.kind(ahead) == "name" else far_shift(spot, 0, ahead)
     ahead = 0 if spot.kind() == "name" else spot.specs(0)[1]
     is_local = spot.in_block() or spot.kind() != "name"
     behind = ahead + 1
@@ -430,8 +462,37 @@ def not_constant(spot):
             behind = (spot.closing(behind) or behind) + 1 if spot.kind(behind) in ("{", "(") else behind + 1
     names = [it for it in range(ahead + 1, behind) if spot.kind(it) == "name"]
     if not names:
-        return None
+        return far_shift(spot, ahead, behind)
+    if spot.text(names[0]) in AT_HAND and not spot.stands_before(names[0]):
+        return lacking(spot, names[0])
     return ("variable array",) if is_local else ("constant name", spot.text(names[0]))
+
+
+def far_shift(spot, first, behind):
+    """A shift of a number between two distances, whose value is no int."""
+    for ahead in range(first, behind):
+        if spot.kinds(ahead, "number", "<<", "number"):
+            (value, *suffixes), (count, *_) = spot.token(ahead).said, spot.token(ahead + 2).said
+            if not suffixes[0] and count < 32 and value < 1 << 31 <= value << count:
+                number = spot.source[spot.token(ahead).at:spot.token(ahead + 1).at].decode().strip()
+                return Elsewhere.of(spot, ahead, "far shift", number, str(count))
+    return None
+
+
+def second_declaration(spot):
+    """Rule 3 at an object of file level that was declared with the same words."""
+    words, seen, depth = [], [], 0
+    for place, it in enumerate(spot.tokens[:spot.index + 1]):
+        depth += (it.kind in OPENING) - (it.kind in CLOSING)
+        if not depth and it.kind in (";", "}"):
+            words = []
+        elif not depth and it.kind in SPECS:
+            words.append(it.kind)
+        elif not depth and it.kind == "name" and it.said == spot.text() and spot.kind(place - spot.index + 1) != "(":
+            if place == spot.index:
+                return ("second declaration", spot.text()) if words in seen else None
+            seen.append(list(words))
+    return None
 
 
 def array_value(spot):
@@ -444,7 +505,7 @@ def function_value(spot):
     return ("function pointer",) if spot.kind() == "name" and spot.kind(1) != "(" else None
 
 
-RULES = {1: words_of_type, 2: undeclared, 4: not_constant, 6: array_value, 7: function_value}
+RULES = {1: words_of_type, 2: undeclared, 3: second_declaration, 4: not_constant, 6: array_value, 7: function_value}
 
 
 # What no token begins with

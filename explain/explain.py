@@ -160,7 +160,7 @@ def explained(table, line, words):
     headline, *more = said
     if call.at is None:
         return [f"wcc: {headline}", *facts, *more]
-    place = call.lines.place(call.at)
+    place = call.lines.place(getattr(construct, "at", call.at))
     return [f"{place}: {headline}", *place.shown(), *included(table, place), *facts, *more]
 
 

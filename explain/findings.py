@@ -24,6 +24,8 @@ SECONDS = 1.0
 # The facts on the numbers by which a run is undefined, by its rules.
 NUMBERS = {1: "range", 4: "count", 6: "index"}
 BOUND, MARKER = "loopbound", "marker"
+STANDARD_INPUT = ("/dev/stdin", "/dev/fd/0", "/proc/self/fd/0")
+NO_PLACES = "a pipe or a terminal can't be read at a place, so put its bytes into a file first"
 PRAGMA = re.compile(rb'(?:#[ \t]*pragma|_Pragma[ \t]*\([ \t]*")[ \t]*([^ \t"\n\r]+)[ \t]*([^ \t"\n\r]*)')
 BOUNDS = re.compile(rb"[ \t]*loopbound[ \t]+min[ \t]+(\w+)[ \t]+max[ \t]+(\w+)[ \t]*")
 
@@ -353,7 +355,7 @@ def first_restriction(files, _):
 # Faults of files
 
 def unread(files, _):
-    """The first file that can't be read now."""
+    """The first file that can't be read now, or else the first one that is no file with places to read at."""
     for name in files.reads:
         try:
             if stat.S_ISREG(os.stat(name).st_mode) or os.path.isdir(name):
@@ -361,6 +363,11 @@ def unread(files, _):
                     file.read(1)
         except OSError as error:
             yield "file", name, error.strerror
+            return
+    for name in files.reads:
+        # The standard input isn't that of the call any more.
+        if name in STANDARD_INPUT or stat.S_ISFIFO(os.stat(name).st_mode):
+            yield "file", name, NO_PLACES
             return
 
 

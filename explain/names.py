@@ -1,4 +1,9 @@
 """Names that sources use and the language lacks: those of C's headers, and the words of compilers."""
+import re
+from pathlib import Path
+
+INCLUDE = Path(__file__).resolve().parent.parent / "include"
+DEFINED = re.compile(r"^(?:#define|static inline \w+) (\w+)(.*)", re.M)
 
 TYPES = {
     "stdint.h": [f"{sign}int{kind}{bits}_t" for sign in ("", "u") for kind in ("", "_least", "_fast") for bits in (8, 16, 32, 64)]
@@ -31,6 +36,20 @@ OTHERS = {
     "errno.h": ["errno"],
     "setjmp.h": "setjmp longjmp".split(),
 }
+
+
+def at_hand():
+    """The names that the headers of include/ have, each with its header. Those that they refuse are none of them."""
+    found = {}
+    for header in sorted(INCLUDE.glob("*.h")):
+        for name, value in DEFINED.findall(header.read_text(encoding="utf-8")):
+            if "GCC error" not in value:
+                found.setdefault(name, header.name)
+    return found
+
+
+AT_HAND = at_hand()
+ANNOTATIONS = {"LOOPBOUND", "MARKER", "RESTRICTION"}
 HEADERS_OF_TYPES = {name: header for header, names in TYPES.items() for name in names}
 HEADERS_OF_OTHERS = {name: header for header, names in OTHERS.items() for name in names}
 

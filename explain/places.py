@@ -1,8 +1,13 @@
 """Where a byte of a source stands, as people name it: the file, line and column that line markers say."""
+import os
 import re
+import stat
 from bisect import bisect_right
 
 WIDEST = 100
+LONGEST = 1048576
+# Parts of a line that was cut are looked for so many bytes and lines away.
+LOOKED_AT, PARTS = 4000, 40
 
 # Pieces of a source in which no other one begins: a line marker begins a line, but for blanks and comments. What isn't
 # closed goes on as far as it can, so that no byte is looked at again and again.
@@ -46,11 +51,48 @@ class File:
         return self.name
 
 
+# The tokens of a line, but for comments, as far as it takes to tell them from each other.
+TOKEN = re.compile(r"""/\*.*?(?:\*/|$)|//.*|\w+|"(?:[^"\\]|\\.)*"?|'(?:[^'\\]|\\.)*'?|\S""")
+
+
+def tokens_in(line):
+    """The places and texts of the tokens of a line."""
+    return [(it.start(), it[0]) for it in TOKEN.finditer(line) if not it[0].startswith(("/*", "//"))]
+
+
+def lines_of(name):
+    """The lines of a file as it stands there, or none where it is no plain file of a source's size."""
+    try:
+        kept = os.stat(name)
+        if not stat.S_ISREG(kept.st_mode) or kept.st_size > LONGEST:
+            return []
+        with open(name, "rb") as file:
+            return [printable(it.rstrip("\r")) for it in file.read(LONGEST).decode(errors="replace").split("\n")]
+    except (OSError, ValueError):
+        return []
+
+
+def place_before(own, line, at, is_first, is_last):
+    """The place in a line before preprocessing of what stands at a place of it behind, of which this may be a first or last part;
+    or None where that isn't sure."""
+    before, behind = tokens_in(own), tokens_in(line)
+    index = next((number for number, it in enumerate(behind) if it[0] == at), None)
+    if index is None:
+        return None
+    words, others = [it[1] for it in before], [it[1] for it in behind]
+    if is_first and words[:index + 1] == others[:index + 1]:
+        return before[index][0]
+    rest = len(others) - index
+    return before[-rest][0] if is_last and words[-rest:] == others[index:] else None
+
+
 class Lines:
     """The lines of a source. They are read once, as far as places are asked for."""
 
     def __init__(self, path, source):
-        self.source = source
+        self.source, self.path = source, printable(path)
+        # The lines of the files that line markers name, as far as they were asked for.
+        self.files = {}
         self.lines = [Line(0, 1, File(printable(path)))]
         self.read = 0
         # Whether nothing but blanks and comments stands before what is read on its line.
@@ -106,6 +148,24 @@ class Lines:
     def place(self, at):
         return Place(self, at)
 
+    def is_end_of_parts(self, line):
+        """Whether a line is the first and the last one of its number, as a preprocessor puts pragmas on lines of their own."""
+        self.read_up_to(min(len(self.source), line.start + LOOKED_AT))
+        index = self.lines.index(line)
+        near = self.lines[max(0, index - PARTS):index + PARTS]
+        parts = [it for it in near if str(it) == str(line) and self.source[it.start:it.start + LOOKED_AT].partition(b"\n")[0].strip()]
+        return parts[:1] == [line], parts[-1:] == [line]
+
+    def own_line(self, line):
+        """A line as it stands in the file that line markers name, or None where it can't be had."""
+        name = line.file.name
+        if name == self.path:
+            return None
+        if name not in self.files:
+            self.files[name] = lines_of(name)
+        lines = self.files[name]
+        return lines[line.number - 1] if 0 < line.number <= len(lines) else None
+
 
 class Place:
     """A byte place in a source, as people name it."""
@@ -121,9 +181,21 @@ class Place:
         before = printable(text[:at - line.start].decode(errors="replace"))
         self.file, self.number, self.column = line.file, line.number, len(before) + 1
         self.line = before + printable(text[at - line.start:].decode(errors="replace"))
+        # Whether the column is that of the file, and not only that of the preprocessed line.
+        self.is_there = True
+        own = lines.own_line(line)
+        if own is not None and own != self.line:
+            self.go_to(own, *lines.is_end_of_parts(line))
+
+    def go_to(self, own, is_first, is_last):
+        """Makes this the place in a line as it was before preprocessing, where that can be found."""
+        at = place_before(own, self.line, self.column - 1, is_first, is_last)
+        self.is_there = at is not None
+        if self.is_there:
+            self.line, self.column = own, at + 1
 
     def __str__(self):
-        return f"{self.file}:{self.number}:{self.column}"
+        return f"{self.file}:{self.number}:{self.column}" if self.is_there else f"{self.file}:{self.number}"
 
     def includers(self):
         """The lines that include the file of the place, from the nearest one on: those of files, not of a command."""

@@ -66,16 +66,16 @@
 #define UINT32_C(value) value##U
 
 /* What can't be had is an error where it's used, in words of its own: a compiler's own column isn't that of the word. */
-#define int64_t _Pragma("GCC error \"int64_t has 64 bits: <wide.h> and docs/PORTING.md say what to write\"") int64_t
-#define uint64_t _Pragma("GCC error \"uint64_t has 64 bits: <wide.h> and docs/PORTING.md say what to write\"") uint64_t
-#define int_least64_t _Pragma("GCC error \"int_least64_t has 64 bits: <wide.h> and docs/PORTING.md say what to write\"") int_least64_t
-#define uint_least64_t _Pragma("GCC error \"uint_least64_t has 64 bits: <wide.h> and docs/PORTING.md say what to write\"") uint_least64_t
-#define int_fast64_t _Pragma("GCC error \"int_fast64_t has 64 bits: <wide.h> and docs/PORTING.md say what to write\"") int_fast64_t
-#define uint_fast64_t _Pragma("GCC error \"uint_fast64_t has 64 bits: <wide.h> and docs/PORTING.md say what to write\"") uint_fast64_t
-#define intmax_t _Pragma("GCC error \"intmax_t has 64 bits: <wide.h> and docs/PORTING.md say what to write\"") intmax_t
-#define uintmax_t _Pragma("GCC error \"uintmax_t has 64 bits: <wide.h> and docs/PORTING.md say what to write\"") uintmax_t
-#define INT64_C(value) _Pragma("GCC error \"INT64_C has 64 bits: <wide.h> and docs/PORTING.md say what to write\"") value
-#define UINT64_C(value) _Pragma("GCC error \"UINT64_C has 64 bits: <wide.h> and docs/PORTING.md say what to write\"") value
+#define int64_t _Pragma("GCC error \"int64_t has 64 bits: see 'Sums of 64 bits' and the parts beside it in docs/PORTING.md, and <wide.h>\"") int64_t
+#define uint64_t _Pragma("GCC error \"uint64_t has 64 bits: see 'Sums of 64 bits' and the parts beside it in docs/PORTING.md, and <wide.h>\"") uint64_t
+#define int_least64_t _Pragma("GCC error \"int_least64_t has 64 bits: see 'Sums of 64 bits' and the parts beside it in docs/PORTING.md, and <wide.h>\"") int_least64_t
+#define uint_least64_t _Pragma("GCC error \"uint_least64_t has 64 bits: see 'Sums of 64 bits' and the parts beside it in docs/PORTING.md, and <wide.h>\"") uint_least64_t
+#define int_fast64_t _Pragma("GCC error \"int_fast64_t has 64 bits: see 'Sums of 64 bits' and the parts beside it in docs/PORTING.md, and <wide.h>\"") int_fast64_t
+#define uint_fast64_t _Pragma("GCC error \"uint_fast64_t has 64 bits: see 'Sums of 64 bits' and the parts beside it in docs/PORTING.md, and <wide.h>\"") uint_fast64_t
+#define intmax_t _Pragma("GCC error \"intmax_t has 64 bits: see 'Sums of 64 bits' and the parts beside it in docs/PORTING.md, and <wide.h>\"") intmax_t
+#define uintmax_t _Pragma("GCC error \"uintmax_t has 64 bits: see 'Sums of 64 bits' and the parts beside it in docs/PORTING.md, and <wide.h>\"") uintmax_t
+#define INT64_C(value) _Pragma("GCC error \"INT64_C has 64 bits: see 'Sums of 64 bits' and the parts beside it in docs/PORTING.md, and <wide.h>\"") value
+#define UINT64_C(value) _Pragma("GCC error \"UINT64_C has 64 bits: see 'Sums of 64 bits' and the parts beside it in docs/PORTING.md, and <wide.h>\"") value
 #define intptr_t _Pragma("GCC error \"intptr_t holds a pointer, and there are none: docs/PORTING.md says what to write\"") intptr_t
 #define uintptr_t _Pragma("GCC error \"uintptr_t holds a pointer, and there are none: docs/PORTING.md says what to write\"") uintptr_t
 

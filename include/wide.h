@@ -6,10 +6,19 @@
  *     ((int64_t)a * b) >> 32             mul_high(a, b)
  *     (int32_t)(((int64_t)a * b) >> n)   mul_shift(a, b, n), with n from 1 to 31
  *     ((uint64_t)high << 32 | low) / b   udiv_wide(high, low, b), with high below b
- *     ((int64_t)a << n) / b              div_shift(a, b, n), with n from 1 to 31 and a quotient of less than 2^31
+ *     ((int64_t)a << n) / b              div_shift(a, b, n), with n from 1 to 31 and a quotient from -2^31 to 2^31 - 1
+ *
+ * Where a quotient doesn't fit, or a divisor is 0, the run is undefined: `eval` shows it as the division by zero of a
+ * WIDE_HOLDS. With NDEBUG, as by `prepare -D NDEBUG`, nothing is tested, which takes fewer cycles, and the value is some int.
  */
 #ifndef WIDE_H
 #define WIDE_H
+
+#ifdef NDEBUG
+#define WIDE_HOLDS(holds) ((void)0)
+#else
+#define WIDE_HOLDS(holds) ((void)(1 / (holds)))
+#endif
 
 #define WIDE_LOW(x) ((unsigned)(x) & 0xFFFFu)
 #define WIDE_TOP(x) ((unsigned)(x) >> 16)
@@ -51,6 +60,7 @@ static inline unsigned udiv_wide(unsigned high, unsigned low, unsigned b)
 {
     int bit;
 
+    WIDE_HOLDS(high < b);
     _Pragma("loopbound min 32 max 32")
     for (bit = 0; bit < 32; bit++) {
         unsigned carry = high >> 31;
@@ -71,7 +81,8 @@ static inline int div_shift(int a, int b, int n)
     unsigned by = b < 0 ? 0u - (unsigned)b : (unsigned)b;
     unsigned found = udiv_wide(size >> (32 - n), size << n, by);
 
-    return (a < 0) != (b < 0) ? -(int)found : (int)found;
+    WIDE_HOLDS(found <= 0x7FFFFFFFu + ((a < 0) != (b < 0)));
+    return (int)((a < 0) != (b < 0) ? 0u - found : found);
 }
 
 #endif

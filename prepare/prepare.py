@@ -10,13 +10,14 @@ import shutil
 import stat
 import subprocess
 import sys
+import tempfile
 from pathlib import Path
 from subprocess import DEVNULL, PIPE
 
 INCLUDE = Path(__file__).resolve().parent.parent / "include"
 PREPROCESSORS = (("gcc", "-E"), ("clang", "-E"), ("cpp",))
-# C11 as the standard says it, on a machine of which nothing is known.
-FLAGS = ("-x", "c", "-std=c11", "-ffreestanding", "-nostdinc", "-undef", "-D__WCC__=1")
+# C11 as the standard says it, on a machine of which nothing is known but that char has no sign.
+FLAGS = ("-x", "c", "-std=c11", "-ffreestanding", "-nostdinc", "-undef", "-funsigned-char", "-D__WCC__=1")
 REFUSED, WRONG_WORDS, READ_FAULT, WRITE_FAULT, NOTHING_AT_HAND = 1, 2, 4, 5, 70
 DESCRIPTION = "Makes a source for compile and eval of a C file, by the preprocessor at hand and the headers of include/."
 ABOUT = "docs/PORTING.md says what the language leaves out and what to write instead, and what the headers have."
@@ -29,18 +30,45 @@ BOUND = re.compile(rb"\s*min\s+(\S.*?)\s+max\s+(\S.*?)\s*")
 TERM = re.compile(rb"\s*((?:(?<!\w)\d\w*(?!\w)|[^\w])+?)\s*\*\s*([A-Za-z_]\w*)\s*(<=|>=|=|\+|$)")
 PLAIN = re.compile(rb"0|[1-9][0-9]*")
 NAME = re.compile(rb"(?<![\w.])[A-Za-z_]\w*")
+# What a preprocessor says of a header that isn't there: the place, and the header.
+MISSING = re.compile(rb"^(\S.*?): fatal error: '?([^':\n]+)'?(?:: No such file or directory| file not found)$", re.M)
 CHARACTER = re.compile(rb"'(?:[^'\\]|\\.)*'")
+TYPES = frozenset(b"void char short int long signed unsigned float double const struct union enum _Bool".split())
+# A declaration of a name, on its line.
+DECLARED = rb"\b(?:char|short|int|long|signed|unsigned|const)\s+(?:\w+\s*(?:=[^,;]*)?,\s*)*%s\s*[=;,)[]"
 BITS = 31
 RANGE = b"an annotation takes numbers from 0 to 2147483647"
 
 # What stands in many programs and isn't in the language, by the part of docs/PORTING.md that says what to write instead.
 OUTSIDE = {
     "Names of types": ("typedef",), "enum": ("enum",), "struct": ("struct",), "union and bit-fields": ("union",),
-    "float and double": ("float", "double"), "Strings": ('"',), "sizeof": ("sizeof",), "goto": ("goto",), "_Bool": ("_Bool",),
+    "float and double": ("float", "double"), "sizeof": ("sizeof",), "goto": ("goto",), "_Bool": ("_Bool",),
     "volatile": ("volatile",), "Functions of any number of arguments": ("...",), "Assembler": ("asm", "__asm", "__asm__"),
     "Words for the compiler": ("register", "restrict", "_Noreturn", "_Alignas", "__attribute__", "__inline", "__inline__"),
 }
-PIECE = re.compile(rb"""(?P<quoted>"(?:[^"\\]|\\.)*")|'(?:[^'\\]|\\.)*'|\.\.\.(?=\s*\))|[A-Za-z_]\w*""")
+PART_OF_WORD = {word: part for part, words in OUTSIDE.items() for word in words}
+# The same of what isn't a word alone, with what it is called.
+FORMS = {
+    "string": ("Strings", "a string"), "function": ("Pointers to functions", "a pointer to a function"),
+    "pointer": ("Pointers", "a pointer"), "address": ("Pointers", "an address"), "matrix": ("Arrays of two dimensions", "an index behind another one"),
+    "designator": ("Named places in lists", "a named place in a list"), "floating": ("float and double", "a floating number"),
+    "wide": ("long long", "`long long`"),
+}
+PIECE = re.compile(rb"""
+    (?P<string>"(?:[^"\\]|\\.)*") | '(?:[^'\\]|\\.)*' | \.\.\.(?=\s*\))
+    | (?P<function>\(\s*\*\s*(?:const\s*)?\w*\s*(?:\[[^][]*\]\s*)?\)\s*\()
+    | (?P<pointer>\b(?:void|char|short|int|long|signed|unsigned|const)\s*\*(?!=) | ->)
+    | (?P<address>(?:[=(,]|\breturn)\s*&(?!&))
+    | (?P<designator>[{,]\s*(?:\[[^][]*\]|\.\s*[A-Za-z_]\w*)\s*=(?!=))
+    | (?P<matrix>\]\s*\[)
+    | (?P<wide>\blong\s+long\b)
+    | (?P<floating>(?<![\w.])(?:(?:[0-9]+\.(?!\.)[0-9]*|\.[0-9]+)(?:[eE][+-]?[0-9]+)?|[0-9]+[eE][+-]?[0-9]+)[fFlL]?)
+    | (?P<static>\bstatic\b) | (?P<called>\b[A-Za-z_]\w*(?=\s*\()) | [A-Za-z_]\w* | [{}]""", re.X)
+# The functions of C's library that programs call, but for those of the headers of include/.
+LIBRARY = frozenset(b"""memset memcpy memmove memcmp memchr strlen strcpy strncpy strcat strncat strcmp strncmp strchr strrchr strstr
+    strtok malloc calloc realloc free exit abort atoi atol strtol strtoul rand srand qsort bsearch abs labs isalnum isalpha isdigit
+    islower isprint ispunct isspace isupper isxdigit tolower toupper sin cos tan asin acos atan atan2 exp log log10 pow sqrt fabs
+    floor ceil fmod round time clock""".split())
 
 
 class Failed(Exception):
@@ -67,11 +95,28 @@ class Preprocessor:
         self.asked = [*(f"-I{it}" for it in (*folders, INCLUDE)), *(f"-D{it}" for it in macros)]
 
     def run(self, path):
-        """What it makes of a file, as far as it comes, and whether it says that this is all."""
+        """What it makes of a file, as far as it comes, and whether it says that this is all. A header that isn't there is told,
+        and is empty from then on, so that all else is told too."""
         # A name that begins so would be an option.
         named = f"./{path}" if path.startswith("-") else path
-        ran = subprocess.run([*self.words, *self.asked, named], stdin=DEVNULL, stdout=PIPE)
-        return ran.stdout, ran.returncode == 0
+        with tempfile.TemporaryDirectory() as absent:
+            lacks = False
+            while True:
+                ran = subprocess.run([*self.words, *self.asked, "-idirafter", absent, named], stdin=DEVNULL, stdout=PIPE, stderr=PIPE,
+                                     env={**os.environ, "LC_ALL": "C"})
+                missing = MISSING.search(ran.stderr)
+                header = missing and Path(absent, os.fsdecode(missing[2]))
+                if not header or ".." in header.parts or header.exists() or not header.is_relative_to(absent):
+                    break
+                lacks = True
+                header.parent.mkdir(parents=True, exist_ok=True)
+                header.touch()
+                print(f"{os.fsdecode(missing[1])}: error: no header {os.fsdecode(missing[2])} is there: see "
+                      "\"The C library\" in docs/PORTING.md, or give its folder by -I", file=sys.stderr)
+            sys.stderr.flush()
+            sys.stderr.buffer.write(ran.stderr)
+            sys.stderr.flush()
+            return ran.stdout, ran.returncode == 0 and not lacks
 
     def values(self, asked):
         """The values of constant expressions, each given with its file and line: the bits that #if sees."""
@@ -107,6 +152,15 @@ def name_in_marker(quoted):
 
 def shown(file, number):
     return f"{os.fsdecode(name_in_marker(file))}:{number}"
+
+
+def is_pragma_at(file, number):
+    """Whether an annotation stands in #pragma in a file, as far as that can be read."""
+    try:
+        line = Path(os.fsdecode(name_in_marker(file))).read_bytes().split(b"\n")[number - 1]
+    except (OSError, IndexError):
+        return False
+    return re.match(rb"\s*#\s*pragma\b", line) is not None
 
 
 def placed(lines):
@@ -157,10 +211,21 @@ class Annotations:
         if PLAIN.fullmatch(text):
             return text
         if name := NAME.search(CHARACTER.sub(b"0", text)):
-            raise Failed(REFUSED, f"{shown(*place)}: `{name[0].decode()}` is no number. In #pragma no macro is replaced: "
-                                  "write LOOPBOUND or RESTRICTION of <wcc.h>, which docs/PORTING.md explains")
+            raise Failed(REFUSED, f"{shown(*place)}: `{name[0].decode()}` is no number. {self.why_none(name[0], place)}")
         self.asked.append((text, place))
         return len(self.asked) - 1
+
+    def why_none(self, name, place):
+        """Why a name in an annotation has no value."""
+        if name in TYPES:
+            return "Nothing is cast in an annotation: leave the cast out, or write the number"
+        if name == b"sizeof":
+            return "Nothing knows sizes where an annotation is computed: write the macro that sizes the array"
+        if is_pragma_at(*place):
+            return "In #pragma no macro is replaced: write LOOPBOUND or RESTRICTION of <wcc.h>, which docs/PORTING.md explains"
+        if any(re.search(DECLARED % re.escape(name), it) for it in self.lines):
+            return "It is an object, of which no preprocessor knows the value, const or not: make it a macro by #define"
+        return "It is no macro here: perhaps a -D, a #define or the #include of its header is missing, or stands further down"
 
     def filled(self, values):
         """The text, with these values for what is asked."""
@@ -205,15 +270,32 @@ def write(path, data):
         raise
 
 
-def tell_outside(text):
-    """Says on standard error what isn't in the language, by the part of the page that is about it, and where it stands first."""
-    parts = {word: part for part, words in OUTSIDE.items() for word in words}
-    found = {}
+def outside(text):
+    """What isn't in the language: its place, the part of the page that is about it, and what it is called."""
+    depth, own = 0, set()
     for _, line, place in placed(text.split(b"\n")):
         for it in PIECE.finditer(line) if not line.lstrip().startswith(b"#") else ():
-            word = '"' if it["quoted"] else it[0].decode()
-            if word in parts:
-                found.setdefault(parts[word], []).append((place, "a string" if it["quoted"] else f"`{word}`"))
+            kind, word = it.lastgroup, it[0].decode()
+            depth += (word == "{") - (word == "}")
+            if kind in FORMS:
+                yield place, *FORMS[kind]
+            elif kind == "static" and depth:
+                yield place, "Objects that stay", "a `static` object in a function"
+            elif kind == "called" and it[0] in LIBRARY:
+                # At file level it is declared, and so one's own.
+                own |= set() if depth else {word}
+                if word not in own:
+                    yield place, "The C library", f"`{word}`"
+            elif word in PART_OF_WORD:
+                yield place, PART_OF_WORD[word], f"`{word}`"
+            depth += word.startswith("{") and len(word) > 1
+
+
+def tell_outside(text):
+    """Says on standard error what isn't in the language, by the part of the page that is about it, and where it stands first."""
+    found = {}
+    for place, part, what in outside(text):
+        found.setdefault(part, []).append((place, what))
     for part, stands in found.items():
         (place, what), places = stands[0], f" ({len(stands)} places)" if len(stands) > 1 else ""
         print(f"{shown(*place)}: {what} is outside the language{places}: see \"{part}\" in docs/PORTING.md", file=sys.stderr)
