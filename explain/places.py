@@ -143,7 +143,10 @@ class Lines:
 
     def line_at(self, at):
         self.read_up_to(at)
-        return self.lines[bisect_right(self.lines, at, key=lambda it: it.start) - 1]
+        return self.lines[self.index_at(at)]
+
+    def index_at(self, at):
+        return bisect_right(self.lines, at, key=lambda it: it.start) - 1
 
     def place(self, at):
         return Place(self, at)
@@ -151,7 +154,7 @@ class Lines:
     def is_end_of_parts(self, line):
         """Whether a line is the first and the last one of its number, as a preprocessor puts pragmas on lines of their own."""
         self.read_up_to(min(len(self.source), line.start + LOOKED_AT))
-        index = self.lines.index(line)
+        index = self.index_at(line.start)
         near = self.lines[max(0, index - PARTS):index + PARTS]
         parts = [it for it in near if str(it) == str(line) and self.source[it.start:it.start + LOOKED_AT].partition(b"\n")[0].strip()]
         return parts[:1] == [line], parts[-1:] == [line]
