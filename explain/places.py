@@ -53,6 +53,9 @@ class File:
 
 # The tokens of a line, but for comments, as far as it takes to tell them from each other.
 TOKEN = re.compile(r"""/\*.*?(?:\*/|$)|//.*|\w+|"(?:[^"\\]|\\.)*"?|'(?:[^'\\]|\\.)*'?|\S""")
+# A pragma on a line of its own, as a macro of <wcc.h> leaves it, and that macro.
+MACROS = {"loopbound": "LOOPBOUND", "marker": "MARKER", "flowrestriction": "RESTRICTION"}
+OF_MACRO = re.compile(rf"#pragma ({'|'.join(MACROS)})\b")
 
 
 def tokens_in(line):
@@ -76,6 +79,10 @@ def place_before(own, line, at, is_first, is_last):
     """The place in a line before preprocessing of what stands at a place of it behind, of which this may be a first or last part;
     or None where that isn't sure."""
     before, behind = tokens_in(own), tokens_in(line)
+    if pragma := OF_MACRO.match(line):
+        places = [place for place, text in before if text == MACROS[pragma[1]]]
+        if places:
+            return places[0] if len(places) == 1 else None
     index = next((number for number, it in enumerate(behind) if it[0] == at), None)
     if index is None:
         return None
