@@ -24,11 +24,12 @@ from evaluator.rules import MOST  # noqa: E402
 from places import Lines, printable  # noqa: E402
 
 USAGE, READ_FAULT, WRITE_FAULT, INTERRUPTED = 2, 4, 5, 130
-CALLED = "wcc counts SOURCE INPUT .."
+CALLED = "wcc counts SOURCE INPUT .. [--write OUT]"
 HELP = [
     "Runs the source on each input, and says how often its loops started in one entry, how often functions and markers came, how",
     "near the restrictions were, and which pragmas would say so. Loops may lack their bounds. All of it is seen by the second",
-    "evaluator, and nothing of it is proved. counts/README.md shows an example.",
+    "evaluator, and nothing of it is proved. With --write it makes a source OUT, with the bounds that were seen where none stood.",
+    "counts/README.md shows an example.",
 ]
 # A run is left behind so many starts and calls: a loop without a bound need not end.
 MOST_STEPS = 20_000_000
@@ -273,6 +274,30 @@ def nearness(relation, left, right):
 
 # The call
 
+def with_bounds(source, seen):
+    """The source with the bound that was seen of each loop that has none."""
+    bounds = sorted((loop.at, f'_Pragma("loopbound min {least} max {most}") '.encode()) for loop, least, most in seen.bounds()
+                    if loop.limits is None)
+    ends = [0, *(at for at, _ in bounds)]
+    return b"".join(source[start:at] + bound for start, (at, bound) in zip(ends, bounds)) + source[ends[-1]:]
+
+
+def write_new(path, data):
+    """Writes a file that isn't there yet, by no name and no link, whole or not at all. Answers whether it did."""
+    try:
+        file = open(path, "xb")
+        try:
+            with file:
+                file.write(data)
+        except OSError:
+            os.unlink(path)
+            raise
+    except OSError as error:
+        tell([f"wcc: `{printable(path)}` isn't written: {error.strerror}."])
+        return False
+    return True
+
+
 class Unwritten(Exception):
     """What is said can't be written."""
 
@@ -288,7 +313,10 @@ def tell(lines):
         raise Unwritten from error
 
 
-def count(path, names):
+def count(path, names, out):
+    if out is not None and os.path.lexists(out):
+        tell([f"wcc: `{printable(out)}` is there already, and only a new file is written."])
+        return USAGE
     try:
         source = Path(path).read_bytes()
         inputs = [(it, Path(it).read_bytes()) for it in names]
@@ -303,7 +331,8 @@ def count(path, names):
         line, status = line_of(fault)
         tell([line, *explain.explained(explain.entries(), line, ["eval", path, names[0], ""])])
         return status
-    return shown(Report(path, source), seen, inputs)
+    status = shown(Report(path, source), seen, inputs)
+    return status if out is None or write_new(out, with_bounds(source, seen)) else WRITE_FAULT
 
 
 def shown(report, seen, inputs):
@@ -319,9 +348,9 @@ def shown(report, seen, inputs):
     return status
 
 
-def counted(path, names):
+def counted(path, names, out):
     try:
-        return count(path, names)
+        return count(path, names, out)
     except Unwritten:
         return WRITE_FAULT
 
@@ -330,10 +359,13 @@ def main(words):
     if words in (["--help"], ["-h"]):
         tell([CALLED, *HELP])
         return DONE
-    if len(words) < 2 or words[0].startswith("-"):
+    names, out = words, None
+    if words[-2:-1] == ["--write"]:
+        names, out = words[:-2], words[-1]
+    if len(names) < 2 or any(it.startswith("-") for it in names):
         tell([f"It is called so: {CALLED}"])
         return USAGE
-    return with_deep_stack(lambda: counted(words[0], words[1:]))
+    return with_deep_stack(lambda: counted(names[0], names[1:], out))
 
 
 if __name__ == "__main__":

@@ -53,6 +53,9 @@ class File:
 
 # The tokens of a line, but for comments, as far as it takes to tell them from each other.
 TOKEN = re.compile(r"""/\*.*?(?:\*/|$)|//.*|\w+|"(?:[^"\\]|\\.)*"?|'(?:[^'\\]|\\.)*'?|\S""")
+# A pragma on a line of its own, as a macro of <wcc.h> leaves it, and that macro.
+MACROS = {"loopbound": "LOOPBOUND", "marker": "MARKER", "flowrestriction": "RESTRICTION"}
+OF_MACRO = re.compile(rf"#pragma ({'|'.join(MACROS)})\b")
 
 
 def tokens_in(line):
@@ -76,6 +79,10 @@ def place_before(own, line, at, is_first, is_last):
     """The place in a line before preprocessing of what stands at a place of it behind, of which this may be a first or last part;
     or None where that isn't sure."""
     before, behind = tokens_in(own), tokens_in(line)
+    if pragma := OF_MACRO.match(line):
+        places = [place for place, text in before if text == MACROS[pragma[1]]]
+        if places:
+            return places[0] if len(places) == 1 else None
     index = next((number for number, it in enumerate(behind) if it[0] == at), None)
     if index is None:
         return None
@@ -143,7 +150,10 @@ class Lines:
 
     def line_at(self, at):
         self.read_up_to(at)
-        return self.lines[bisect_right(self.lines, at, key=lambda it: it.start) - 1]
+        return self.lines[self.index_at(at)]
+
+    def index_at(self, at):
+        return bisect_right(self.lines, at, key=lambda it: it.start) - 1
 
     def place(self, at):
         return Place(self, at)
@@ -151,7 +161,7 @@ class Lines:
     def is_end_of_parts(self, line):
         """Whether a line is the first and the last one of its number, as a preprocessor puts pragmas on lines of their own."""
         self.read_up_to(min(len(self.source), line.start + LOOKED_AT))
-        index = self.lines.index(line)
+        index = self.index_at(line.start)
         near = self.lines[max(0, index - PARTS):index + PARTS]
         parts = [it for it in near if str(it) == str(line) and self.source[it.start:it.start + LOOKED_AT].partition(b"\n")[0].strip()]
         return parts[:1] == [line], parts[-1:] == [line]

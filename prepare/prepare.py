@@ -64,6 +64,8 @@ PIECE = re.compile(rb"""
     | (?P<wide>\blong\s+long\b)
     | (?P<floating>(?<![\w.])(?:(?:[0-9]+\.(?!\.)[0-9]*|\.[0-9]+)(?:[eE][+-]?[0-9]+)?|[0-9]+[eE][+-]?[0-9]+)[fFlL]?)
     | (?P<static>\bstatic\b) | (?P<called>\b[A-Za-z_]\w*(?=\s*\()) | [A-Za-z_]\w* | [{}]""", re.X)
+# The macros of <wcc.h>, of which none is left where it is included.
+ANNOTATED = (b"LOOPBOUND", b"MARKER", b"RESTRICTION")
 # The functions of C's library that programs call, but for those of the headers of include/.
 LIBRARY = frozenset(b"""memset memcpy memmove memcmp memchr strlen strcpy strncpy strcat strncat strcmp strncmp strchr strrchr strstr
     strtok malloc calloc realloc free exit abort atoi atol strtol strtoul rand srand qsort bsearch abs labs isalnum isalpha isdigit
@@ -286,6 +288,8 @@ def outside(text):
                 own |= set() if depth else {word}
                 if word not in own:
                     yield place, "The C library", f"`{word}`"
+            elif kind == "called" and it[0] in ANNOTATED:
+                yield place, "Annotating", f"`{word}` without `#include <wcc.h>`"
             elif word in PART_OF_WORD:
                 yield place, PART_OF_WORD[word], f"`{word}`"
             depth += word.startswith("{") and len(word) > 1
