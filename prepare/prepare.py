@@ -50,7 +50,8 @@ PART_OF_WORD = {word: part for part, words in OUTSIDE.items() for word in words}
 # The same of what isn't a word alone, with what it is called.
 FORMS = {
     "string": ("Strings", "a string"), "function": ("Pointers to functions", "a pointer to a function"),
-    "pointer": ("Pointers", "a pointer"), "address": ("Pointers", "an address"), "matrix": ("Arrays of two dimensions", "an index behind another one"),
+    "pointer": ("Pointers", "a pointer"), "address": ("Pointers", "an address"),
+    "matrix": ("Arrays of two dimensions", "an index behind another one"),
     "designator": ("Named places in lists", "a named place in a list"), "floating": ("float and double", "a floating number"),
     "wide": ("long long", "`long long`"),
 }
