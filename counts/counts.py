@@ -202,7 +202,7 @@ class Report:
         yield f"{place}: {headline}"
         yield from place.shown()
         steps = list(zip(["main", *(it.name for it in calls)], calls))
-        facts = findings.chain(self.files, steps) + list(findings.how_ended(event))
+        facts = findings.chain(self.files, steps) + list(findings.how_ended(event)) + list(findings.tested(self.files, event))
         yield from (explain.fact_of(self.table, it) for it in facts)
 
     def functions(self, seen):

@@ -50,7 +50,8 @@ PART_OF_WORD = {word: part for part, words in OUTSIDE.items() for word in words}
 # The same of what isn't a word alone, with what it is called.
 FORMS = {
     "string": ("Strings", "a string"), "function": ("Pointers to functions", "a pointer to a function"),
-    "pointer": ("Pointers", "a pointer"), "address": ("Pointers", "an address"), "matrix": ("Arrays of two dimensions", "an index behind another one"),
+    "pointer": ("Pointers", "a pointer"), "address": ("Pointers", "an address"),
+    "matrix": ("Arrays of two dimensions", "an index behind another one"),
     "designator": ("Named places in lists", "a named place in a list"), "floating": ("float and double", "a floating number"),
     "wide": ("long long", "`long long`"),
 }
@@ -97,28 +98,28 @@ class Preprocessor:
         self.asked = [*(f"-I{it}" for it in (*folders, INCLUDE)), *(f"-D{it}" for it in macros)]
 
     def run(self, path):
-        """What it makes of a file, as far as it comes, and whether it says that this is all. A header that isn't there is told,
-        and is empty from then on, so that all else is told too."""
+        """What it makes of a file, as far as it comes, and whether it says that this is all."""
         # A name that begins so would be an option.
         named = f"./{path}" if path.startswith("-") else path
+        ran = self.preprocessed(named)
+        is_whole = ran.returncode == 0
+        if MISSING.search(ran.stderr):
+            ran = self.without_headers(named, ran)
+        sys.stderr.buffer.write(ran.stderr)
+        sys.stderr.flush()
+        return ran.stdout, is_whole
+
+    def preprocessed(self, *words):
+        return subprocess.run([*self.words, *self.asked, *words], stdin=DEVNULL, stdout=PIPE, stderr=PIPE, env={**os.environ, "LC_ALL": "C"})
+
+    def without_headers(self, named, ran):
+        """Tells each header that isn't there, and goes on as if it were empty, so that all else is told too."""
         with tempfile.TemporaryDirectory() as absent:
-            lacks = False
-            while True:
-                ran = subprocess.run([*self.words, *self.asked, "-idirafter", absent, named], stdin=DEVNULL, stdout=PIPE, stderr=PIPE,
-                                     env={**os.environ, "LC_ALL": "C"})
-                missing = MISSING.search(ran.stderr)
-                header = missing and Path(absent, os.fsdecode(missing[2]))
-                if not header or ".." in header.parts or header.exists() or not header.is_relative_to(absent):
-                    break
-                lacks = True
-                header.parent.mkdir(parents=True, exist_ok=True)
-                header.touch()
-                print(f"{os.fsdecode(missing[1])}: error: no header {os.fsdecode(missing[2])} is there: see "
-                      "\"The C library\" in docs/PORTING.md, or give its folder by -I", file=sys.stderr)
-            sys.stderr.flush()
-            sys.stderr.buffer.write(ran.stderr)
-            sys.stderr.flush()
-            return ran.stdout, ran.returncode == 0 and not lacks
+            while (missing := MISSING.search(ran.stderr)) and made_empty(absent, os.fsdecode(missing[2])):
+                print(f"{os.fsdecode(missing[1])}: error: no header {os.fsdecode(missing[2])} is there: see \"The C library\" in "
+                      "docs/PORTING.md, or give its folder by -I", file=sys.stderr, flush=True)
+                ran = self.preprocessed("-idirafter", absent, named)
+        return ran
 
     def values(self, asked):
         """The values of constant expressions, each given with its file and line: the bits that #if sees."""
@@ -140,6 +141,19 @@ class Preprocessor:
         if ran.returncode:
             raise Failed(REFUSED, "an annotation isn't one of constants, as said above")
         return ran.stdout
+
+
+def made_empty(folder, header):
+    """Makes an empty header within a folder, and answers whether it wasn't there and is now."""
+    path = Path(folder, header)
+    if ".." in path.parts or not path.is_relative_to(folder):
+        return False
+    try:
+        path.parent.mkdir(parents=True, exist_ok=True)
+        path.touch(exist_ok=False)
+    except OSError:
+        return False
+    return True
 
 
 def headers():
