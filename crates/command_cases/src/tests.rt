@@ -142,7 +142,7 @@ fn a_failing_sink_ends_a_done_call(rt: HostRuntime) -> Result<(), Fail> {
     Ok(())
 }
 
-const TASKS: &str = "task a 100 a.elf a.txt\ntask b 120 a.elf a.txt\n";
+const TASKS: &str = "task a 120 a.elf a.txt\ntask b 120 a.elf a.txt\n";
 
 // Each call of the store fails in turn, until one is left over: those that read the list of tasks,
 // and those that read the image and the report of one task after the other.
