@@ -1,5 +1,5 @@
 -- What the steps of compiling say together, and in which way alone a source can be compiled or refused.
-use Rattle.std.proofs.Common.{◌≡◌, ◌⊎◌, ◌≤◌, ℕ, List, ◌∷◌, length, Option, Some, None, refl, sym, ap, subst, ◌∙◌, inl, inr, ⊎_elim}
+use Rattle.std.proofs.Common.{◌≡◌, ◌⊎◌, ◌≤◌, ℕ, List, ◌∷◌, length, Option, Some, None, refl, sym, ap, subst, ◌∙◌, inl, inr, ⊎_elim, Bool}
 use Rattle.std.specs.Prelude.{◌^◌, IsSomeAnd}
 use Rattle.wcc_base.specs.Outside.{Files, StoreState, bytes_of}
 use Rattle.wcc_base.specs.declared.status.Status.{Status}
@@ -45,106 +45,106 @@ IsFront (status.Refused code detail at) = Unit {0}
 IsFront (status.Limit which found) = Unit {0}
 IsFront s = ⊥
 
-front_status : (source : List ℕ) (f : FrontRefusal) → RefusesSource source f → IsFront (refusal_status f)
-front_status source front.TooLong r = tt
-front_status source (front.Lex (lexing.Bad at)) r = tt
-front_status source (front.Lex (lexing.Outside at)) r = tt
-front_status source (front.Lex lexing.Memory) r = absurd (r.0 refl)
-front_status source (front.Parse (parsing.Syntax token) at) r = tt
-front_status source (front.Parse (parsing.Deep token) at) r = tt
-front_status source (front.Parse parsing.Memory at) r = absurd (r.0 refl)
-front_status source (front.Types (typing.Limit which found)) r = tt
-front_status source (front.Types (typing.Rule rule at)) r = tt
-front_status source (front.Types typing.Memory) r = absurd (r.0 refl)
-front_status source (front.Calls (calling.Recursion function) at) r = tt
-front_status source (front.Calls calling.Memory at) r = absurd (r.0 refl)
-front_status source (front.Flow (flows.BadPragma at)) r = tt
-front_status source (front.Flow (flows.UnknownName at)) r = tt
-front_status source (front.Flow (flows.NoBound at)) r = tt
-front_status source (front.Flow (flows.TooOften most)) r = tt
-front_status source (front.Flow flows.Memory) r = absurd (r.0 refl)
-front_status source front.Memory r = absurd r
+front_status : (derive : Bool) (source : List ℕ) (f : FrontRefusal) → RefusesSource derive source f → IsFront (refusal_status f)
+front_status derive source front.TooLong r = tt
+front_status derive source (front.Lex (lexing.Bad at)) r = tt
+front_status derive source (front.Lex (lexing.Outside at)) r = tt
+front_status derive source (front.Lex lexing.Memory) r = absurd (r.0 refl)
+front_status derive source (front.Parse (parsing.Syntax token) at) r = tt
+front_status derive source (front.Parse (parsing.Deep token) at) r = tt
+front_status derive source (front.Parse parsing.Memory at) r = absurd (r.0 refl)
+front_status derive source (front.Types (typing.Limit which found)) r = tt
+front_status derive source (front.Types (typing.Rule rule at)) r = tt
+front_status derive source (front.Types typing.Memory) r = absurd (r.0 refl)
+front_status derive source (front.Calls (calling.Recursion function) at) r = tt
+front_status derive source (front.Calls calling.Memory at) r = absurd (r.0 refl)
+front_status derive source (front.Flow (flows.BadPragma at)) r = tt
+front_status derive source (front.Flow (flows.UnknownName at)) r = tt
+front_status derive source (front.Flow (flows.NoBound at)) r = tt
+front_status derive source (front.Flow (flows.TooOften most)) r = tt
+front_status derive source (front.Flow flows.Memory) r = absurd (r.0 refl)
+front_status derive source front.Memory r = absurd r
 
-front_refuses : (source : List ℕ) (s : Status) → IsFront s → RefusesProgram source s → IsRefusal s × RefusesCompile source s
-front_refuses source (status.Refused code detail at) i r = (tt, r)
-front_refuses source (status.Limit which found) i r = (tt, r)
-front_refuses source s i r = absurd i
+front_refuses : (derive : Bool) (source : List ℕ) (s : Status) → IsFront s → RefusesProgram derive source s → IsRefusal s × RefusesCompile derive source s
+front_refuses derive source (status.Refused code detail at) i r = (tt, r)
+front_refuses derive source (status.Limit which found) i r = (tt, r)
+front_refuses derive source s i r = absurd i
 
 -- why a source isn't compiled, as a status
-pub refuses_compile : (source : List ℕ) (refusal : Refusal) (s : Status) → s ≡ compile_status refusal → Fails source refusal → (s ≡ status.Memory) ⊎ (IsRefusal s × RefusesCompile source s)
-refuses_compile source (Front f) s e r =
-    let program : RefusesProgram source (refusal_status f) = record { refusal = f; refused = r; status_is = refl } in
-    inr (subst (λ (k : Status). IsRefusal k × RefusesCompile source k) (sym e) (front_refuses source (refusal_status f) (front_status source f r) program))
-refuses_compile source Form s e r = inr (subst (λ (k : Status). IsRefusal k × RefusesCompile source k) (sym e) (tt, r))
-refuses_compile source Memory s e r = inl e
+pub refuses_compile : (derive : Bool) (source : List ℕ) (refusal : Refusal) (s : Status) → s ≡ compile_status refusal → Fails derive source refusal → (s ≡ status.Memory) ⊎ (IsRefusal s × RefusesCompile derive source s)
+refuses_compile derive source (Front f) s e r =
+    let program : RefusesProgram derive source (refusal_status f) = record { refusal = f; refused = r; status_is = refl } in
+    inr (subst (λ (k : Status). IsRefusal k × RefusesCompile derive source k) (sym e) (front_refuses derive source (refusal_status f) (front_status derive source f r) program))
+refuses_compile derive source Form s e r = inr (subst (λ (k : Status). IsRefusal k × RefusesCompile derive source k) (sym e) (tt, r))
+refuses_compile derive source Memory s e r = inl e
 
 -- what is built, as bytes
-pub compiles : (costs : Table) (source : List ℕ) (image : Image) (report : Report) (t : Texts) → t.image ≡ text_of image → t.report ≡ report_text report → t.line ≡ cycles_line report.cert.cycles report.kind
-    → IsCompiled costs source (text_of image) (report_text report) report → (IsRestricted source → ⊥) → report.cert.cycles ≤ 2 ^ 62 → Compiles costs source t
-compiles costs source image report t i r l c u b = record {
+pub compiles : (derive : Bool) (costs : Table) (source : List ℕ) (image : Image) (report : Report) (t : Texts) → t.image ≡ text_of image → t.report ≡ report_text report → t.line ≡ cycles_line report.cert.cycles report.kind
+    → IsCompiled derive costs source (text_of image) (report_text report) report → (IsRestricted derive source → ⊥) → report.cert.cycles ≤ 2 ^ 62 → Compiles derive costs source t
+compiles derive costs source image report t i r l c u b = record {
   report = report;
-  compiled = subst (λ (k : List ℕ). IsCompiled costs source t.image k report) (sym r) (subst (λ (k : List ℕ). IsCompiled costs source k (report_text report) report) (sym i) c);
+  compiled = subst (λ (k : List ℕ). IsCompiled derive costs source t.image k report) (sym r) (subst (λ (k : List ℕ). IsCompiled derive costs source k (report_text report) report) (sym i) c);
   unrestricted = u;
   small = b;
   line_is = l;
 }
 
 -- what is written is found to hold
-pub compiled_holds : (costs : Table) (source : List ℕ) (t : Texts) → Compiles costs source t → IsAccepted costs t.image t.report
-compiled_holds costs source t c = record { report = c.report; system = c.compiled.system; holds = c.compiled.holds }
+pub compiled_holds : (derive : Bool) (costs : Table) (source : List ℕ) (t : Texts) → Compiles derive costs source t → IsAccepted costs t.image t.report
+compiled_holds derive costs source t c = record { report = c.report; system = c.compiled.system; holds = c.compiled.holds }
 
 -- a refusal is that of a restriction, or that of a source without a program
 
-by_cause : (source : List ℕ) (s : Status) → RefusesCompile source s → ((s ≡ status.Form) × IsRestricted source) ⊎ RefusesProgram source s
-by_cause source status.Form r = inl (refl, r)
-by_cause source s r = inr r
+by_cause : (derive : Bool) (source : List ℕ) (s : Status) → RefusesCompile derive source s → ((s ≡ status.Form) × IsRestricted derive source) ⊎ RefusesProgram derive source s
+by_cause derive source status.Form r = inl (refl, r)
+by_cause derive source s r = inr r
 
-both_kinds : (source : List ℕ) → IsRestricted source → IsUnrestricted source → ⊥
-both_kinds source r u =
-    let same = laws.one_source source r.names u.names r.program u.program r.facts u.facts r.is_source u.is_source in
+both_kinds : (derive : Bool) (source : List ℕ) → IsRestricted derive source → IsUnrestricted derive source → ⊥
+both_kinds derive source r u =
+    let same = laws.one_source derive source r.names u.names r.program u.program r.facts u.facts r.is_source u.is_source in
     r.restricted (ap (λ (f : Facts). f.restrictions) same.2 ∙ u.unrestricted)
 
-restricted_passes : (source : List ℕ) (s : Status) → length source ≤ 1048576 → IsRestricted source → RefusesProgram source s → ⊥
-restricted_passes source s short r p = laws.not_both source r.names r.program r.facts p.refusal short r.is_source p.refused
+restricted_passes : (derive : Bool) (source : List ℕ) (s : Status) → length source ≤ 1048576 → IsRestricted derive source → RefusesProgram derive source s → ⊥
+restricted_passes derive source s short r p = laws.not_both derive source r.names r.program r.facts p.refusal short r.is_source p.refused
 
-pub unrestricted_passes : (source : List ℕ) (s : Status) → length source ≤ 1048576 → IsUnrestricted source → RefusesCompile source s → ⊥
-unrestricted_passes source s short u r =
-    ⊎_elim (λ x. both_kinds source x.1 u) (λ p. laws.not_both source u.names u.program u.facts p.refusal short u.is_source p.refused) (by_cause source s r)
+pub unrestricted_passes : (derive : Bool) (source : List ℕ) (s : Status) → length source ≤ 1048576 → IsUnrestricted derive source → RefusesCompile derive source s → ⊥
+unrestricted_passes derive source s short u r =
+    ⊎_elim (λ x. both_kinds derive source x.1 u) (λ p. laws.not_both derive source u.names u.program u.facts p.refusal short u.is_source p.refused) (by_cause derive source s r)
 
-compiled_passes : (costs : Table) (source : List ℕ) (t : Texts) (s : Status) → length source ≤ 1048576 → Compiles costs source t → RefusesProgram source s → ⊥
-compiled_passes costs source t s short c p = laws.not_both source c.compiled.names c.compiled.program c.compiled.facts p.refusal short c.compiled.is_source p.refused
+compiled_passes : (derive : Bool) (costs : Table) (source : List ℕ) (t : Texts) (s : Status) → length source ≤ 1048576 → Compiles derive costs source t → RefusesProgram derive source s → ⊥
+compiled_passes derive costs source t s short c p = laws.not_both derive source c.compiled.names c.compiled.program c.compiled.facts p.refusal short c.compiled.is_source p.refused
 
 status_of : (made other : Outputs) → made ≡ other → made.status ≡ other.status
 status_of made other e = ap (λ (o : Outputs). o.status) e
 
 -- each kind of source leaves one way to end
 
-unrestricted_only : (asked : CompileRequest) (source : List ℕ) (tables : List (List ℕ)) → length source ≤ 1048576 → IsOfSource IsUnrestricted (source ∷ tables) → CanOnly (Compile asked) (source ∷ tables) status.Done
+unrestricted_only : (asked : CompileRequest) (source : List ℕ) (tables : List (List ℕ)) → length source ≤ 1048576 → IsOfSource (IsUnrestricted asked.derive) (source ∷ tables) → CanOnly (Compile asked) (source ∷ tables) status.Done
 unrestricted_only asked source tables short c = record {
-  refuses = λ t r. absurd (⊎_elim (λ x. no_table_fault tables c.0 t c.1 x) (λ x. unrestricted_passes source t short c.2 x.2) r);
+  refuses = λ t r. absurd (⊎_elim (λ x. no_table_fault tables c.0 t c.1 x) (λ x. unrestricted_passes asked.derive source t short c.2 x.2) r);
   makes = λ made m. status_of made _ m.2.made_is;
 }
 
-restricted_only : (asked : CompileRequest) (source : List ℕ) (tables : List (List ℕ)) → length source ≤ 1048576 → IsOfSource IsRestricted (source ∷ tables) → CanOnly (Compile asked) (source ∷ tables) status.Form
+restricted_only : (asked : CompileRequest) (source : List ℕ) (tables : List (List ℕ)) → length source ≤ 1048576 → IsOfSource (IsRestricted asked.derive) (source ∷ tables) → CanOnly (Compile asked) (source ∷ tables) status.Form
 restricted_only asked source tables short c = record {
-  refuses = λ t r. ⊎_elim (λ x. absurd (no_table_fault tables c.0 t c.1 x)) (λ x. ⊎_elim (λ y. y.0) (λ y. absurd (restricted_passes source t short c.2 y)) (by_cause source t x.2)) r;
+  refuses = λ t r. ⊎_elim (λ x. absurd (no_table_fault tables c.0 t c.1 x)) (λ x. ⊎_elim (λ y. y.0) (λ y. absurd (restricted_passes asked.derive source t short c.2 y)) (by_cause asked.derive source t x.2)) r;
   makes = λ made m. absurd (m.2.compiles.unrestricted c.2);
 }
 
-refused_only : (asked : CompileRequest) (source : List ℕ) (tables : List (List ℕ)) (s : Status) → length source ≤ 1048576 → IsOfSource (λ k. RefusesProgram k s) (source ∷ tables) → CanOnly (Compile asked) (source ∷ tables) s
+refused_only : (asked : CompileRequest) (source : List ℕ) (tables : List (List ℕ)) (s : Status) → length source ≤ 1048576 → IsOfSource (λ k. RefusesProgram asked.derive k s) (source ∷ tables) → CanOnly (Compile asked) (source ∷ tables) s
 refused_only asked source tables s short c = record {
-  refuses = λ t r. ⊎_elim (λ x. absurd (no_table_fault tables c.0 t c.1 x)) (λ x. ⊎_elim (λ y. absurd (restricted_passes source s short y.1 c.2)) (λ y. one_status source t s short y c.2) (by_cause source t x.2)) r;
-  makes = λ made m. absurd (compiled_passes m.0 source m.2.texts s short m.2.compiles c.2);
+  refuses = λ t r. ⊎_elim (λ x. absurd (no_table_fault tables c.0 t c.1 x)) (λ x. ⊎_elim (λ y. absurd (restricted_passes asked.derive source s short y.1 c.2)) (λ y. one_status asked.derive source t s short y c.2) (by_cause asked.derive source t x.2)) r;
+  makes = λ made m. absurd (compiled_passes asked.derive m.0 source m.2.texts s short m.2.compiles c.2);
 }
 
-pub unrestricted_ends : (asked : CompileRequest) (files : Option Files) (old : StoreState) → old.files ≡ files → IsSomeAnd files (λ fs. Fit (wanted_of (Compile asked)) fs × IsOfSource IsUnrestricted (contents_of (wanted_of (Compile asked)) fs)) → CanEnd (Some (Named (Compile asked))) old status.Done
+pub unrestricted_ends : (asked : CompileRequest) (files : Option Files) (old : StoreState) → old.files ≡ files → IsSomeAnd files (λ fs. Fit (wanted_of (Compile asked)) fs × IsOfSource (IsUnrestricted asked.derive) (contents_of (wanted_of (Compile asked)) fs)) → CanEnd (Some (Named (Compile asked))) old status.Done
 unrestricted_ends asked None old e c = absurd c
 unrestricted_ends asked (Some fs) old e c = rw e (c.0, unrestricted_only asked (bytes_of fs asked.source) (contents_of (wanted_table asked.table) fs) c.0.0 c.1)
 
-pub restricted_ends : (asked : CompileRequest) (files : Option Files) (old : StoreState) → old.files ≡ files → IsSomeAnd files (λ fs. Fit (wanted_of (Compile asked)) fs × IsOfSource IsRestricted (contents_of (wanted_of (Compile asked)) fs)) → CanEnd (Some (Named (Compile asked))) old status.Form
+pub restricted_ends : (asked : CompileRequest) (files : Option Files) (old : StoreState) → old.files ≡ files → IsSomeAnd files (λ fs. Fit (wanted_of (Compile asked)) fs × IsOfSource (IsRestricted asked.derive) (contents_of (wanted_of (Compile asked)) fs)) → CanEnd (Some (Named (Compile asked))) old status.Form
 restricted_ends asked None old e c = absurd c
 restricted_ends asked (Some fs) old e c = rw e (c.0, restricted_only asked (bytes_of fs asked.source) (contents_of (wanted_table asked.table) fs) c.0.0 c.1)
 
-pub refused_ends : (asked : CompileRequest) (s : Status) (files : Option Files) (old : StoreState) → old.files ≡ files → IsSomeAnd files (λ fs. Fit (wanted_of (Compile asked)) fs × IsOfSource (λ k. RefusesProgram k s) (contents_of (wanted_of (Compile asked)) fs)) → CanEnd (Some (Named (Compile asked))) old s
+pub refused_ends : (asked : CompileRequest) (s : Status) (files : Option Files) (old : StoreState) → old.files ≡ files → IsSomeAnd files (λ fs. Fit (wanted_of (Compile asked)) fs × IsOfSource (λ k. RefusesProgram asked.derive k s) (contents_of (wanted_of (Compile asked)) fs)) → CanEnd (Some (Named (Compile asked))) old s
 refused_ends asked s None old e c = absurd c
 refused_ends asked s (Some fs) old e c = rw e (c.0, refused_only asked (bytes_of fs asked.source) (contents_of (wanted_table asked.table) fs) s c.0.0 c.1)

@@ -1,5 +1,5 @@
 -- What is made of a number; and that a number whose source is kept on the empty input can only be made.
-use Rattle.std.proofs.Common.{◌≡◌, ◌≤◌, ℕ, List, [], Option, Some, None, Result, Ok, Err, refl, sym, ap, subst, ◌∙◌, arith}
+use Rattle.std.proofs.Common.{◌≡◌, ◌≤◌, ℕ, false, List, [], Option, Some, None, Result, Ok, Err, refl, sym, ap, subst, ◌∙◌, arith}
 use Rattle.std.proofs.lemmas.List.Elements.{All-nil}
 use Rattle.std.specs.Prelude.{◌<◌, ◌^◌, IfOk, IsSome}
 use Rattle.wcc_base.specs.Outside.{Files, StoreState}
@@ -13,7 +13,7 @@ use Rattle.rv_sim.specs.Simulation.{Simulation}
 use Rattle.rv_sim.specs.declared.ending.Ending.{Ending}
 use Rattle.rv_sim.specs.declared.ending.Ending.TheVariants.{Exit, Trap, CycleLimit, OutputFull}
 use Rattle.facts_definitions.specs.declared.facts.Facts.{Facts}
-use Rattle.facts_front.specs.Fronts.{IsSource}
+use Rattle.facts_front.specs.Fronts.{IsSourceBy}
 use Rattle.meaning_semantics.specs.Runs.{meaning}
 use Rattle.meaning_semantics.specs.declared.source_run.SourceRun.{SourceRun}
 use Rattle.types_tree.specs.Tree.{Program}
@@ -34,7 +34,7 @@ use Rattle.command_perform.specs.Promises.{CanOnly, CanEnd}
 use Rattle.command_perform.proofs.CompileRuns.{unrestricted_passes}
 
 -- what is compiled loads as an image
-pub loads : (source : List ℕ) (t : Texts) → Compiles default_table source t → IsLoadable t.image
+pub loads : (source : List ℕ) (t : Texts) → Compiles false default_table source t → IsLoadable t.image
 loads source t c = c.compiled.holds.found.read.loadable
 
 ends_well : (asked : MakeRequest) (t : Texts) (last : Simulation) (ending : Ending) → IsEnd (numbered_outputs asked t last ending).status
@@ -47,20 +47,20 @@ status_of : (made other : Outputs) → made ≡ other → made.status ≡ other.
 status_of made other e = ap (λ (o : Outputs). o.status) e
 
 -- what was compiled and run is what is made
-pub makes : (asked : MakeRequest) (t : Texts) (last : Simulation) (ending : Ending) (r : Result Made Memory) → Compiles default_table (numbered_text asked.number) t → Simulates (numbered_job t.image) last ending
+pub makes : (asked : MakeRequest) (t : Texts) (last : Simulation) (ending : Ending) (r : Result Made Memory) → Compiles false default_table (numbered_text asked.number) t → Simulates (numbered_job t.image) last ending
     → IfOk r (λ m. outputs_of m ≡ numbered_outputs asked t last ending) → IfOk r (λ m. IsEnd m.status × MakesNumbered asked (outputs_of m))
 makes asked t last ending (Ok m) c s e =
     (subst IsEnd (sym (status_of (outputs_of m) _ e)) (ends_well asked t last ending), record { texts = t; compiles = c; last = last; ending = ending; simulates = s; made_is = e })
 makes asked t last ending (Err memory) c s e = tt
 
-same_meaning : (source : List ℕ) (names others : List (List ℕ)) (program other : Program) (facts more : Facts) (run : SourceRun) → IsSource source names program facts → IsSource source others other more
+same_meaning : (source : List ℕ) (names others : List (List ℕ)) (program other : Program) (facts more : Facts) (run : SourceRun) → IsSourceBy false source names program facts → IsSourceBy false source others other more
     → meaning other others more [] ≡ run → meaning program names facts [] ≡ run
 same_meaning source names others program other facts more run h k d =
-    let same = laws.one_source source names others program other facts more h k in
+    let same = laws.one_source false source names others program other facts more h k in
     ap (λ p. meaning p names facts []) same.1 ∙ ap (λ ns. meaning other ns facts []) same.0 ∙ ap (λ fs. meaning other others fs []) same.2 ∙ d
 
 -- the image of a source that is kept on the empty input exits
-kept_exits : (source : List ℕ) (t : Texts) → Compiles default_table source t → IsKept source [] → (f : Finish) × ExitsWithin (run_of (numbered_job t.image)) (run_limits (numbered_job t.image)) f
+kept_exits : (source : List ℕ) (t : Texts) → Compiles false default_table source t → IsKept source [] → (f : Finish) × ExitsWithin (run_of (numbered_job t.image)) (run_limits (numbered_job t.image)) f
 kept_exits source t c k =
     let i = c.compiled in
     let r = i.runs [] (All-nil (λ (b : ℕ). b < 256)) k.output k.value k.counts (same_meaning source i.names k.plain.names i.program k.plain.program i.facts k.plain.facts _ i.is_source k.plain.is_source k.done) in
@@ -80,7 +80,7 @@ made_done asked made k m =
 
 numbered_only : (asked : MakeRequest) → asked.number ≤ 100 → IsKept (numbered_text asked.number) [] → CanOnly (Make asked) [] status.Done
 numbered_only asked few k = record {
-  refuses = λ t r. absurd (unrestricted_passes (numbered_text asked.number) t (omega (arith, short asked.number few)) k.plain r);
+  refuses = λ t r. absurd (unrestricted_passes false (numbered_text asked.number) t (omega (arith, short asked.number few)) k.plain r);
   makes = λ made m. made_done asked made k m;
 }
 

@@ -1,5 +1,5 @@
 -- The commands: which files each reads, what it refuses them for, and what it makes of them.
-use Rattle.std.specs.Prelude.{ℕ, List, [], ◌∷◌}
+use Rattle.std.specs.Prelude.{ℕ, false, List, [], ◌∷◌}
 use Rattle.wcc_base.specs.declared.limits.Bound.TheVariants as bound
 use Rattle.wcc_base.specs.declared.status.Status.{Status}
 use Rattle.rv_core.specs.Table.{Table}
@@ -48,12 +48,12 @@ CanExitRun asked contents = ⊥
 
 -- these contents are refused with this status
 abbrev pub Refuses : Command → List (List ℕ) → Status → Type 0
-Refuses (Compile asked) (source ∷ tables) s = RefusesWith tables (λ costs. RefusesCompile source s) s
+Refuses (Compile asked) (source ∷ tables) s = RefusesWith tables (λ costs. RefusesCompile asked.derive source s) s
 Refuses (Check asked) (image ∷ report ∷ tables) s = RefusesWith tables (λ costs. RefusesCheck costs image report s) s
 Refuses (Run asked) (image ∷ input ∷ tables) s = RefusesWith tables (λ costs. RefusesImage image s) s
-Refuses (Eval asked) (source ∷ input ∷ []) s = RefusesProgram source s
+Refuses (Eval asked) (source ∷ input ∷ []) s = RefusesProgram asked.derive source s
 Refuses (Report asked) (report ∷ []) s = RefusesReport report s
-Refuses (Make asked) [] s = RefusesCompile (numbered_text asked.number) s
+Refuses (Make asked) [] s = RefusesCompile false (numbered_text asked.number) s
 Refuses command contents s = ⊥
 
 -- of these contents this is made

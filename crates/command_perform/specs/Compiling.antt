@@ -1,11 +1,11 @@
 -- What `compile` makes of a source: an image that does what the source does, and a report whose cycles bound its runs.
-use Rattle.std.specs.Prelude.{◌≡◌, ◌≤◌, ◌^◌, ℕ, List, [], ◌∷◌}
+use Rattle.std.specs.Prelude.{◌≡◌, ◌≤◌, ◌^◌, ℕ, Bool, List, [], ◌∷◌}
 use Rattle.wcc_base.specs.declared.status.Status.{Status}
 use Rattle.wcc_base.specs.declared.status.Status.TheVariants as status
 use Rattle.rv_core.specs.Table.{Table}
 use Rattle.facts_definitions.specs.declared.facts.Facts.{Facts}
 use Rattle.types_tree.specs.Tree.{Program}
-use Rattle.facts_front.specs.Fronts.{IsSource}
+use Rattle.facts_front.specs.Fronts.{IsSourceBy}
 use Rattle.report_text.specs.Reports.{Report}
 use Rattle.promise_compiler.specs.declared.refusal.Refusal.{Refusal}
 use Rattle.promise_compiler.specs.declared.refusal.Refusal.TheVariants.{Front, Form, Memory}
@@ -18,9 +18,9 @@ use Rattle.command_perform.specs.Outputs.{Outputs}
 use Rattle.command_perform.specs.Sources.{refusal_status, RefusesProgram}
 
 -- a source that has a restriction is of a form that isn't compiled yet; any other refusal is that of a source that has no program with facts
-abbrev pub RefusesCompile : List ℕ → Status → Type 0
-RefusesCompile source status.Form = IsRestricted source
-RefusesCompile source s = RefusesProgram source s
+abbrev pub RefusesCompile : (derive : Bool) → List ℕ → Status → Type 0
+RefusesCompile derive source status.Form = IsRestricted derive source
+RefusesCompile derive source s = RefusesProgram derive source s
 
 abbrev pub compile_status : Refusal → Status
 compile_status (Front refusal) = refusal_status refusal
@@ -28,10 +28,10 @@ compile_status Form = status.Form
 compile_status Memory = status.Memory
 
 -- with these costs, the image and the report keep what is promised of the source, and the line says the bound and its kind
-pub record Compiles (costs : Table) (source : List ℕ) (t : Texts) : Type 0 where
+pub record Compiles (derive : Bool) (costs : Table) (source : List ℕ) (t : Texts) : Type 0 where
   pub report : Report
-  pub compiled : IsCompiled costs source t.image t.report report
-  pub unrestricted : ¬ IsRestricted source
+  pub compiled : IsCompiled derive costs source t.image t.report report
+  pub unrestricted : ¬ IsRestricted derive source
   -- no run that keeps within the bound ends at a limit of cycles
   pub small : report.cert.cycles ≤ 2 ^ 62
   pub line_is : t.line ≡ cycles_line report.cert.cycles report.kind
@@ -46,13 +46,13 @@ compiled_outputs asked t = record {
 
 pub record MakesImage (asked : CompileRequest) (costs : Table) (source : List ℕ) (made : Outputs) : Type 0 where
   pub texts : Texts
-  pub compiles : Compiles costs source texts
+  pub compiles : Compiles asked.derive costs source texts
   pub made_is : made ≡ compiled_outputs asked texts
 
 -- the source has a program with facts, and no restriction among them
-pub record IsUnrestricted (source : List ℕ) : Type 0 where
+pub record IsUnrestricted (derive : Bool) (source : List ℕ) : Type 0 where
   pub names : List (List ℕ)
   pub program : Program
   pub facts : Facts
-  pub is_source : IsSource source names program facts
+  pub is_source : IsSourceBy derive source names program facts
   pub unrestricted : facts.restrictions ≡ []

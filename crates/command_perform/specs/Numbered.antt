@@ -1,5 +1,5 @@
 -- What `make` makes of a number: its source, what that is compiled to with the default costs, and what the image does on the empty input.
-use Rattle.std.specs.Prelude.{◌≡◌, ◌≤◌, ◌^◌, ℕ, ℤ, List, [], ◌∷◌, ◌++◌, length}
+use Rattle.std.specs.Prelude.{◌≡◌, ◌≤◌, ◌^◌, ℕ, false, ℤ, List, [], ◌∷◌, ◌++◌, length}
 use Rattle.wcc_base.specs.declared.status.Status.TheVariants as status
 use Rattle.rv_core.specs.Table.{default_table}
 use Rattle.rv_sim.specs.Simulation.{Simulation}
@@ -34,7 +34,7 @@ numbered_outputs asked t last ending = record { status = run_status ending last.
 
 pub record MakesNumbered (asked : MakeRequest) (made : Outputs) : Type 0 where
   pub texts : Texts
-  pub compiles : Compiles default_table (numbered_text asked.number) texts
+  pub compiles : Compiles false default_table (numbered_text asked.number) texts
   pub last : Simulation
   pub ending : Ending
   pub simulates : Simulates (numbered_job texts.image) last ending
@@ -42,7 +42,7 @@ pub record MakesNumbered (asked : MakeRequest) (made : Outputs) : Type 0 where
 
 -- a source without restrictions whose run on this input is defined, keeps its annotations, and puts at most 16,777,216 bytes
 pub record IsKept (source input : List ℕ) : Type 0 where
-  pub plain : IsUnrestricted source
+  pub plain : IsUnrestricted false source
   pub output : List ℕ
   pub value : ℤ
   pub counts : List ℕ

@@ -29,7 +29,7 @@ use Rattle.command_perform.specs.Checking.{RefusesCheck}
 
 -- the list is read first, and behind it the table of costs, where one is named
 abbrev pub wanted_list : RespondRequest → Wants
-wanted_list asked = (asked.tasks, bound.Table) ∷ wanted_table asked.table
+wanted_list asked = (asked.tasks, bound.Tasks) ∷ wanted_table asked.table
 
 -- then the image and the report of one task after the other
 abbrev pub wanted_task : Entry → Wants

@@ -1,5 +1,5 @@
 -- Why a source has no program with facts, as a status: what `compile` and `eval` refuse it with.
-use Rattle.std.specs.Prelude.{◌≡◌, ℕ, List}
+use Rattle.std.specs.Prelude.{◌≡◌, ℕ, Bool, List}
 use Rattle.wcc_base.specs.declared.limits.Bound.TheVariants as bound
 use Rattle.wcc_base.specs.declared.status.Status.{Status}
 use Rattle.wcc_base.specs.declared.status.Status.TheVariants as status
@@ -73,8 +73,8 @@ refusal_status (Calls fault at) = call_status fault at
 refusal_status (Flow fault) = flow_status fault
 refusal_status Memory = status.Memory
 
--- the source has no program with facts, for this first cause
-pub record RefusesProgram (source : List ℕ) (s : Status) : Type 0 where
+-- the source has no program with facts, where bounds are derived or aren't, for this first cause
+pub record RefusesProgram (derive : Bool) (source : List ℕ) (s : Status) : Type 0 where
   pub refusal : Refusal
-  pub refused : RefusesSource source refusal
+  pub refused : RefusesSource derive source refusal
   pub status_is : s ≡ refusal_status refusal

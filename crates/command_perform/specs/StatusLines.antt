@@ -2,7 +2,7 @@
 use Rattle.std.specs.Prelude.{ℕ, List, [], ◌∷◌, ◌++◌, ◌==◌, codes, if◌then◌else◌}
 use Rattle.std.specs.Fmt.{decimal}
 use Rattle.wcc_base.specs.declared.limits.Bound.{Bound}
-use Rattle.wcc_base.specs.declared.limits.Bound.TheVariants.{Source, Table, Image, Report, Input, Depth, Nodes, Functions, Parameters, Markers, Restrictions, Globals, Locals, Most}
+use Rattle.wcc_base.specs.declared.limits.Bound.TheVariants.{Source, Table, Image, Report, Input, Tasks, Depth, Nodes, Functions, Parameters, Markers, Restrictions, Globals, Locals, Most}
 use Rattle.wcc_base.specs.declared.status.Status.{Status}
 use Rattle.wcc_base.specs.declared.status.Status.TheVariants as status
 use Rattle.command_perform.specs.Lines.{row, address_text}
@@ -14,6 +14,7 @@ bound_text Table = codes "table"
 bound_text Image = codes "image"
 bound_text Report = codes "report"
 bound_text Input = codes "input"
+bound_text Tasks = codes "tasks"
 bound_text Depth = codes "depth"
 bound_text Nodes = codes "nodes"
 bound_text Functions = codes "functions"

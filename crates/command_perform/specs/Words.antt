@@ -20,14 +20,14 @@ pub data Asked : Type 0 where
 
 -- an option of `compile` is given that isn't built
 abbrev pub has_options : CompileRequest → Bool
-has_options r = is_some r.spm || (is_some r.unroll || (is_some r.inline || r.derive))
+has_options r = is_some r.spm || (is_some r.unroll || is_some r.inline)
 
 -- what a request asks; where an option is given that isn't built, there is nothing
 abbrev pub built : Request → Option Asked
 built (AsksCompile r) = if has_options r then None else Some (Named (Compile r))
 built (AsksCheck r) = Some (Named (Check r))
 built (AsksRun r) = Some (Named (Run r))
-built (AsksEval r) = if r.derive then None else Some (Named (Eval r))
+built (AsksEval r) = Some (Named (Eval r))
 built (AsksReport r) = Some (Named (Report r))
 built (AsksMake r) = Some (Named (Make r))
 built (AsksRespond r) = Some (Respond r)

@@ -1,4 +1,4 @@
-// The command `compile SOURCE IMAGE REPORT [--table FILE]`.
+// The command `compile SOURCE IMAGE REPORT [--table FILE] [--derive]`.
 ghost use Rattle.std.specs.Prelude.{◌≡◌, ◌⊎◌, length, IfOk, MatchResult};
 ghost use Rattle.wcc_base.specs.declared.status.Status.TheVariants as status;
 ghost use Rattle.rv_core.specs.Table.{table_of};
@@ -59,17 +59,17 @@ fn status_of(refusal: Refusal) -> Status
     }
 }
 
-/// Compiles the source with these costs.
+/// Compiles the source with these options.
 pub fn compiled<C: Compiler>(
     compiler: &C,
     alloc: Global,
     source: &[u8],
-    costs: Costs,
+    options: Options,
 ) -> Result<Texts, Status>
-    ensures { MatchResult result (Compiles (table_of costs) source.now)
-        (λ s. (s ≡ status.Memory) ⊎ (IsRefusal s × RefusesCompile source.now s)) }
+    ensures { MatchResult result (Compiles options.derive (table_of options.costs) source.now)
+        (λ s. (s ≡ status.Memory) ⊎ (IsRefusal s × RefusesCompile options.derive source.now s)) }
 {
-    match compiler.compile(alloc, source, &Options { costs }) {
+    match compiler.compile(alloc, source, &options) {
         Ok(built) => {
             let texts = texts_of(alloc, &built);
             drop(built);
@@ -116,9 +116,13 @@ fn compile_with<'a, C: Compiler>(
     costs: Costs,
 ) -> Result<Made<'a>, Status>
     ensures { MatchResult result (λ m. IsEnd m.status × MakesImage (compile_request asked.entry) (table_of costs) source (outputs_of m))
-        (λ s. (s ≡ status.Memory) ⊎ (IsRefusal s × RefusesCompile source s)) }
+        (λ s. (s ≡ status.Memory) ⊎ (IsRefusal s × RefusesCompile (compile_request asked.entry).derive source s)) }
 {
-    match compiled(compiler, alloc, source.as_slice(), costs) {
+    let options = Options {
+        costs,
+        derive: asked.derive,
+    };
+    match compiled(compiler, alloc, source.as_slice(), options) {
         Ok(texts) => match outputs(alloc, asked, texts) {
             Ok(made) => Ok(made),
             Err(_) => Err(Status::Memory),

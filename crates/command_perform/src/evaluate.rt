@@ -1,6 +1,6 @@
-// The command `eval SOURCE INPUT OUTPUT`.
-ghost use Rattle.std.specs.Prelude.{◌≡◌, ◌⊎◌, ℕ, List, [], ◌∷◌, length, IfOk, MatchResult};
-ghost use Rattle.facts_front.specs.Fronts.{IsSource};
+// The command `eval SOURCE INPUT OUTPUT [--derive]`.
+ghost use Rattle.std.specs.Prelude.{◌≡◌, ◌⊎◌, ℕ, Bool, List, [], ◌∷◌, length, IfOk, MatchResult};
+ghost use Rattle.facts_front.specs.Fronts.{IsSourceBy};
 ghost use Rattle.types_tree.specs.View.{program_of};
 ghost use Rattle.command_perform.specs.Lines.{all_shown, value_line, undefined_line};
 ghost use Rattle.wcc_base.specs.declared.status.Status.TheVariants as status;
@@ -97,7 +97,7 @@ fn outputs<'a>(alloc: Global, asked: EvalRequest<'a>, run: SourceRun) -> Result<
 
 // Does on the input what a source says that was read, and lets go of it.
 fn run(alloc: Global, source: Source, input: &[u8]) -> Result<SourceRun, Memory>
-    ensures { IfOk result (λ r. (text : List ℕ) → IsSource text source.typed.program.names.items (program_of source.typed.program) source.facts → IsRun text input.now r) }
+    ensures { IfOk result (λ r. (derive : Bool) (text : List ℕ) → IsSourceBy derive text source.typed.program.names.items (program_of source.typed.program) source.facts → IsRun derive text input.now r) }
 {
     let run = eval(alloc, &source.typed.program, &source.facts, input);
     source.let_go();
@@ -105,11 +105,11 @@ fn run(alloc: Global, source: Source, input: &[u8]) -> Result<SourceRun, Memory>
 }
 
 // Reads a source, and does on the input what it says.
-fn run_source(alloc: Global, source: &[u8], input: &[u8]) -> Result<SourceRun, Status>
-    ensures { MatchResult result (IsRun source.now input.now)
-        (λ s. (s ≡ status.Memory) ⊎ (IsRefusal s × RefusesProgram source.now s)) }
+fn run_source(alloc: Global, source: &[u8], input: &[u8], derive: bool) -> Result<SourceRun, Status>
+    ensures { MatchResult result (IsRun derive source.now input.now)
+        (λ s. (s ≡ status.Memory) ⊎ (IsRefusal s × RefusesProgram derive source.now s)) }
 {
-    match read_source(alloc, source) {
+    match read_source(alloc, source, derive) {
         Ok(source) => match run(alloc, source, input) {
             Ok(run) => Ok(run),
             Err(_) => Err(Status::Memory),
@@ -119,17 +119,17 @@ fn run_source(alloc: Global, source: &[u8], input: &[u8]) -> Result<SourceRun, S
 }
 
 /// Does on the input what the source says.
-#[tactic(auto, using(crate::proofs::Evaluations::run_told))]
+#[tactic(auto, using(crate::proofs::Evaluations::makes_run))]
 pub fn make_evaluated<'a>(
     alloc: Global,
     asked: EvalRequest<'a>,
     contents: (Items<u8>, Items<u8>),
 ) -> Result<Made<'a>, Status>
     ensures { MatchResult result (λ m. IsEnd m.status × MakesRun (eval_request asked.entry) contents.0 contents.1 (outputs_of m))
-        (λ s. (s ≡ status.Memory) ⊎ (IsRefusal s × RefusesProgram contents.0 s)) }
+        (λ s. (s ≡ status.Memory) ⊎ (IsRefusal s × RefusesProgram (eval_request asked.entry).derive contents.0 s)) }
 {
     let (source, input) = contents;
-    match run_source(alloc, source.as_slice(), input.as_slice()) {
+    match run_source(alloc, source.as_slice(), input.as_slice(), asked.derive) {
         Ok(run) => match outputs(alloc, asked, run) {
             Ok(made) => Ok(made),
             Err(_) => Err(Status::Memory),

@@ -1,5 +1,5 @@
 // Where the relations of a command leave one status only.
-ghost use Rattle.std.specs.Prelude.{◌≡◌, ◌≤◌, ℕ, List, [], IsSome, IsSomeAnd, Some};
+ghost use Rattle.std.specs.Prelude.{◌≡◌, ◌≤◌, ℕ, Bool, List, [], IsSome, IsSomeAnd, Some};
 ghost use Rattle.wcc_base.specs.Outside.{Files, StoreState, bytes_of};
 ghost use Rattle.wcc_base.specs.declared.status.Status.TheVariants as status;
 ghost use Rattle.rv_core.specs.Table.{Table};
@@ -28,10 +28,10 @@ ghost use Rattle.command_perform.specs.Promises.{CanEnd};
 /// A source has a program without restrictions, one with a restriction, or none, and `compile` can
 /// only end as it does, with the costs of a table that isn't refused. What it writes holds.
 pub fn compilation_is_done()
-    ensures unrestricted { (asked : CompileRequest) (old : StoreState) → IsSomeAnd old.files (λ fs. Fit (wanted_of (Compile asked)) fs × IsOfSource IsUnrestricted (contents_of (wanted_of (Compile asked)) fs)) → CanEnd (Some (Named (Compile asked))) old status.Done }
-    ensures restricted { (asked : CompileRequest) (old : StoreState) → IsSomeAnd old.files (λ fs. Fit (wanted_of (Compile asked)) fs × IsOfSource IsRestricted (contents_of (wanted_of (Compile asked)) fs)) → CanEnd (Some (Named (Compile asked))) old status.Form }
-    ensures refused { (asked : CompileRequest) (old : StoreState) (s : Status) → IsSomeAnd old.files (λ fs. Fit (wanted_of (Compile asked)) fs × IsOfSource (λ source. RefusesProgram source s) (contents_of (wanted_of (Compile asked)) fs)) → CanEnd (Some (Named (Compile asked))) old s }
-    ensures holds { (costs : Table) (source : List ℕ) (t : Texts) → Compiles costs source t → IsAccepted costs t.image t.report }
+    ensures unrestricted { (asked : CompileRequest) (old : StoreState) → IsSomeAnd old.files (λ fs. Fit (wanted_of (Compile asked)) fs × IsOfSource (IsUnrestricted asked.derive) (contents_of (wanted_of (Compile asked)) fs)) → CanEnd (Some (Named (Compile asked))) old status.Done }
+    ensures restricted { (asked : CompileRequest) (old : StoreState) → IsSomeAnd old.files (λ fs. Fit (wanted_of (Compile asked)) fs × IsOfSource (IsRestricted asked.derive) (contents_of (wanted_of (Compile asked)) fs)) → CanEnd (Some (Named (Compile asked))) old status.Form }
+    ensures refused { (asked : CompileRequest) (old : StoreState) (s : Status) → IsSomeAnd old.files (λ fs. Fit (wanted_of (Compile asked)) fs × IsOfSource (λ source. RefusesProgram asked.derive source s) (contents_of (wanted_of (Compile asked)) fs)) → CanEnd (Some (Named (Compile asked))) old s }
+    ensures holds { (derive : Bool) (costs : Table) (source : List ℕ) (t : Texts) → Compiles derive costs source t → IsAccepted costs t.image t.report }
 {}
 
 /// A report that holds of an image, with the costs of a table that isn't refused, can only be found to hold.
@@ -47,9 +47,9 @@ pub fn exit_is_done()
 /// A source does one thing on an input, or is refused in one way, and `eval` can only end so. What
 /// is written and printed is determined too.
 pub fn evaluation_is_done()
-    ensures run { (asked : EvalRequest) (old : StoreState) (run : SourceRun) → IsSomeAnd old.files (λ fs. Evaluates (bytes_of fs asked.source) (bytes_of fs asked.input) run) → CanEnd (Some (Named (Eval asked))) old (run_outputs asked run).status }
-    ensures refusal { (asked : EvalRequest) (old : StoreState) (s : Status) → IsSomeAnd old.files (λ fs. IsRejected (bytes_of fs asked.source) (bytes_of fs asked.input) s) → CanEnd (Some (Named (Eval asked))) old s }
-    ensures made { (asked : EvalRequest) (source input : List ℕ) (run : SourceRun) (made : Outputs) → IsRun source input run → MakesRun asked source input made → made ≡ run_outputs asked run }
+    ensures run { (asked : EvalRequest) (old : StoreState) (run : SourceRun) → IsSomeAnd old.files (λ fs. Evaluates asked.derive (bytes_of fs asked.source) (bytes_of fs asked.input) run) → CanEnd (Some (Named (Eval asked))) old (run_outputs asked run).status }
+    ensures refusal { (asked : EvalRequest) (old : StoreState) (s : Status) → IsSomeAnd old.files (λ fs. IsRejected asked.derive (bytes_of fs asked.source) (bytes_of fs asked.input) s) → CanEnd (Some (Named (Eval asked))) old s }
+    ensures made { (asked : EvalRequest) (source input : List ℕ) (run : SourceRun) (made : Outputs) → IsRun asked.derive source input run → MakesRun asked source input made → made ≡ run_outputs asked run }
 {}
 
 /// The text of a report can only be summarized.

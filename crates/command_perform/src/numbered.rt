@@ -1,5 +1,5 @@
 // The command `make N SOURCE IMAGE REPORT`.
-ghost use Rattle.std.specs.Prelude.{◌≡◌, ◌⊎◌, ◌++◌, [], ◌∷◌, IfOk, MatchResult};
+ghost use Rattle.std.specs.Prelude.{◌≡◌, ◌⊎◌, ◌++◌, false, [], ◌∷◌, IfOk, MatchResult};
 ghost use Rattle.wcc_base.specs.declared.status.Status.TheVariants as status;
 ghost use Rattle.rv_core.specs.Table.{default_table};
 ghost use Rattle.elf_image.specs.Loading.{IsLoadable};
@@ -20,7 +20,7 @@ use crate::printing::text_of;
 use crate::run::{Ran, run_status, simulate};
 use command_words::MakeRequest;
 use elf_image::ElfFault;
-use promise_compiler::Compiler;
+use promise_compiler::{Compiler, Options};
 use report_check::{Cause, Checked, check_report};
 use rv_core::default_costs;
 use rv_sim::Ending;
@@ -151,7 +151,7 @@ fn tried<'a>(
     texts: Texts,
 ) -> Result<Made<'a>, Memory>
     requires source { source ≡ numbered_text asked.number }
-    requires compiled { Compiles default_table source texts }
+    requires compiled { Compiles false default_table source texts }
     ensures { IfOk result (λ m. IsEnd m.status × MakesNumbered (make_request asked.entry) (outputs_of m)) }
 {
     checked(alloc, &texts)?;
@@ -166,13 +166,17 @@ pub fn make_numbered<'a, C: Compiler>(
     asked: MakeRequest<'a>,
 ) -> Result<Made<'a>, Status>
     ensures { MatchResult result (λ m. IsEnd m.status × MakesNumbered (make_request asked.entry) (outputs_of m))
-        (λ s. (s ≡ status.Memory) ⊎ (IsRefusal s × RefusesCompile (numbered_text asked.entry.number) s)) }
+        (λ s. (s ≡ status.Memory) ⊎ (IsRefusal s × RefusesCompile false (numbered_text asked.entry.number) s)) }
 {
     let source = match command_numbered::write(alloc, asked.number) {
         Ok(source) => Items::new(source),
         Err(_) => return Err(Status::Memory),
     };
-    match compiled(compiler, alloc, source.as_slice(), default_costs()) {
+    let options = Options {
+        costs: default_costs(),
+        derive: false,
+    };
+    match compiled(compiler, alloc, source.as_slice(), options) {
         Ok(texts) => match tried(alloc, asked, source, texts) {
             Ok(made) => Ok(made),
             Err(_) => Err(Status::Memory),

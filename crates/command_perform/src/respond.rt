@@ -280,7 +280,7 @@ pub fn respond<'a, S: Store>(
         (λ s. Fails (Respond (respond_request asked.entry)) (S.state store.old).files s) }
     ensures reads { OnlyRead (S.state store.old) (S.state store.new) result }
 {
-    let list = want(asked.tasks, Bound::Table);
+    let list = want(asked.tasks, Bound::Tasks);
     match read_charged(alloc, store, list, asked.table) {
         Ok(contents) => respond_to(alloc, store, asked.table, contents),
         Err(status) => Err(status),

@@ -18,6 +18,7 @@ fn bound_word(which: Bound) -> &'static str
         Bound::Image => "image",
         Bound::Report => "report",
         Bound::Input => "input",
+        Bound::Tasks => "tasks",
         Bound::Depth => "depth",
         Bound::Nodes => "nodes",
         Bound::Functions => "functions",

@@ -34,7 +34,7 @@ pub enum Asked<'a> {
 fn has_options(r: &CompileRequest) -> bool
     ensures { result ≡ has_options (compile_request r.now) }
 {
-    r.spm.is_some() || r.unroll.is_some() || r.inline.is_some() || r.derive
+    r.spm.is_some() || r.unroll.is_some() || r.inline.is_some()
 }
 
 // What a request asks, where its options are built.
@@ -50,12 +50,7 @@ fn built<'a>(request: Request<'a>) -> Option<Asked<'a>>
         }
         Request::Check(r) => Some(Asked::Named(Command::Check(r))),
         Request::Run(r) => Some(Asked::Named(Command::Run(r))),
-        Request::Eval(r) => {
-            if r.derive {
-                return None;
-            }
-            Some(Asked::Named(Command::Eval(r)))
-        }
+        Request::Eval(r) => Some(Asked::Named(Command::Eval(r))),
         Request::Report(r) => Some(Asked::Named(Command::Report(r))),
         Request::Make(r) => Some(Asked::Named(Command::Make(r))),
         Request::Respond(r) => Some(Asked::Respond(r)),

@@ -12,7 +12,7 @@ use Rattle.facts_definitions.specs.declared.facts.Facts.{Facts}
 use Rattle.facts_front.specs.Fronts.{IsSource}
 use Rattle.types_tree.specs.Tree as c
 use Rattle.plan_checked.proofs.Sources.{checked}
-use Rattle.high_pass.specs.Listing.{LoopEntry, listing_of}
+use Rattle.high_pass.specs.Listing.{LoopEntry}
 use Rattle.low_ir.specs.Code.{Low}
 use Rattle.low_ir.specs.declared.places.LowReg.{LowReg}
 use Rattle.low_ir.specs.Placings.{placed_of}
@@ -27,8 +27,8 @@ use Rattle.compile_claims.specs.Named.{named}
 use Rattle.compile_claims.proofs.Bounds.{bound_same}
 use Rattle.compile_claims.proofs.Systems.{system_same}
 use Rattle.compile_made.specs.declared.made.Made.{Made}
-use Rattle.compile_made.specs.Made.{IsInMemory, IsMade}
-use Rattle.compile_sizes.specs.Limits.{nothing}
+use Rattle.compile_made.specs.Made.{IsInMemory, IsMade, copies_of, high_of}
+use Rattle.compile_kept.specs.Limits.{nothing}
 use Rattle.compile_turns.proofs.Light.{source_light}
 use Rattle.compile_turns.proofs.Whole.{all_kept}
 use Rattle.compile_bounds.proofs.Faults.{only_memory}
@@ -59,16 +59,16 @@ module _ (code : LowReg) (y : lays.Laid) (h : IsInMemory code y) (es : List Loop
       bound_same es (table_of c) claims s shapes y.lists.spans.items own.same_claims (subst (λ ps. CanBound (table_of c) (under claims s) shapes ps) (sym h.laid.lists.spans) can)
 
 module _ (source : List ℕ) (names : List (List ℕ)) (program : c.Program) (facts : Facts) (m : Made) (is : IsSource source names program facts) (made : IsMade names program facts m) where
-  light : IsLight (low_of made.code.low)
+  light : IsLight (low_of m.code.low)
   light =
-      let low = low_of made.code.low in
+      let low = low_of m.code.low in
       let are = (checked source names program facts is).facts_are in
       let carried = made.carried in
       let keeps = made.lowered.keeps_program in
       record {
-        turns = all_kept program names facts made.program (listing_of m.copies) low are carried.carries carried.is_high keeps;
-        light = source_light program names facts made.program low are carried.weight keeps;
+        turns = all_kept program names facts (high_of m) (copies_of m) low are carried.carries carried.is_high keeps;
+        light = source_light program names facts (high_of m) low are carried.weight keeps;
       }
 
-  pub made_bounded : (c : Costs) (s : System) → IsSystemOf m.laid.image (named (listing_of m.copies).loops m.laid.claimed.claims) s → CanBound (table_of c) s m.laid.claimed.shapes.items m.laid.lists.spans.items
-  made_bounded c s h = can_bound made.code m.laid made.in_memory (listing_of m.copies).loops light c s h
+  pub made_bounded : (c : Costs) (s : System) → IsSystemOf m.laid.image (named (copies_of m).loops m.laid.claimed.claims) s → CanBound (table_of c) s m.laid.claimed.shapes.items m.laid.lists.spans.items
+  made_bounded c s h = can_bound m.code m.laid made.in_memory (copies_of m).loops light c s h

@@ -11,7 +11,7 @@ use Rattle.high_ir.specs.Formed.{IsHigh}
 use Rattle.high_ir.specs.Standing.{Bounded, loops_in}
 use Rattle.high_ir.specs.Tree.{Program}
 use Rattle.high_ir.specs.declared.copies.LoopCopies.{LoopCopies}
-use Rattle.high_pass.specs.Listing.{Listing, LoopEntry, listed_loops, listing_of, loop_entry as entry_of}
+use Rattle.high_pass.specs.Listing.{Listing, LoopEntry, listed_loops, loop_entry as entry_of}
 use Rattle.high_pass.proofs.Continuing.{each_loop, loops_below}
 use Rattle.high_pass.proofs.Counting.{all_below}
 use Rattle.high_pass.proofs.Elements.{All-map_back, at_or}
@@ -25,8 +25,8 @@ use Rattle.claims_definition.specs.Laws.{AreLoopClaims, IsClaimOf}
 use Rattle.claims_definition.specs.Listed.{Laid, loops_of}
 use Rattle.claims_image.specs.Images.{laid_of}
 use Rattle.compile_made.specs.declared.made.Made.{Made}
-use Rattle.compile_made.specs.Made.{IsInMemory, IsLowered, IsMade}
-use Rattle.compile_sizes.specs.Limits.{nothing}
+use Rattle.compile_made.specs.Made.{IsInMemory, IsLowered, IsMade, copies_of, high_of}
+use Rattle.compile_kept.specs.Limits.{nothing}
 use Rattle.compile_carried.proofs.Loops.{source_loops_few}
 use Rattle.compile_turns.proofs.Lowering.{EachLoop, lowered_each, placed_each}
 use Rattle.compile_bounds.specs.Laws.{CanBeNamed}
@@ -62,24 +62,23 @@ number_of l = l.id
 
 module _ (source : List ℕ) (names : List (List ℕ)) (program : c.Program) (facts : Facts) (m : Made) (is : IsSource source names program facts) (made : IsMade names program facts m) where
   abbrev p : Program
-  p = made.program
+  p = high_of m
 
   abbrev listing : Listing
-  listing = listing_of m.copies
+  listing = copies_of m
 
   -- copies are listed by the loops of the source
-  old_small : All (λ (e : LoopCopies). e.old < 2 ^ 26) m.copies.loops.items
+  old_small : All (λ (e : LoopCopies). e.old < 2 ^ 26) m.stages.last.copies.loops.items
   old_small =
       let few = All-map (λ x. x < 2 ^ 26) number_of (source_behaviour program names facts).loops (source_loops_few source names program facts is) in
       let olds = All-same (λ x. x < 2 ^ 26) (map (λ (e : LoopEntry). e.old) listing.loops) (map number_of (source_behaviour program names facts).loops) made.carried.carries.loops few in
-      All-map_back (λ (e : LoopEntry). e.old < 2 ^ 26) entry_of m.copies.loops.items (All-map_back (λ x. x < 2 ^ 26) (λ (e : LoopEntry). e.old) listing.loops olds)
+      All-map_back (λ (e : LoopEntry). e.old < 2 ^ 26) entry_of m.stages.last.copies.loops.items (All-map_back (λ x. x < 2 ^ 26) (λ (e : LoopEntry). e.old) listing.loops olds)
 
   pub can_be_named : CanBeNamed m
   can_be_named =
-      let many = sym made.loops in record {
-        there = subst (λ n. All (λ (c : LoopClaim). c.source < n) m.laid.claimed.claims.loops) many (memory_there p made.code m.laid made.carried.is_high made.lowered made.in_memory);
-        listed = subst (λ n. All (λ (e : LoopEntry). All (λ l. l.id < n) e.new) listing.loops) many
-            (each_loop (λ x. x < p.loops) listing (all_below p.loops (listed_loops listing) made.carried.carries.lists.loops));
+      record {
+        there = memory_there p m.code m.laid made.carried.is_high made.lowered made.in_memory;
+        listed = each_loop (λ x. x < p.loops) listing (all_below p.loops (listed_loops listing) made.carried.carries.lists.loops);
         old = old_small;
         facts = ap (λ (c : Claims). c.facts) made.in_memory.laid.claimed.claims;
       }

@@ -10,18 +10,17 @@ use Rattle.facts_definitions.specs.declared.facts.Facts.{Facts}
 use Rattle.facts_front.specs.Fronts.{IsSource}
 use Rattle.types_tree.specs.Tree.{Program}
 use Rattle.high_ir.specs.declared.copies.LoopCopies.{LoopCopies}
-use Rattle.high_pass.specs.Listing.{listing_of}
 use Rattle.path_search.specs.Conditions.{CanBound}
 use Rattle.compile_claims.specs.Named.{named}
 use Rattle.compile_made.specs.declared.made.Made.{Made}
-use Rattle.compile_made.specs.Made.{IsMade}
+use Rattle.compile_made.specs.Made.{IsMade, copies_of, high_of}
 
 -- loops have numbers below how many there are, in the claims and in their copies; those of the source have small ones; there are no
 -- restrictions
 pub record CanBeNamed (m : Made) : Type 0 where
-  pub there : All (λ c. c.source < m.loops) m.laid.claimed.claims.loops
-  pub listed : All (λ e. All (λ l. l.id < m.loops) e.new) (listing_of m.copies).loops
-  pub old : All (λ (e : LoopCopies). e.old < 2 ^ 26) m.copies.loops.items
+  pub there : All (λ c. c.source < (high_of m).loops) m.laid.claimed.claims.loops
+  pub listed : All (λ e. All (λ l. l.id < (high_of m).loops) e.new) (copies_of m).loops
+  pub old : All (λ (e : LoopCopies). e.old < 2 ^ 26) m.stages.last.copies.loops.items
   pub facts : m.laid.claimed.claims.facts ≡ []
 
 -- claims can be named by the loops of the source
@@ -31,10 +30,10 @@ MadeCanBeNamed = (source : List ℕ) (names : List (List ℕ)) (program : Progra
 -- nothing but memory can be wanting for the flow system: no claim is bad, and what is reached is code
 abbrev pub MadeHaveSystems : Type 0
 MadeHaveSystems =
-    (source : List ℕ) (names : List (List ℕ)) (program : Program) (facts : Facts) (m : Made) (fault : CodeFault) → IsSource source names program facts → IsMade names program facts m → IsFault m.laid.image (named (listing_of m.copies).loops m.laid.claimed.claims) fault → fault ≡ Memory
+    (source : List ℕ) (names : List (List ℕ)) (program : Program) (facts : Facts) (m : Made) (fault : CodeFault) → IsSource source names program facts → IsMade names program facts m → IsFault m.laid.image (named (copies_of m).loops m.laid.claimed.claims) fault → fault ≡ Memory
 
 -- the search can be made
 abbrev pub MadeCanBeBounded : Type 0
 MadeCanBeBounded =
-    (source : List ℕ) (names : List (List ℕ)) (program : Program) (facts : Facts) (m : Made) (c : Costs) (s : System) → IsSource source names program facts → IsMade names program facts m → IsSystemOf m.laid.image (named (listing_of m.copies).loops m.laid.claimed.claims) s
+    (source : List ℕ) (names : List (List ℕ)) (program : Program) (facts : Facts) (m : Made) (c : Costs) (s : System) → IsSource source names program facts → IsMade names program facts m → IsSystemOf m.laid.image (named (copies_of m).loops m.laid.claimed.claims) s
     → CanBound (table_of c) s m.laid.claimed.shapes.items m.laid.lists.spans.items

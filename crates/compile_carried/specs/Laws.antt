@@ -10,7 +10,7 @@ use Rattle.high_ir.specs.Tree.{Program}
 use Rattle.high_pass.specs.Composing.{Continues}
 use Rattle.high_pass.specs.Law.{IsLawful}
 use Rattle.high_pass.specs.Listing.{Listing}
-use Rattle.compile_carried.specs.Carried.{IsCarried, IsPlanned}
+use Rattle.compile_kept.specs.Carried.{IsCarried, IsPlanned}
 
 -- before any pass
 abbrev pub PlansAreCarried : Type 0

@@ -1,8 +1,8 @@
 //! From the bytes of a source to its image in memory, a call for each stage.
 //!
 //! [`read`] gives the typed program of a source without restrictions, with its facts; [`planned`] its plan, a program in the
-//! high form; [`lowered`] that program in the low form, with a place for each register; [`laid`] the image. Each stage lets go
-//! what it was made of, and keeps a record of `compile_carried` or `compile_made`.
+//! high form; [`lowered`] the last program in the low form, with a place for each register; [`laid`] the image. Each stage hands
+//! on what it was made of, and keeps a record of `compile_kept` or `compile_made`.
 //!
 //! The crate knows no report, and no stage the next one: `wcc_compile` puts them in a row.
 #![tactic(auto)]

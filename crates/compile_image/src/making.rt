@@ -9,10 +9,11 @@ ghost use Rattle.low_ir.specs.Placings.{placed_of, placings_of};
 ghost use Rattle.low_ir.specs.Programs.{low_of};
 ghost use Rattle.lower_law.specs.Programs.{KeepsProgram};
 ghost use Rattle.image_sizes.specs.Sizes.{HasSizes};
-ghost use Rattle.compile_sizes.specs.Limits.{nothing};
-ghost use Rattle.compile_carried.specs.Carried.{IsPlanned};
+ghost use Rattle.compile_kept.specs.Limits.{nothing};
+ghost use Rattle.compile_kept.specs.Carried.{IsPlanned};
 ghost use Rattle.compile_made.specs.Made.{IsInMemory, IsLowered};
 
+use compile_made::{Lowered, Made, Stages};
 use facts_front::Source;
 use high_ir::{Carried, High};
 use high_make::make;
@@ -40,13 +41,18 @@ fn code_of(alloc: Global, program: &High) -> Result<LowReg, Memory>
     all_slots(alloc, low)
 }
 
-/// A program in the low form, over its places.
-pub fn lowered(alloc: Global, program: High) -> Result<LowReg, Memory>
-    ensures { IfOk result (IsLowered (program_of program)) }
+/// A source in the low form: its last program there, over its places.
+pub fn lowered(alloc: Global, stages: Stages) -> Result<Lowered, Memory>
+    ensures stages { IfOk result (λ l. l.stages ≡ stages) }
+    ensures code { IfOk result (λ l. IsLowered (program_of stages.last.program) l.code) }
 {
-    let code = code_of(alloc, &program);
-    drop(program);
-    code
+    match code_of(alloc, &stages.last.program) {
+        Ok(code) => Ok(Lowered { stages, code }),
+        Err(memory) => {
+            drop(stages);
+            Err(memory)
+        }
+    }
 }
 
 /// Nothing lies in the scratchpad.
@@ -60,13 +66,30 @@ fn nothing(alloc: Global) -> Placement
 }
 
 /// The image of a program over its places, with the claims on it, where the program has room.
-pub fn laid(alloc: Global, code: LowReg) -> Result<Laid, Memory>
-    requires { HasSizes nothing (placed_of code) }
-    ensures { IfOk result (IsInMemory code) }
+fn image_of(alloc: Global, code: &LowReg) -> Result<Laid, Memory>
+    requires { HasSizes nothing (placed_of code.now) }
+    ensures { IfOk result (IsInMemory code.now) }
 {
     let placement = nothing(alloc);
-    let laid = lay(alloc, &code, &placement);
-    drop(code);
+    let laid = lay(alloc, code, &placement);
     drop(placement);
     laid
+}
+
+/// A source in memory.
+pub fn laid(alloc: Global, lowered: Lowered) -> Result<Made, Memory>
+    requires { HasSizes nothing (placed_of lowered.code) }
+    ensures stages { IfOk result (λ m. m.stages ≡ lowered.stages) }
+    ensures code { IfOk result (λ m. m.code ≡ lowered.code) }
+    ensures memory { IfOk result (λ m. IsInMemory lowered.code m.laid) }
+{
+    let Lowered { stages, code } = lowered;
+    match image_of(alloc, &code) {
+        Ok(laid) => Ok(Made { stages, code, laid }),
+        Err(memory) => {
+            drop(stages);
+            drop(code);
+            Err(memory)
+        }
+    }
 }

@@ -1,6 +1,6 @@
 // The source.
 ghost use Rattle.std.specs.Prelude.{◌≡◌, [], IfErr, IfOk};
-ghost use Rattle.facts_front.specs.Fronts.{IsSource};
+ghost use Rattle.facts_front.specs.Fronts.{IsSourceBy};
 ghost use Rattle.types_tree.specs.View.{program_of};
 ghost use Rattle.promise_compiler.specs.Refusals.{Fails};
 
@@ -9,12 +9,12 @@ use promise_compiler::Refusal;
 use std::alloc::Global;
 
 /// The typed program of a source without restrictions, and its facts.
-pub fn read(alloc: Global, text: &[u8]) -> Result<Source, Refusal>
-    ensures source { IfOk result (λ s. IsSource text.now s.typed.program.names.items (program_of s.typed.program) s.facts) }
+pub fn read(alloc: Global, text: &[u8], derive: bool) -> Result<Source, Refusal>
+    ensures source { IfOk result (λ s. IsSourceBy derive text.now s.typed.program.names.items (program_of s.typed.program) s.facts) }
     ensures plain { IfOk result (λ s. s.facts.restrictions ≡ []) }
-    ensures err { IfErr result (Fails text.now) }
+    ensures err { IfErr result (Fails derive text.now) }
 {
-    match read_source(alloc, text) {
+    match read_source(alloc, text, derive) {
         Ok(source) => {
             if source.facts.restrictions.as_slice().is_empty() {
                 Ok(source)

@@ -28,7 +28,7 @@ use Rattle.lower_definition.specs.Objects.{object_of}
 use Rattle.simulation_marks.specs.Laws.{blocks_standing, functions_standing, has_mark}
 use Rattle.simulation_marks.proofs.Standing.{all_few, all_stand}
 use Rattle.compile_made.specs.Made.{IsInMemory, IsLowered}
-use Rattle.compile_sizes.specs.Limits.{IsLimited, nothing}
+use Rattle.compile_kept.specs.Limits.{IsLimited, nothing}
 use Rattle.compile_sizes.proofs.Functions.{functions_few}
 use Rattle.compile_sizes.proofs.Sizes.{slotted_fit}
 use Rattle.compile_told.proofs.Unplaced.{moves_none}

@@ -12,7 +12,7 @@ use Rattle.facts_definitions.specs.declared.facts.FlowFault.{FlowFault}
 use Rattle.facts_definitions.specs.declared.facts.FlowFault.TheVariants.{BadPragma}
 use Rattle.facts_definitions.specs.declared.site.Site.{Site}
 use Rattle.facts_definitions.specs.declared.site.Site.TheVariants as sites
-use Rattle.facts_front.specs.Fronts.{IsSource}
+use Rattle.facts_front.specs.Fronts.{IsSource, derived_for}
 use Rattle.facts_names.specs.Laws.{names_length}
 use Rattle.facts_names.proofs.Sources.{fit}
 use Rattle.c_tree.specs.Names.{name_of}
@@ -96,8 +96,8 @@ module _ (known : Known) where
   each_once (site ∷ rest) h = each_once rest (both_none (site_fault known site) (first_fault known rest) h).1
 
 module _ (source : List ℕ) (names : List (List ℕ)) (program : Program) (facts : Facts) (is : IsSource source names program facts) where
-  said : Says program names is.has_facts.ranks [] facts
-  said = says program names is.has_facts.ranks [] facts is.has_facts.facts_are
+  said : Says program names is.has_facts.ranks (derived_for is.derive program) facts
+  said = says program names is.has_facts.ranks (derived_for is.derive program) facts is.has_facts.facts_are
 
   abbrev markers : List ℕ
   markers = marker_ids names (sites_of program)
@@ -111,7 +111,7 @@ module _ (source : List ℕ) (names : List (List ℕ)) (program : Program) (fact
   pub markers_short : ids_length names facts.markers ≤ length source
   markers_short =
       let are : facts.markers ≡ map name_id markers = ap (λ (f : Facts). f.markers) said.facts_are in
-      subst (λ ids. ids_length names ids ≤ length source) (sym are) (short markers (once_distinct markers (each_once (known_of program names []) (sites_of program) said.passes)))
+      subst (λ ids. ids_length names ids ≤ length source) (sym are) (short markers (once_distinct markers (each_once (known_of program names (derived_for is.derive program)) (sites_of program) said.passes)))
 
   functions_are : facts.functions ≡ map name_id (map function_name program.functions)
   functions_are = ap (λ (f : Facts). f.functions) said.facts_are

@@ -11,7 +11,7 @@ use Rattle.code_flow_sizes.proofs.Few.{has_few}
 use Rattle.facts_definitions.specs.declared.facts.Facts.{Facts}
 use Rattle.facts_front.specs.Fronts.{IsSource}
 use Rattle.types_tree.specs.Tree.{Program}
-use Rattle.high_pass.specs.Listing.{LoopEntry, listing_of}
+use Rattle.high_pass.specs.Listing.{LoopEntry}
 use Rattle.low_ir.specs.Placings.{assignment_of, placed_of}
 use Rattle.low_ir.specs.Programs.{low_of}
 use Rattle.claims_definition.specs.Listed.{Laid, claims_of}
@@ -25,12 +25,12 @@ use Rattle.report_text.specs.Reports.{Report}
 use Rattle.promise_compiler.specs.Lengths.{AreShort}
 use Rattle.compile_claims.specs.Named.{by_entries, named}
 use Rattle.compile_made.specs.declared.made.Made.{Made}
-use Rattle.compile_made.specs.Made.{IsMade}
+use Rattle.compile_made.specs.Made.{IsMade, copies_of, high_of}
 use Rattle.compile_names.proofs.Counted.{counted_named}
 use Rattle.compile_reports.specs.Reported.{IsReported}
 use Rattle.compile_reports.proofs.Openings.{functions_counted}
 use Rattle.compile_reports.proofs.Reports.{is_report}
-use Rattle.compile_sizes.specs.Limits.{IsLimited, nothing}
+use Rattle.compile_kept.specs.Limits.{IsLimited, nothing}
 use Rattle.compile_lengths.proofs.Copies.{copies_few}
 use Rattle.compile_lengths.proofs.Counts.{claims_loops, exits_few, image_short, low_functions, places_few, regions_few}
 use Rattle.compile_lengths.proofs.Names.{functions_short, ids_append, ids_length, markers_short}
@@ -38,27 +38,27 @@ use Rattle.compile_lengths.proofs.Shares.{shares_few}
 
 module _ (source : List ℕ) (names : List (List ℕ)) (program : Program) (facts : Facts) (m : Made) (t : Table) (r : Report) (small : length source ≤ 1048576) (is : IsSource source names program facts) (made : IsMade names program facts m) (reported : IsReported t names facts m r) (typed : IsTyped r) where
   abbrev own : Laid
-  own = laid_of nothing (placed_of made.code)
+  own = laid_of nothing (placed_of m.code)
 
   abbrev es : List LoopEntry
-  es = (listing_of m.copies).loops
+  es = (copies_of m).loops
 
-  limited : IsLimited made.program
+  limited : IsLimited (high_of m)
   limited = made.carried.limited
 
   claims_are : r.claims ≡ named es (claims_of own)
   claims_are = reported.claims ∙ ap (named es) made.in_memory.laid.claimed.claims
 
   exits : length r.claims.exits ≤ 1589248
-  exits = subst (λ (c : Claims). length c.exits ≤ 1589248) (sym claims_are) (exits_few made.program made.carried.is_high limited made.code made.lowered m.laid made.in_memory)
+  exits = subst (λ (c : Claims). length c.exits ≤ 1589248) (sym claims_are) (exits_few (high_of m) made.carried.is_high limited m.code made.lowered m.laid made.in_memory)
 
   regions : length r.claims.regions ≤ 1589248
-  regions = subst (λ (c : Claims). length c.regions ≤ 1589248) (sym claims_are) (regions_few made.program made.carried.is_high limited made.code made.lowered m.laid made.in_memory)
+  regions = subst (λ (c : Claims). length c.regions ≤ 1589248) (sym claims_are) (regions_few (high_of m) made.carried.is_high limited m.code made.lowered m.laid made.in_memory)
 
   loops : length r.claims.loops ≤ 98304
   loops =
       let many = length-map (claims_of own).loops (by_entries es) in
-      let few = claims_loops made.program made.carried.is_high limited made.code made.lowered m.laid made.in_memory in
+      let few = claims_loops (high_of m) made.carried.is_high limited m.code made.lowered m.laid made.in_memory in
       subst (λ (c : Claims). length c.loops ≤ 98304) (sym claims_are) (omega (arith, many, few))
 
   -- names, and where they stand
@@ -72,16 +72,16 @@ module _ (source : List ℕ) (names : List (List ℕ)) (program : Program) (fact
   copies : copies_room r.names ≤ 15564800
   copies =
       let places = m.laid.lists.places.items in
-      let few = copies_few names places (listing_of m.copies) made.program.marks made.carried.carries.lists.marks (facts.functions ++ facts.markers) r.names reported.lines (counted_named source names program facts is) in
-      let standing = places_few made.program made.carried.is_high limited made.code made.lowered m.laid made.in_memory made.code.low.marks in
-      let same : sum_by (λ (l : List ℕ). length l) places ≡ sum_by (λ (l : List ℕ). length l) (places_below own made.code.low.marks) = ap (λ ls. sum_by (λ (l : List ℕ). length l) ls) made.in_memory.laid.lists.places in
+      let few = copies_few names places (copies_of m) (high_of m).marks made.carried.carries.lists.marks (facts.functions ++ facts.markers) r.names reported.lines (counted_named source names program facts is) in
+      let standing = places_few (high_of m) made.carried.is_high limited m.code made.lowered m.laid made.in_memory m.code.low.marks in
+      let same : sum_by (λ (l : List ℕ). length l) places ≡ sum_by (λ (l : List ℕ). length l) (places_below own m.code.low.marks) = ap (λ ls. sum_by (λ (l : List ℕ). length l) ls) made.in_memory.laid.lists.places in
       omega (arith, few, standing, same, ids_few)
 
   shares : shares_room r.shares ≤ 1065025
   shares =
       let many = functions_counted source names program facts is ∙ sym made.carried.carries.functions in
-      let few = shares_few names facts.functions made.program (low_of made.code.low) made.lowered.keeps_program many (assignment_of made.code) nothing t reported.system r.cert.flow.parts r.kind m.laid.lists.ranges.items r.shares reported.shared made.in_memory.laid.lists.ranges in
-      let functions = low_functions made.program made.carried.is_high limited made.code made.lowered m.laid made.in_memory in
+      let few = shares_few names facts.functions (high_of m) (low_of m.code.low) made.lowered.keeps_program many (assignment_of m.code) nothing t reported.system r.cert.flow.parts r.kind m.laid.lists.ranges.items r.shares reported.shared made.in_memory.laid.lists.ranges in
+      let functions = low_functions (high_of m) made.carried.is_high limited m.code made.lowered m.laid made.in_memory in
       let called = functions_short source names program facts is in
       omega (arith, few, functions, called, small)
 
@@ -92,7 +92,7 @@ module _ (source : List ℕ) (names : List (List ℕ)) (program : Program) (fact
 
   pub short : AreShort (text_of m.laid.image) (report_text r)
   short =
-      let image = image_short made.program made.carried.is_high limited made.code made.lowered m.laid made.in_memory in
+      let image = image_short (high_of m) made.carried.is_high limited m.code made.lowered m.laid made.in_memory in
       let same = ap (λ i. length (text_of i)) made.in_memory.laid.image in
       let report = is_report source names program facts m t r is made reported in
       let nevers = ap (λ (c : Claims). length c.nevers) claims_are in

@@ -1,9 +1,10 @@
 -- What a source becomes, from stage to stage.
-use Rattle.std.specs.Prelude.{◌≡◌, ℕ, List, map}
+use Rattle.std.specs.Prelude.{◌≡◌, ℕ, List, length, map}
 use Rattle.facts_definitions.specs.declared.facts.Facts.{Facts}
 use Rattle.types_tree.specs.Tree as c
+use Rattle.high_ir.specs.Programs.{program_of}
 use Rattle.high_ir.specs.Tree.{Program}
-use Rattle.high_pass.specs.Listing.{listing_of}
+use Rattle.high_pass.specs.Listing.{Listing, listing_of}
 use Rattle.low_ir.specs.declared.places.LowReg.{LowReg}
 use Rattle.low_ir.specs.Places.{in_slots}
 use Rattle.low_ir.specs.Placings.{placings_of}
@@ -12,8 +13,8 @@ use Rattle.lower_law.specs.Programs.{KeepsProgram}
 use Rattle.layout_laid.specs.declared.laid.Laid.{Laid}
 use Rattle.layout_laid.specs.Laid.{IsLaid}
 use Rattle.layout_kept.specs.Kept.{KeepsLow}
-use Rattle.compile_sizes.specs.Limits.{nothing}
-use Rattle.compile_carried.specs.Carried.{IsCarried, IsPlanned}
+use Rattle.compile_kept.specs.Limits.{nothing}
+use Rattle.compile_kept.specs.Carried.{IsCarried}
 use Rattle.compile_made.specs.declared.made.Made.{Made}
 
 -- a program in the low form, with a slot for each register
@@ -26,14 +27,15 @@ pub record IsInMemory (code : LowReg) (y : Laid) : Type 0 where
   pub laid : IsLaid nothing code y
   pub keeps_low : KeepsLow nothing (placings_of code) (low_of code.low)
 
--- a source in memory
+-- the last program in the high form, and what became in it of the marks and loops of the source
+abbrev pub high_of : Made → Program
+high_of m = program_of m.stages.last.program
+
+abbrev pub copies_of : Made → Listing
+copies_of m = listing_of m.stages.last.copies
+
+-- a source in memory: its last program carries it, whichever passes made it
 pub record IsMade (names : List (List ℕ)) (source : c.Program) (facts : Facts) (m : Made) : Type 0 where
-  -- its plan in the high form, which no pass changes yet
-  pub program : Program
-  pub planned : IsPlanned names source facts program (listing_of m.copies)
-  pub carried : IsCarried names source facts 0 program (listing_of m.copies)
-  pub loops : m.loops ≡ program.loops
-  -- its code in the low form
-  pub code : LowReg
-  pub lowered : IsLowered program code
-  pub in_memory : IsInMemory code m.laid
+  pub carried : IsCarried names source facts (length m.stages.before.items) (high_of m) (copies_of m)
+  pub lowered : IsLowered (high_of m) m.code
+  pub in_memory : IsInMemory m.code m.laid

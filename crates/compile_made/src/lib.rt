@@ -1,10 +1,10 @@
-//! What is made of a source: its image in memory, and what became in it of the source's marks and loops.
+//! What is made of a source: its programs in the high form, its code over its places, its image in memory.
 //!
-//! `specs/Made` has a record for each stage, joined by the programs between them: the plan, what passes keep of the source
-//! (`compile_carried`), the low form over its places, the image. What is shown of what is made (its search, its report, its
-//! runs) rests on these alone, and but for the first on no plan.
+//! `specs/Made` has a record for each stage behind the high form, joined by the programs between them, and what the last
+//! program keeps of the source (`compile_kept`). What is shown of what is made (its search, its report, its runs) rests on
+//! these alone, and on no plan and no pass.
 #![tactic(auto)]
 
 mod made;
 
-pub use made::Made;
+pub use made::{Lowered, Made, Stages};

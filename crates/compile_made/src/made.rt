@@ -1,12 +1,29 @@
-// A program in memory.
-use high_ir::Copies;
+// A source from its plan to its image.
+use high_ir::Carried;
 use layout_laid::Laid;
+use low_ir::LowReg;
 
-/// A program in memory, and what became in it of the marks and loops of the source.
+/// A source in the high form: programs, each with what became in it of the marks and loops of the source.
+#[derive(Drop)]
+pub struct Stages {
+    /// The plan, and what each pass but the last one made of the program before it.
+    pub before: Vec<Carried>,
+    /// What the last pass made, or the plan where no pass has run.
+    pub last: Carried,
+}
+
+/// A source in the low form.
+#[derive(Drop)]
+pub struct Lowered {
+    pub stages: Stages,
+    /// The last program, over its places.
+    pub code: LowReg,
+}
+
+/// A source in memory, and what it was on the way.
 #[derive(Drop)]
 pub struct Made {
+    pub stages: Stages,
+    pub code: LowReg,
     pub laid: Laid,
-    pub copies: Copies,
-    /// How many loops the program has.
-    pub loops: u32,
 }

@@ -9,7 +9,7 @@ use Rattle.facts_definitions.specs.Sites.{sites_of}
 use Rattle.facts_definitions.specs.declared.facts.Facts.{Facts}
 use Rattle.facts_definitions.specs.declared.site.Site.{Site}
 use Rattle.facts_definitions.specs.declared.site.Site.TheVariants as sites
-use Rattle.facts_front.specs.Fronts.{HasProgram, IsSource}
+use Rattle.facts_front.specs.Fronts.{HasProgram, IsSource, derived_for}
 use Rattle.types_rules.specs.Sights.{outline_of}
 use Rattle.c_tree.specs.Formed.{EachOf}
 use Rattle.c_tree.specs.Holding.{HoldsExternal}
@@ -65,6 +65,6 @@ pub counted_named : (source : List ℕ) (names : List (List ℕ)) (program : Pro
 counted_named source names program facts h =
     let f = h.has_facts in
     let named = program_named source names program h.has_program in
-    let same = (says program names f.ranks [] facts f.facts_are).facts_are in
+    let same = (says program names f.ranks (derived_for h.derive program) facts f.facts_are).facts_are in
     subst (λ (x : Facts). All (IsNamed names) (x.functions ++ x.markers)) (sym same)
     (All-append (IsNamed names) (map name_id (map function_name program.functions)) (map name_id (marker_ids names (sites_of program))) named.0 named.1)

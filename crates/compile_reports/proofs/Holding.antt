@@ -24,7 +24,7 @@ use Rattle.types_tree.specs.Tree.{Program}
 use Rattle.low_ir.specs.Placings.{assignment_of}
 use Rattle.low_ir.specs.Programs.{low_of}
 use Rattle.asm_program.specs.Functions.{function_in}
-use Rattle.compile_made.specs.Made.{IsMade}
+use Rattle.compile_made.specs.Made.{IsMade, high_of}
 use Rattle.compile_made.specs.declared.made.Made.{Made}
 use Rattle.compile_reports.proofs.Openings.{Opens, made_opens}
 use Rattle.compile_reports.specs.Reported.{AreShared, IsReported}
@@ -46,9 +46,9 @@ greatest_shares (Spent columns pivots) mark with_parts own h marked greatest = a
 module _ (source : List ℕ) (names : List (List ℕ)) (program : Program) (facts : Facts) (m : Made) (t : Table) (r : Report) (is : IsSource source names program facts) (made : IsMade names program facts m) (reported : IsReported t names facts m r) where
   opens : (f : ℕ) → f < length (over names program facts m t r made reported).functions → Opens (function_in (over names program facts m t r made reported) f) (length facts.functions)
   opens f lt =
-      let low = low_of made.code.low in
+      let low = low_of m.code.low in
       let same = made.in_memory.keeps_low.rooms.functions in
-      made_opens source names program facts made.program low (assignment_of made.code) is made.carried.carries.functions made.lowered.keeps_program f (omega (arith, same, lt))
+      made_opens source names program facts (high_of m) low (assignment_of m.code) is made.carried.carries.functions made.lowered.keeps_program f (omega (arith, same, lt))
 
   fit : TellsShares r → SharesFit t reported.system r.cert.flow.parts r.shares
   fit tells =

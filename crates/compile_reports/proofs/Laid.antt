@@ -7,7 +7,7 @@ use Rattle.code_flow_system.specs.Shapes.{Fits}
 use Rattle.code_flow_system.specs.Systems.{IsSystemOf, System}
 use Rattle.facts_definitions.specs.declared.facts.Facts.{Facts}
 use Rattle.types_tree.specs.Tree.{Program}
-use Rattle.high_pass.specs.Listing.{LoopEntry, listing_of}
+use Rattle.high_pass.specs.Listing.{LoopEntry}
 use Rattle.claims_definition.specs.Listed.{Laid, claims_of, placing}
 use Rattle.asm_graphs.specs.Laid.{spans_from}
 use Rattle.claims_image.specs.Images.{laid_of}
@@ -19,9 +19,9 @@ use Rattle.report_text.specs.Reports.{Report}
 use Rattle.compile_claims.specs.Laws.{under}
 use Rattle.compile_claims.specs.Named.{named}
 use Rattle.compile_claims.proofs.Systems.{system_same}
-use Rattle.compile_made.specs.Made.{IsMade}
+use Rattle.compile_made.specs.Made.{IsMade, copies_of}
 use Rattle.compile_made.specs.declared.made.Made.{Made}
-use Rattle.compile_sizes.specs.Limits.{nothing}
+use Rattle.compile_kept.specs.Limits.{nothing}
 use Rattle.compile_reports.specs.Reported.{IsReported}
 
 -- the claims of a system are sound
@@ -30,13 +30,13 @@ system_sound image claims s h = no_flaws (flaws claims) (λ n flaw. h.no_bad n (
 
 module _ (names : List (List ℕ)) (program : Program) (facts : Facts) (m : Made) (t : Table) (r : Report) (made : IsMade names program facts m) (reported : IsReported t names facts m r) where
   abbrev pub over : Placed
-  over = placed_of made.code
+  over = placed_of m.code
 
   abbrev pub laid : Laid
   laid = laid_of nothing over
 
   abbrev pub es : List LoopEntry
-  es = (listing_of m.copies).loops
+  es = (copies_of m).loops
 
   pub claims_named : r.claims ≡ named es (claims_of laid)
   claims_named = reported.claims ∙ ap (named es) made.in_memory.laid.claimed.claims

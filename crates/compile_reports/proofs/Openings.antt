@@ -6,7 +6,7 @@ use Rattle.std.proofs.lemmas.Option.{get_or_from_slice_get, slice_get_within}
 use Rattle.facts_definitions.specs.FlowFacts.{name_id}
 use Rattle.types_tree.specs.Tree.{function_name}
 use Rattle.facts_definitions.specs.declared.facts.Facts.{Facts}
-use Rattle.facts_front.specs.Fronts.{IsSource}
+use Rattle.facts_front.specs.Fronts.{IsSource, derived_for}
 use Rattle.types_tree.specs.Tree as c
 use Rattle.high_ir.specs.Tree.{Program}
 use Rattle.plan_formed.proofs.Facts.{says}
@@ -52,7 +52,7 @@ lowered_opens p q a keeps f lt =
 pub functions_counted : (source : List ℕ) (names : List (List ℕ)) (program : c.Program) (facts : Facts) → IsSource source names program facts → length facts.functions ≡ length program.functions
 functions_counted source names program facts is =
     let f = is.has_facts in
-    ap (λ (x : Facts). length x.functions) (says program names f.ranks [] facts f.facts_are).facts_are
+    ap (λ (x : Facts). length x.functions) (says program names f.ranks (derived_for is.derive program) facts f.facts_are).facts_are
     ∙ length-map (map function_name program.functions) name_id
     ∙ length-map program.functions function_name
 

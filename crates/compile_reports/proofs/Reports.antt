@@ -22,7 +22,7 @@ use Rattle.report_shares.proofs.FillLemmas.{sum_small}
 use Rattle.facts_definitions.specs.declared.facts.Facts.{Facts}
 use Rattle.facts_front.specs.Fronts.{IsSource}
 use Rattle.types_tree.specs.Tree.{Program}
-use Rattle.high_pass.specs.Listing.{Listing, listing_of}
+use Rattle.high_pass.specs.Listing.{Listing}
 use Rattle.high_pass.proofs.Elements.{All-append_front, at_or}
 use Rattle.claims_definition.specs.Laws.{IsPlaceOf, RangesAscend}
 use Rattle.claims_definition.specs.Listed.{Laid, places_of}
@@ -30,7 +30,7 @@ use Rattle.claims_lists.specs.Lists.{range_of}
 use Rattle.claims_places.specs.Places.{places_below}
 use Rattle.compile_names.specs.Laws.{IsNamed}
 use Rattle.compile_names.proofs.Counted.{counted_named}
-use Rattle.compile_made.specs.Made.{IsMade}
+use Rattle.compile_made.specs.Made.{IsMade, copies_of, high_of}
 use Rattle.compile_made.specs.declared.made.Made.{Made}
 use Rattle.compile_reports.specs.Reported.{AreShared, IsReported}
 use Rattle.compile_reports.proofs.Copies.{AreOnce, copy_lines}
@@ -74,7 +74,7 @@ module _ (source : List ℕ) (names : List (List ℕ)) (program : Program) (fact
 
   -- how many marks the program has
   abbrev n : ℕ
-  n = made.code.low.marks
+  n = m.code.low.marks
 
   -- the addresses of each mark ascend
   rising : (mark : ℕ) → Ascend (places_at places mark)
@@ -97,13 +97,13 @@ module _ (source : List ℕ) (names : List (List ℕ)) (program : Program) (fact
       plain k = omega arith
 
   abbrev listing : Listing
-  listing = listing_of m.copies
+  listing = copies_of m
 
   -- no address belongs to two copies of a mark
   once : All (AreOnce names places) listing.marks
   once i d lt a =
       let e = get_or listing.marks i d in
-      together_once (IsPlaceOf l) made.in_memory.keeps_low.apart (places_at places) own_places rising a e.new (copies_once listing made.program.marks made.carried.carries.lists.marks i d lt)
+      together_once (IsPlaceOf l) made.in_memory.keeps_low.apart (places_at places) own_places rising a e.new (copies_once listing (high_of m).marks made.carried.carries.lists.marks i d lt)
 
   lines : All IsCopyLine r.names
   lines = copy_lines names places (facts.functions ++ facts.markers) listing.marks r.names named once reported.lines

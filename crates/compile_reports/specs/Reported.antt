@@ -4,7 +4,6 @@ use Rattle.rv_core.specs.Table.{Table}
 use Rattle.code_flow_system.specs.Certificates.{Accepts, IsInForm}
 use Rattle.code_flow_system.specs.Systems.{System, IsSystemOf}
 use Rattle.facts_definitions.specs.declared.facts.Facts.{Facts}
-use Rattle.high_pass.specs.Listing.{listing_of}
 use Rattle.path_answer.specs.declared.bounded.Kind.{Kind}
 use Rattle.path_answer.specs.declared.bounded.Kind.TheVariants.{Greatest, Empty, Wide, Spent}
 use Rattle.path_search.specs.Kinds.{IsMarked}
@@ -15,6 +14,7 @@ use Rattle.report_text.specs.declared.entries.Share.{Share}
 use Rattle.report_text.specs.Reports.{Report}
 use Rattle.compile_claims.specs.Named.{named}
 use Rattle.compile_made.specs.declared.made.Made.{Made}
+use Rattle.compile_made.specs.Made.{copies_of}
 
 -- a bound that a flow reaches is shared among the ranges of code
 abbrev pub AreShared : Kind → (with_parts : List Share) → List Share → Type 0
@@ -25,8 +25,8 @@ AreShared (Spent columns pivots) with_parts shares = shares ≡ []
 
 pub record IsReported (costs : Table) (names : List (List ℕ)) (facts : Facts) (m : Made) (r : Report) : Type 0 where
   pub version : r.version ≡ 2
-  pub lines : AreLinesOf names m.laid.lists.places.items (facts.functions ++ facts.markers) (listing_of m.copies).marks r.names
-  pub claims : r.claims ≡ named (listing_of m.copies).loops m.laid.claimed.claims
+  pub lines : AreLinesOf names m.laid.lists.places.items (facts.functions ++ facts.markers) (copies_of m).marks r.names
+  pub claims : r.claims ≡ named (copies_of m).loops m.laid.claimed.claims
   pub columns : r.columns ≡ []
   -- the bound of the image's flow system under these claims
   pub system : System

@@ -21,7 +21,7 @@ use Rattle.claims_definition.specs.Listed.{Laid, places_of}
 use Rattle.claims_image.specs.Images.{laid_of}
 use Rattle.claims_places.specs.Places.{places_below}
 use Rattle.layout_laid.specs.declared.laid.Laid as lays
-use Rattle.compile_sizes.specs.Limits.{nothing}
+use Rattle.compile_kept.specs.Limits.{nothing}
 use Rattle.compile_made.specs.Made.{IsInMemory}
 
 -- over places a block has the mark that it has over virtual registers

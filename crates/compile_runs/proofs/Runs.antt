@@ -12,7 +12,7 @@ use Rattle.code_flow_system.specs.KeptRuns.{KeepsClaims, visit_count}
 use Rattle.code_flow_system.specs.Systems.{IsSystemOf}
 use Rattle.facts_definitions.specs.declared.facts.Facts.{Facts}
 use Rattle.types_tree.specs.Tree.{Program}
-use Rattle.high_pass.specs.Listing.{Listing, LoopEntry, MarkEntry, listing_of}
+use Rattle.high_pass.specs.Listing.{Listing, LoopEntry, MarkEntry}
 use Rattle.high_pass.proofs.Entries.{number_at}
 use Rattle.plan_carried.specs.Sources.{source_marks}
 use Rattle.low_ir.specs.Code.{Low}
@@ -26,7 +26,7 @@ use Rattle.claims_definition.specs.Listed.{claims_of}
 use Rattle.claims_image.specs.Images.{laid_of}
 use Rattle.compile_image_law.specs.Laws.{EndsAsMain, IsCompiled, passed}
 use Rattle.compile_image_law.proofs.Sources.{source_shows}
-use Rattle.compile_sizes.specs.Limits.{nothing}
+use Rattle.compile_kept.specs.Limits.{nothing}
 use Rattle.compile_claims.specs.Laws.{under}
 use Rattle.compile_claims.specs.Named.{named}
 use Rattle.compile_claims.proofs.Bounds.{run_keeps}
@@ -37,20 +37,20 @@ use Rattle.report_text.specs.declared.entries.CopyLine.{CopyLine}
 use Rattle.report_text.specs.Reports.{Report}
 use Rattle.compile_lines.specs.CopyLines.{places_at}
 use Rattle.compile_made.specs.declared.made.Made.{Made}
-use Rattle.compile_made.specs.Made.{IsInMemory, IsMade}
+use Rattle.compile_made.specs.Made.{IsInMemory, IsMade, copies_of, high_of}
 use Rattle.compile_reports.specs.Reported.{IsReported}
 use Rattle.compile_runs.proofs.Counting.{IsSummed, lines_summed}
 use Rattle.compile_runs.proofs.Places.{places_same}
 
 module _ (names : List (List ℕ)) (program : Program) (facts : Facts) (m : Made) (t : Table) (r : Report) (made : IsMade names program facts m) (reported : IsReported t names facts m r) where
   abbrev listing : Listing
-  listing = listing_of m.copies
+  listing = copies_of m
 
   abbrev loops : List LoopEntry
   loops = listing.loops
 
   abbrev code : LowReg
-  code = made.code
+  code = m.code
 
   abbrev memory : IsInMemory code m.laid
   memory = made.in_memory
@@ -77,7 +77,7 @@ module _ (names : List (List ℕ)) (program : Program) (facts : Facts) (m : Made
   system_is : IsSystemOf image (named loops claims) reported.system
   system_is = subst (λ c. IsSystemOf image c reported.system) claims_are (subst (λ i. IsSystemOf i r.claims reported.system) memory.laid.image reported.is_system)
 
-  compiled : IsCompiled made.program low nothing placings (under claims reported.system) t r.cert
+  compiled : IsCompiled (high_of m) low nothing placings (under claims reported.system) t r.cert
   compiled = record {
     whole = made.carried.whole;
     keeps_program = made.lowered.keeps_program;
@@ -115,5 +115,5 @@ module _ (names : List (List ℕ)) (program : Program) (facts : Facts) (m : Made
 
   pub runs_as_source : RunsAsSource program names facts t m.laid.image r
   runs_as_source input bytes output value counts means =
-      let ends = source_shows program names facts made.program listing low nothing placings (under claims reported.system) t r.cert made.carried.carries compiled input bytes output value counts means in
+      let ends = source_shows program names facts (high_of m) listing low nothing placings (under claims reported.system) t r.cert made.carried.carries compiled input bytes output value counts means in
       (ends.0, subst (λ i. RunsAs r output value counts (mrun (setup i t input) ends.0)) (sym memory.laid.image) (as_reported input output value counts ends.0 ends.1))

@@ -11,7 +11,7 @@ use Rattle.low_ir.specs.Effects.{can_store}
 use Rattle.lower_definition.specs.Objects.{object_of, storage_of}
 use Rattle.lower_law.proofs.Totals.{array_same}
 use Rattle.image_sizes.specs.Sizes.{constants_room, variables_room}
-use Rattle.compile_sizes.specs.Limits.{global_bytes, global_object_bytes}
+use Rattle.compile_kept.specs.Limits.{global_bytes, global_object_bytes}
 
 constant_few : (s : Storage) (o : Object) (n : ℕ) → n ≡ object_bytes o → (if can_store (storage_of s) then 0 else n) ≤ global_object_bytes s o
 constant_few Constant o n e = omega (arith, e)

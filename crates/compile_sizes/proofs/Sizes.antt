@@ -9,7 +9,7 @@ use Rattle.low_placed_room.proofs.Rooms.{room_kept}
 use Rattle.lower_law.specs.Programs.{KeepsProgram}
 use Rattle.image_sizes.specs.Sizes.{HasSizes, constants_room, variables_room}
 use Rattle.image_sizes.proofs.FitLemmas.{nothing_fits}
-use Rattle.compile_sizes.specs.Limits.{HasFewSlots, IsLimited, nothing, slotted}
+use Rattle.compile_kept.specs.Limits.{HasFewSlots, IsLimited, nothing, slotted}
 use Rattle.compile_sizes.proofs.Arrays.{constants_few, variables_few}
 use Rattle.compile_sizes.proofs.Functions.{frames_few, functions_few}
 

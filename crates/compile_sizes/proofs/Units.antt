@@ -33,7 +33,7 @@ use Rattle.plan_source.proofs.Faults.{no_first, no_second}
 use Rattle.plan_memory.specs.Memory.{AllSolid, SolidBy}
 use Rattle.plan_memory.proofs.Growing.{externals_grow}
 use Rattle.plan_memory.proofs.Memory.{few_globals, rules_pass}
-use Rattle.compile_sizes.specs.Limits.{global_bytes, global_object_bytes}
+use Rattle.compile_kept.specs.Limits.{global_bytes, global_object_bytes}
 
 -- functions
 functions_counted : (items : Row (External ℕ)) (a : Around) (rest : List typed.Function) → length (typed_row after_external typed_function items a rest) ≤ (tally_externals items).functions + length rest

@@ -12,7 +12,7 @@ use Rattle.low_ir.specs.Code.{Low}
 use Rattle.low_ir.specs.Places.{Assignment, placed}
 use Rattle.lower_law.specs.Programs.{KeepsProgram}
 use Rattle.image_sizes.specs.Sizes.{HasSizes}
-use Rattle.compile_sizes.specs.Limits.{HasFewSlots, IsLimited, nothing, slotted}
+use Rattle.compile_kept.specs.Limits.{HasFewSlots, IsLimited, nothing, slotted}
 
 -- the plan of a source keeps the limits
 abbrev pub PlansKeepLimits : Type 0

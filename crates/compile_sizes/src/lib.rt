@@ -1,7 +1,7 @@
 //! The program of every source has room in an image.
 //!
-//! Code, constants, and frames with variables each have a region of fixed size. `specs/Limits` says which programs in the high form
-//! fit them ([`limited_programs_fit`]): those with at most 256 functions and 262,144 bytes of objects of file level that are
+//! Code, constants, and frames with variables each have a region of fixed size. `compile_kept/specs/Limits` says which programs in
+//! the high form fit them ([`limited_programs_fit`]): those with at most 256 functions and 262,144 bytes of objects of file level that are
 //! within the budgets of passes. Code takes at most 16 instructions for each of 98,304 operations and 64 for each function,
 //! 1,589,248 in all. Constants are objects of file level. A frame takes at most 196 bytes for the return address and machine
 //! registers, and a word for each variable and for two temporaries of each operation: with all arrays that are no constants

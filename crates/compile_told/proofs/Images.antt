@@ -12,7 +12,7 @@ use Rattle.code_flow_system.specs.Systems.{IsSystemOf, System}
 use Rattle.facts_definitions.specs.declared.facts.Facts.{Facts}
 use Rattle.types_tree.specs.Tree.{Program}
 use Rattle.high_ir.specs.Tree as high
-use Rattle.high_pass.specs.Listing.{LoopEntry, listing_of}
+use Rattle.high_pass.specs.Listing.{LoopEntry}
 use Rattle.low_ir.specs.Code.{Object}
 use Rattle.low_ir.specs.Places.{Placed, assignment, placed}
 use Rattle.low_ir.specs.Placings.{placings_of}
@@ -27,9 +27,9 @@ use Rattle.compile_claims.specs.Laws.{under}
 use Rattle.compile_claims.specs.Named.{named}
 use Rattle.compile_claims.proofs.Systems.{system_same}
 use Rattle.compile_made.specs.declared.made.Made.{Made}
-use Rattle.compile_made.specs.Made.{IsMade}
+use Rattle.compile_made.specs.Made.{IsMade, copies_of, high_of}
 use Rattle.promise_report.specs.Compiled.{AreLined, IsLined, scratchpad_taken}
-use Rattle.compile_sizes.specs.Limits.{nothing}
+use Rattle.compile_kept.specs.Limits.{nothing}
 use Rattle.compile_reports.specs.Reported.{IsReported}
 use Rattle.compile_told.proofs.Lined.{move_lined}
 use Rattle.compile_told.proofs.Lists.{all_got, map_got}
@@ -37,7 +37,7 @@ use Rattle.compile_told.proofs.Unplaced.{moves_none, unplaced}
 
 module _ (names : List (List ℕ)) (program : Program) (facts : Facts) (m : Made) (made : IsMade names program facts m) where
   abbrev over : Placed
-  over = placed (assignment (placings_of made.code)) (low_of made.code.low)
+  over = placed (assignment (placings_of m.code)) (low_of m.code.low)
 
   abbrev own : Laid
   own = laid_of nothing over
@@ -50,12 +50,12 @@ module _ (names : List (List ℕ)) (program : Program) (facts : Facts) (m : Made
 
   elements : HasElements over
   elements o x e =
-      let from = map_got object_of made.program.objects o x (sym (ap (λ l. slice_get l o) made.lowered.keeps_program.objects) ∙ e) in
-      subst (λ (z : Object). 0 < z.size) from.2 (all_got (λ (y : high.Object). 0 < y.size) made.program.objects o from.0 made.carried.elements from.1)
+      let from = map_got object_of (high_of m).objects o x (sym (ap (λ l. slice_get l o) made.lowered.keeps_program.objects) ∙ e) in
+      subst (λ (z : Object). 0 < z.size) from.2 (all_got (λ (y : high.Object). 0 < y.size) (high_of m).objects o from.0 made.carried.elements from.1)
 
   module _ (t : Table) (r : Report) (s : System) (reported : IsReported t names facts m r) (system : IsSystemOf m.laid.image r.claims s) where
     abbrev es : List LoopEntry
-    es = (listing_of m.copies).loops
+    es = (copies_of m).loops
 
     claims_are : r.claims ≡ named es (claims_of own)
     claims_are = reported.claims ∙ ap (named es) made.in_memory.laid.claimed.claims

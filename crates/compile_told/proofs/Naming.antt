@@ -17,7 +17,7 @@ use Rattle.c_lexer.specs.Cut.{HasTokens}
 use Rattle.facts_definitions.specs.FlowFacts.{name_id}
 use Rattle.types_tree.specs.Tree.{function_name}
 use Rattle.facts_definitions.specs.declared.facts.Facts.{Facts}
-use Rattle.facts_front.specs.Fronts.{IsSource}
+use Rattle.facts_front.specs.Fronts.{IsSource, derived_for}
 use Rattle.types_rules.specs.Limits.{broken, limits_before, limits_behind, tally_unit, variables_of}
 use Rattle.types_rules.specs.Scope.{started, with_number}
 use Rattle.types_rules.specs.Sights.{SeenUnit, definitions, externals_nodes, first_fault, outline_of, unit_nodes}
@@ -132,7 +132,7 @@ module _ (source : List ℕ) (names : List (List ℕ)) (program : Program) (fact
   same_number n k h g e = sym (once n (within_names names n h)) ∙ ap (number_of names) e ∙ once k (within_names names k g)
 
   functions_are : facts.functions ≡ map name_id numbers
-  functions_are = ap (λ (f : Facts). f.functions) (says program names is.has_facts.ranks [] facts is.has_facts.facts_are).facts_are
+  functions_are = ap (λ (f : Facts). f.functions) (says program names is.has_facts.ranks (derived_for is.derive program) facts is.has_facts.facts_are).facts_are
 
   -- the number of a function's name
   record IsNumber (i : ℕ) (id : NameId) : Type 0 where

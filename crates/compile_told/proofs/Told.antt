@@ -15,7 +15,7 @@ use Rattle.facts_front.specs.Fronts.{IsSource}
 use Rattle.types_tree.specs.Tree.{Program}
 use Rattle.asm_items.specs.Placings.{base_of}
 use Rattle.plan_carried.specs.Sources.{source_behaviour}
-use Rattle.high_pass.specs.Listing.{LoopEntry, listing_of, mark_copies}
+use Rattle.high_pass.specs.Listing.{LoopEntry, mark_copies}
 use Rattle.claims_definition.specs.Listed.{Laid, by_address, claims_of, code_range, placing}
 use Rattle.claims_definition.proofs.Blocks.{order_below}
 use Rattle.claims_image.specs.Images.{laid_of}
@@ -33,9 +33,9 @@ use Rattle.report_text.specs.declared.entries.Share.{Share}
 use Rattle.report_text.specs.Reports.{Report}
 use Rattle.compile_claims.specs.Named.{named as renamed}
 use Rattle.compile_made.specs.declared.made.Made.{Made}
-use Rattle.compile_made.specs.Made.{IsMade}
+use Rattle.compile_made.specs.Made.{IsMade, copies_of, high_of}
 use Rattle.promise_report.specs.Facts.{AreFactLines, IsLoopLine, IsNeverLine, TellsFacts, places_told}
-use Rattle.compile_sizes.specs.Limits.{nothing}
+use Rattle.compile_kept.specs.Limits.{nothing}
 use Rattle.compile_reports.specs.Reported.{AreShared, IsReported}
 use Rattle.compile_reports.proofs.Openings.{functions_counted}
 use Rattle.compile_told.proofs.Copies.{names_told}
@@ -53,31 +53,31 @@ shared_got (Spent columns pivots) all shares h i s e = absurd (none-some s (ap (
 
 module _ (source : List ℕ) (names : List (List ℕ)) (program : Program) (facts : Facts) (m : Made) (t : Table) (r : Report) (is : IsSource source names program facts) (made : IsMade names program facts m) (reported : IsReported t names facts m r) where
   abbrev q : Low
-  q = low_of made.code.low
+  q = low_of m.code.low
 
   abbrev a : Assignment
-  a = assignment (placings_of made.code)
+  a = assignment (placings_of m.code)
 
   abbrev own : Laid
   own = laid_of nothing (placed a q)
 
   abbrev es : List LoopEntry
-  es = (listing_of m.copies).loops
+  es = (copies_of m).loops
 
   claims_are : r.claims ≡ renamed es (claims_of own)
   claims_are = reported.claims ∙ ap (renamed es) made.in_memory.laid.claimed.claims
 
-  many : length facts.functions ≡ length made.program.functions
+  many : length facts.functions ≡ length (high_of m).functions
   many = functions_counted source names program facts is ∙ sym made.carried.carries.functions
 
-  openings : (f : ℕ) → f < length made.program.functions → Contains (mark_copies (listing_of m.copies).marks f) f
+  openings : (f : ℕ) → f < length (high_of m).functions → Contains (mark_copies (copies_of m).marks f) f
   openings f low = made.carried.carries.openings f (subst (λ n. f < n) made.carried.carries.functions low)
 
   -- the function whose code a share has
   record HasCode (i : ℕ) (s : Share) : Type 0 where
     function : ℕ
     place : slice_get (by_address own) i ≡ Some function
-    name : s.name ≡ name_at names facts.functions made.program q made.lowered.keeps_program a nothing many function
+    name : s.name ≡ name_at names facts.functions (high_of m) q made.lowered.keeps_program a nothing many function
     first : s.first ≡ base_of (placing own) function
 
   has_code : (i : ℕ) (s : Share) → slice_get r.shares i ≡ Some s → HasCode i s
@@ -100,7 +100,7 @@ module _ (source : List ℕ) (names : List (List ℕ)) (program : Program) (fact
       let keeps = made.lowered.keeps_program in
       let kept = made.in_memory.keeps_low in
       let carries = made.carried.carries in
-      let marks = (listing_of m.copies).marks in
+      let marks = (copies_of m).marks in
       let loops = source_loops program facts in
       let places = m.laid.lists.places.items in
       record {
@@ -108,14 +108,14 @@ module _ (source : List ℕ) (names : List (List ℕ)) (program : Program) (fact
         facts_told = subst (λ (rs : List Restriction). AreFactLines facts (places_told facts r) rs r.claims.facts) (sym plain)
             (subst (λ (cs : List FactClaim). AreFactLines facts (places_told facts r) [] cs) (sym (ap (λ (c : Claims). c.facts) claims_are)) tt);
         loops = subst (λ (cs : List LoopClaim). All (IsLoopLine loops) cs) (sym (ap (λ (c : Claims). c.loops) claims_are))
-            (loops_lined loops (source_behaviour program names facts) refl made.program (listing_of m.copies) carries made.carried.is_high q keeps a own refl kept.loops);
+            (loops_lined loops (source_behaviour program names facts) refl (high_of m) (copies_of m) carries made.carried.is_high q keeps a own refl kept.loops);
         nevers = subst (λ (cs : List Never). All (IsNeverLine loops) cs) (sym (ap (λ (c : Claims). c.nevers) claims_are)) (All-nil (IsNeverLine loops));
         shares = λ i d lt.
             let s = slice_index_or r.shares i d in
             let h = has_code i s (slice_get-get_or r.shares i d lt) in
-            share_lined names facts.functions made.program q keeps a nothing many places made.in_memory.laid.lists.places facts.markers marks openings r.names reported.lines kept.marks kept.ranges s h.function h.name h.first;
+            share_lined names facts.functions (high_of m) q keeps a nothing many places made.in_memory.laid.lists.places facts.markers marks openings r.names reported.lines kept.marks kept.ranges s h.function h.name h.first;
         shares_apart = λ i j s u less e f same.
             let h = has_code i s e in
             let k = has_code j u f in
-            names_differ names facts.functions made.program q keeps a nothing many (functions_apart source names program facts is) kept.ranges (order_below own kept.claims.settled) i j h.function k.function less h.place k.place (sym h.name ∙ same ∙ k.name);
+            names_differ names facts.functions (high_of m) q keeps a nothing many (functions_apart source names program facts is) kept.ranges (order_below own kept.claims.settled) i j h.function k.function less h.place k.place (sym h.name ∙ same ∙ k.name);
       }

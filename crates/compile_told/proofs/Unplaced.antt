@@ -23,7 +23,7 @@ use Rattle.layout_sizes.specs.Items.{MovesItems, scratchpad_size}
 use Rattle.layout_sizes.specs.Laws.{AreSmall}
 use Rattle.layout_sizes.specs.Segments.{taken_in}
 use Rattle.promise_report.specs.Compiled.{scratchpad_taken}
-use Rattle.compile_sizes.specs.Limits.{nothing}
+use Rattle.compile_kept.specs.Limits.{nothing}
 
 -- no number is listed
 none_listed : (n : ℕ) → slice_index_or [] n false ≡ false

@@ -1,5 +1,5 @@
 -- The typed program of a source and its facts, or why it has none, in the order of these equations.
-use Rattle.std.specs.Prelude.{◌≡◌, ◌≢◌, ℕ, ◌≤◌, ◌<◌, List, [], length, Option, None, Some, Ok, slice_get}
+use Rattle.std.specs.Prelude.{◌≡◌, ◌≢◌, ℕ, ◌≤◌, ◌<◌, Bool, true, false, List, [], length, Option, None, Some, Ok, slice_get}
 use Rattle.c_tree.specs.declared.token.Token.{Token}
 use Rattle.c_tree.specs.Names.{name_of, names_of_unit}
 use Rattle.c_tree.specs.Named.{named_unit}
@@ -19,9 +19,11 @@ use Rattle.types_rules.specs.declared.fault.TypeFault.TheVariants as typing
 use Rattle.types_calls.specs.Calls.{graph_of}
 use Rattle.types_calls.specs.Chains.{AreRanks, IsCallFault}
 use Rattle.facts_definitions.specs.FlowFacts.{flow_facts, IsFlowFault}
+use Rattle.facts_definitions.specs.declared.facts.Derived.{Derived}
 use Rattle.facts_definitions.specs.declared.facts.Facts.{Facts}
 use Rattle.facts_definitions.specs.declared.facts.FlowFault.{FlowFault}
 use Rattle.facts_definitions.specs.declared.facts.FlowFault.TheVariants as flowing
+use Rattle.facts_counting.specs.Loops.{derived_of}
 use Rattle.types_calls.specs.declared.ranks.CallFault.{CallFault}
 use Rattle.types_calls.specs.declared.ranks.CallFault.TheVariants as calling
 use Rattle.types_calls.specs.declared.ranks.Ranks.{Ranks}
@@ -44,15 +46,27 @@ pub record HasProgram (source : List ℕ) (names : List (List ℕ)) (program : P
   pub passes : fault_of names unit ≡ None
   pub program_is : program ≡ typed_of names unit
 
+-- the bounds that are derived for counting loops without a pragma, where they are asked for
+abbrev pub derived_for : (derive : Bool) → Program → List Derived
+derived_for true program = derived_of program
+derived_for false program = []
+
 -- no function of the program reaches itself, each of its loops has a bound, and these are its facts
-pub record HasFacts (program : Program) (names : List (List ℕ)) (facts : Facts) : Type 0 where
+pub record HasFacts (derive : Bool) (program : Program) (names : List (List ℕ)) (facts : Facts) : Type 0 where
   pub ranks : Ranks
   pub are_ranks : AreRanks (graph_of program) ranks.of_functions
-  pub facts_are : flow_facts program names ranks [] ≡ Ok facts
+  pub facts_are : flow_facts program names ranks (derived_for derive program) ≡ Ok facts
 
-pub record IsSource (source : List ℕ) (names : List (List ℕ)) (program : Program) (facts : Facts) : Type 0 where
+-- where bounds are derived, or aren't
+pub record IsSourceBy (derive : Bool) (source : List ℕ) (names : List (List ℕ)) (program : Program) (facts : Facts) : Type 0 where
   pub has_program : HasProgram source names program
-  pub has_facts : HasFacts program names facts
+  pub has_facts : HasFacts derive program names facts
+
+-- in one of these ways
+pub record IsSource (source : List ℕ) (names : List (List ℕ)) (program : Program) (facts : Facts) : Type 0 where
+  pub derive : Bool
+  pub has_program : HasProgram source names program
+  pub has_facts : HasFacts derive program names facts
 
 -- the place of a token, or the end where there is no such token
 abbrev pub place_or : Option Token → (end : ℕ) → ℕ
@@ -95,25 +109,25 @@ pub record RefusesCalls (source : List ℕ) (fault : CallFault) (at : ℕ) : Typ
   pub refused : IsCallFault fault (graph_of program)
   pub at_is : at ≡ cycle_place fault program
 
-pub record RefusesFlow (source : List ℕ) (fault : FlowFault) : Type 0 where
+pub record RefusesFlow (derive : Bool) (source : List ℕ) (fault : FlowFault) : Type 0 where
   pub names : List (List ℕ)
   pub program : Program
   pub has : HasProgram source names program
   pub ranks : Ranks
   pub are_ranks : AreRanks (graph_of program) ranks.of_functions
-  pub refused : IsFlowFault fault (flow_facts program names ranks [])
+  pub refused : IsFlowFault fault (flow_facts program names ranks (derived_for derive program))
 
 -- why a source has no program with facts. Want of memory is no cause: it says nothing of a source
-abbrev pub RefusesSource : List ℕ → Refusal → Type 0
-RefusesSource source TooLong = 1048576 < length source
-RefusesSource source (Lex fault) = (fault ≢ lexing.Memory) × StopsAt fault source
-RefusesSource source (Parse fault at) = (fault ≢ parsing.Memory) × RefusesTokens source fault at
-RefusesSource source (Types fault) = (fault ≢ typing.Memory) × RefusesUnit source fault
-RefusesSource source (Calls fault at) = (fault ≢ calling.Memory) × RefusesCalls source fault at
-RefusesSource source (Flow fault) = (fault ≢ flowing.Memory) × RefusesFlow source fault
-RefusesSource source Memory = ⊥
+abbrev pub RefusesSource : (derive : Bool) → List ℕ → Refusal → Type 0
+RefusesSource derive source TooLong = 1048576 < length source
+RefusesSource derive source (Lex fault) = (fault ≢ lexing.Memory) × StopsAt fault source
+RefusesSource derive source (Parse fault at) = (fault ≢ parsing.Memory) × RefusesTokens source fault at
+RefusesSource derive source (Types fault) = (fault ≢ typing.Memory) × RefusesUnit source fault
+RefusesSource derive source (Calls fault at) = (fault ≢ calling.Memory) × RefusesCalls source fault at
+RefusesSource derive source (Flow fault) = (fault ≢ flowing.Memory) × RefusesFlow derive source fault
+RefusesSource derive source Memory = ⊥
 
 -- why a source was not read: it is refused, or memory ran out
-abbrev pub Fails : List ℕ → Refusal → Type 0
-Fails source Memory = Unit {0}
-Fails source refusal = RefusesSource source refusal
+abbrev pub Fails : (derive : Bool) → List ℕ → Refusal → Type 0
+Fails derive source Memory = Unit {0}
+Fails derive source refusal = RefusesSource derive source refusal

@@ -8,7 +8,7 @@ use types_tree::expression::Expr;
 use types_value::Undefined;
 
 /// Whether an expression is built of constants, casts and operators.
-fn is_constant(expr: &Expr) -> bool
+pub fn is_constant(expr: &Expr) -> bool
     ensures { result ≡ is_constant (expr_of expr.now) }
 {
     match expr {

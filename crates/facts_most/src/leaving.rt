@@ -10,7 +10,7 @@ use types_tree::statement::{Item, Statement};
 
 /// Whether a statement may leave a loop: by a `return`, or by a `break` that is the loop's own.
 #[cycle(leaving)]
-fn leaves(own: bool, statement: &Statement) -> bool
+pub fn leaves(own: bool, statement: &Statement) -> bool
     ensures { result ≡ leaves own (statement_of statement.now) }
 {
     match statement {

@@ -1,6 +1,6 @@
 //! The words of constants, how often a loop starts, and how often the nodes of a program are executed at most (C11 6.6, 6.8.5).
 //!
-//! Proved: `word`, `is_always`, `starts` and `most_of_functions` answer what `facts_definitions` defines; counts are cut at 2^64 - 1. Each node is
+//! Proved: `is_constant`, `word`, `is_always`, `leaves`, `starts` and `most_of_functions` answer what `facts_definitions` defines; counts are cut at 2^64 - 1. Each node is
 //! visited once, since a function comes behind those that it calls.
 //!
 //! This crate knows nothing of pragmas: it is given the bounds of the loops by their numbers.
@@ -13,6 +13,6 @@ mod functions;
 mod leaving;
 mod sums;
 
-pub use constant::{is_always, word};
+pub use constant::{is_always, is_constant, word};
 pub use functions::most_of_functions;
-pub use leaving::starts;
+pub use leaving::{leaves, starts};

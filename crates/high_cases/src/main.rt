@@ -1,15 +1,20 @@
 //! Says what the parts of the high form come to: a program for tests.
 //!
-//! Operators at the ends of their ranges; the size and the loops of a program; and the copies of a pass that makes the same
-//! again, behind a pass that copied mark 5. What is printed was worked out by hand.
+//! Operators at the ends of their ranges; the size and the loops of a program; the copies of a pass that makes the same again,
+//! behind a pass that copied mark 5; and for each program that is folded its sizes, the value of its run, and the copies of its
+//! marks and loops. What is printed was worked out by hand.
 #![tactic(auto)]
 
+mod folding;
 mod passes;
 mod programs;
 
+use high_eval::evaluate;
+use high_fold::Fold;
 use high_ir::expression::BinaryOperator;
 use high_ir::object::Kind;
-use high_ir::{Copies, loops, size};
+use high_ir::{Copies, High, loops, size};
+use high_pass::Pass;
 use std::alloc::{AllocError, Global};
 use std::io;
 
@@ -33,6 +38,46 @@ fn marks_of(alloc: Global, copies: &Copies) -> Result<String, AllocError> {
     Ok(line)
 }
 
+/// The copies of each loop.
+fn loops_of(alloc: Global, copies: &Copies) -> Result<String, AllocError> {
+    let mut line = String::new(alloc);
+    for entry in &copies.loops {
+        let one = format!(in alloc; " {}:", entry.old)?;
+        line.push_str(one.as_str())?;
+        for copy in &entry.new {
+            let one = format!(in alloc; " {} by {}", copy.id, copy.factor)?;
+            line.push_str(one.as_str())?;
+        }
+    }
+    Ok(line)
+}
+
+/// The value of the run on no input.
+fn value_of(alloc: Global, program: &High) -> Option<u32> {
+    match evaluate(alloc, program, &[]) {
+        Ok(Some(run)) => Some(run.value),
+        _ => None,
+    }
+}
+
+/// What a program is folded to.
+fn folded(alloc: Global, program: &High) -> Result<String, AllocError> {
+    match Fold.run(alloc, program) {
+        Err(_) => Err(AllocError),
+        Ok(made) => {
+            let marks = marks_of(alloc, &made.copies)?;
+            let loops = loops_of(alloc, &made.copies)?;
+            let value = value_of(alloc, &made.program);
+            Ok(format!(in alloc;
+                "size {} to {} value {:?} marks{marks} loops{loops}",
+                size(program),
+                size(&made.program),
+                value
+            )?)
+        }
+    }
+}
+
 fn main(rt: HostRuntime) -> io::Result<()> {
     let alloc = rt.alloc();
     for (operator, left, right) in &OPERATIONS {
@@ -45,5 +90,8 @@ fn main(rt: HostRuntime) -> io::Result<()> {
         Ok(copies) => println!(rt; "marks{}", marks_of(alloc, &copies)?)?,
         Err(_) => println!(rt; "no memory")?,
     }
+    println!(rt; "{}", folded(alloc, &folding::test_that_holds(alloc)?)?)?;
+    println!(rt; "{}", folded(alloc, &folding::marker_left_out(alloc)?)?)?;
+    println!(rt; "{}", folded(alloc, &folding::loop_left_out(alloc)?)?)?;
     Ok(())
 }

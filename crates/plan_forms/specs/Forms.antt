@@ -3,6 +3,7 @@ use Rattle.std.specs.Prelude.{◌≡◌, ℕ, suc, ◌+◌, ◌≤◌, ◌<◌, 
 use Rattle.types_tree.specs.declared.expression.Callee.{Callee}
 use Rattle.types_tree.specs.declared.expression.Callee.TheVariants.{Getchar, Putchar, Function as Own}
 use Rattle.types_tree.specs.Tree as c
+use Rattle.plan_trees.specs.Everywhere.{AllHold, Holds, InitialHolds, OptionHolds, PlaceHolds, plain_place}
 use Rattle.high_ir.specs.Tree.{Statement, Set, Put, Get, Keep, Mark, Seq, If, Loop, Block, Leave, Call, Return, Statements, End, Then}
 
 -- what may be called, the marks from which number on up to which, and whether there may be loops
@@ -40,43 +41,24 @@ CalleeAllowed limits (Own function) = limits.callable function.0 ≡ true
 
 -- typed trees that call and mark what they may
 module _ (limits : Limits) where
-  abbrev mutual
-    pub PlaceAllowed : c.Place → Type 0
-    PlaceAllowed (c.Scalar object at) = Unit {0}
-    PlaceAllowed (c.Element array index at) = Allowed index
-    PlaceAllowed (c.Within inner at) = PlaceAllowed inner
+  abbrev pub allowed_at : c.Expr → Type 0 → Type 0
+  allowed_at (c.Call callee arguments at) parts = parts × CalleeAllowed limits callee
+  allowed_at node parts = parts
 
-    pub Allowed : c.Expr → Type 0
-    Allowed (c.Number constant at) = Unit {0}
-    Allowed (c.Character word at) = Unit {0}
-    Allowed (c.Read place) = PlaceAllowed place
-    Allowed (c.Array object at) = Unit {0}
-    Allowed (c.Paren inner at) = Allowed inner
-    Allowed (c.Call callee arguments at) = AllAllowed arguments × CalleeAllowed limits callee
-    Allowed (c.Step fix operator kind target at) = PlaceAllowed target
-    Allowed (c.Signed operator kind operand at) = Allowed operand
-    Allowed (c.Cast specifiers to operand at) = Allowed operand
-    Allowed (c.Convert to operand) = Allowed operand
-    Allowed (c.Operate operator kind left right at) = Allowed left × Allowed right
-    Allowed (c.And left right at) = Allowed left × Allowed right
-    Allowed (c.Or left right at) = Allowed left × Allowed right
-    Allowed (c.Comma left right at) = Allowed left × Allowed right
-    Allowed (c.Conditional test first second at) = Allowed test × Allowed first × Allowed second
-    Allowed (c.Assign target value at) = PlaceAllowed target × Allowed value
-    Allowed (c.Update operator kind to target value at) = PlaceAllowed target × Allowed value
+  abbrev pub PlaceAllowed : c.Place → Type 0
+  PlaceAllowed = PlaceHolds plain_place allowed_at
 
-    pub AllAllowed : c.Exprs → Type 0
-    AllAllowed c.NoExpr = Unit {0}
-    AllAllowed (c.WithExpr first rest) = Allowed first × AllAllowed rest
+  abbrev pub Allowed : c.Expr → Type 0
+  Allowed = Holds plain_place allowed_at
+
+  abbrev pub AllAllowed : c.Exprs → Type 0
+  AllAllowed = AllHold plain_place allowed_at
 
   abbrev pub OptionAllowed : Option c.Expr → Type 0
-  OptionAllowed None = Unit {0}
-  OptionAllowed (Some e) = Allowed e
+  OptionAllowed = OptionHolds plain_place allowed_at
 
   abbrev pub InitialAllowed : c.Initial → Type 0
-  InitialAllowed c.Absent = Unit {0}
-  InitialAllowed (c.Value e) = Allowed e
-  InitialAllowed (c.Listed values comma filling) = AllAllowed values
+  InitialAllowed = InitialHolds plain_place allowed_at
 
   abbrev pub ObjectsAllowed : List c.Object → Type 0
   ObjectsAllowed [] = Unit {0}

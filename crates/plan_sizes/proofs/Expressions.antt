@@ -101,25 +101,25 @@ module _ (rates : Rates) (callee calls : ℕ → ℕ) (planned bounds : List Bou
         let y = (made homes (Unless 0) right (k + 1)).code in
         let a = node * expr_most calls left in
         let b = node * expr_most calls right in
-        omega (arith, noted_cost k 0 1 (joined x y) (a + b) (jumps_cost x y a b (omega (arith, may.2, made_fits (Unless 0) left (k + 1) may.0)) (omega (arith, may.3, made_fits (Unless 0) right (k + 1) may.1))))
+        omega (arith, noted_cost k 0 1 (joined x y) (a + b) (jumps_cost x y a b (omega (arith, may.1, made_fits (Unless 0) left (k + 1) may.0.0)) (omega (arith, may.2, made_fits (Unless 0) right (k + 1) may.0.1))))
     made_fits Effect (c.And left right at) k may =
-        omega (arith, covers.some, jumps_of left (made homes (Unless 0) left k) (made_fits (Unless 0) left k may.0), effect_of right (made homes Effect right k) (made_fits Effect right k may.1), cost-joined rates callee (made homes (Unless 0) left k).code (made homes Effect right k).code)
+        omega (arith, covers.some, jumps_of left (made homes (Unless 0) left k) (made_fits (Unless 0) left k may.0.0), effect_of right (made homes Effect right k) (made_fits Effect right k may.0.1), cost-joined rates callee (made homes (Unless 0) left k).code (made homes Effect right k).code)
     made_fits (Unless depth) (c.And left right at) k may =
-        omega (arith, covers.some, jumps_of left (made homes (Unless depth) left k) (made_fits (Unless depth) left k may.0), jumps_of right (made homes (Unless depth) right k) (made_fits (Unless depth) right k may.1), cost-joined rates callee (made homes (Unless depth) left k).code (made homes (Unless depth) right k).code)
+        omega (arith, covers.some, jumps_of left (made homes (Unless depth) left k) (made_fits (Unless depth) left k may.0.0), jumps_of right (made homes (Unless depth) right k) (made_fits (Unless depth) right k may.0.1), cost-joined rates callee (made homes (Unless depth) left k).code (made homes (Unless depth) right k).code)
     made_fits (When depth) (c.And left right at) k may =
-        omega (arith, covers.some, jumps_of left (made homes (Unless 0) left k) (made_fits (Unless 0) left k may.0), jumps_of right (made homes (When (suc depth)) right k) (made_fits (When (suc depth)) right k may.1), cost-joined rates callee (made homes (Unless 0) left k).code (made homes (When (suc depth)) right k).code)
+        omega (arith, covers.some, jumps_of left (made homes (Unless 0) left k) (made_fits (Unless 0) left k may.0.0), jumps_of right (made homes (When (suc depth)) right k) (made_fits (When (suc depth)) right k may.0.1), cost-joined rates callee (made homes (Unless 0) left k).code (made homes (When (suc depth)) right k).code)
     made_fits Value (c.Or left right at) k may =
         let x = (made homes (When 0) left (k + 1)).code in
         let y = (made homes (When 0) right (k + 1)).code in
         let a = node * expr_most calls left in
         let b = node * expr_most calls right in
-        omega (arith, noted_cost k 1 0 (joined x y) (a + b) (jumps_cost x y a b (omega (arith, may.2, made_fits (When 0) left (k + 1) may.0)) (omega (arith, may.3, made_fits (When 0) right (k + 1) may.1))))
+        omega (arith, noted_cost k 1 0 (joined x y) (a + b) (jumps_cost x y a b (omega (arith, may.1, made_fits (When 0) left (k + 1) may.0.0)) (omega (arith, may.2, made_fits (When 0) right (k + 1) may.0.1))))
     made_fits Effect (c.Or left right at) k may =
-        omega (arith, covers.some, jumps_of left (made homes (When 0) left k) (made_fits (When 0) left k may.0), effect_of right (made homes Effect right k) (made_fits Effect right k may.1), cost-joined rates callee (made homes (When 0) left k).code (made homes Effect right k).code)
+        omega (arith, covers.some, jumps_of left (made homes (When 0) left k) (made_fits (When 0) left k may.0.0), effect_of right (made homes Effect right k) (made_fits Effect right k may.0.1), cost-joined rates callee (made homes (When 0) left k).code (made homes Effect right k).code)
     made_fits (Unless depth) (c.Or left right at) k may =
-        omega (arith, covers.some, jumps_of left (made homes (When 0) left k) (made_fits (When 0) left k may.0), jumps_of right (made homes (Unless (suc depth)) right k) (made_fits (Unless (suc depth)) right k may.1), cost-joined rates callee (made homes (When 0) left k).code (made homes (Unless (suc depth)) right k).code)
+        omega (arith, covers.some, jumps_of left (made homes (When 0) left k) (made_fits (When 0) left k may.0.0), jumps_of right (made homes (Unless (suc depth)) right k) (made_fits (Unless (suc depth)) right k may.0.1), cost-joined rates callee (made homes (When 0) left k).code (made homes (Unless (suc depth)) right k).code)
     made_fits (When depth) (c.Or left right at) k may =
-        omega (arith, covers.some, jumps_of left (made homes (When depth) left k) (made_fits (When depth) left k may.0), jumps_of right (made homes (When depth) right k) (made_fits (When depth) right k may.1), cost-joined rates callee (made homes (When depth) left k).code (made homes (When depth) right k).code)
+        omega (arith, covers.some, jumps_of left (made homes (When depth) left k) (made_fits (When depth) left k may.0.0), jumps_of right (made homes (When depth) right k) (made_fits (When depth) right k may.0.1), cost-joined rates callee (made homes (When depth) left k).code (made homes (When depth) right k).code)
     made_fits purpose (c.Comma left right at) k may =
         comma_fits purpose (made homes Effect left k).code (made homes purpose right k) (node * expr_most calls left) (node * expr_most calls right) (node * (1 + (expr_most calls left + expr_most calls right)) + 0)
         (omega (arith, effect_of left (made homes Effect left k) (made_fits Effect left k may.0))) (wider rates callee purpose (made homes purpose right k) (allowed right) (node * expr_most calls right + 1) (omega (arith, slack_most right)) (made_fits purpose right k may.1)) (omega arith)

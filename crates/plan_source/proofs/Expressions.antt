@@ -126,8 +126,8 @@ operated_plain (Some operator) a b left right at s t h k =
 
 joint_plain : (left right : typed.Expr) (at : ℕ) (s t : Size) → Plain left s → Plain right t → Plain (typed.And left right at) (over_two s t) × Plain (typed.Or left right at) (over_two s t)
 joint_plain left right at s t h k = (
-  record { plain = refl; part = record { single = (h.part.single, k.part.single, h.plain, k.plain); levels_are = omega (arith, h.part.levels_are, k.part.levels_are); nodes_are = omega (arith, h.part.nodes_are, k.part.nodes_are) } },
-  record { plain = refl; part = record { single = (h.part.single, k.part.single, h.plain, k.plain); levels_are = omega (arith, h.part.levels_are, k.part.levels_are); nodes_are = omega (arith, h.part.nodes_are, k.part.nodes_are) } },
+  record { plain = refl; part = record { single = ((h.part.single, k.part.single), h.plain, k.plain); levels_are = omega (arith, h.part.levels_are, k.part.levels_are); nodes_are = omega (arith, h.part.nodes_are, k.part.nodes_are) } },
+  record { plain = refl; part = record { single = ((h.part.single, k.part.single), h.plain, k.plain); levels_are = omega (arith, h.part.levels_are, k.part.levels_are); nodes_are = omega (arith, h.part.nodes_are, k.part.nodes_are) } },
 )
 
 binary_plain : (operator : BinaryOperator) (a b : Kind) (left right : typed.Expr) (at : ℕ) (s t : Size) → Plain left s → Plain right t → Plain (typed_binary operator a b left right at) (over_two s t)

@@ -7,6 +7,8 @@ use rv_core::{Costs, Image};
 #[derive(Clone, Copy)]
 pub struct Options {
     pub costs: Costs,
+    /// Whether bounds of counting loops are derived.
+    pub derive: bool,
 }
 
 /// What a source is compiled to.

@@ -15,11 +15,11 @@ use std::alloc::Global;
 pub trait Compiler {
     /// The image of a source, and the report on it, or why there is none.
     fn compile(&self, alloc: Global, source: &[u8], options: &Options) -> Result<Built, Refusal>
-        ensures ok { IfOk result (λ b. IsCompiled (table_of options.now.costs) source.now (text_of b.image) (report_text b.report) b.report) }
+        ensures ok { IfOk result (λ b. IsCompiled options.now.derive (table_of options.now.costs) source.now (text_of b.image) (report_text b.report) b.report) }
         // No run that keeps within the bound ends at a limit of cycles.
         ensures cycles { IfOk result (λ b. b.report.cert.cycles ≤ 2 ^ 62) }
         // Of a source within its limit, both texts are within those of `check`.
         ensures short { IfOk result (λ b. length source.now ≤ 1048576 → AreShort (text_of b.image) (report_text b.report)) }
-        ensures form { IsRestricted source.now → IfOk result (λ b. ⊥) }
-        ensures err { IfErr result (Fails source.now) };
+        ensures form { IsRestricted options.now.derive source.now → IfOk result (λ b. ⊥) }
+        ensures err { IfErr result (Fails options.now.derive source.now) };
 }

@@ -1,5 +1,5 @@
 -- What `compile` promises of the image and the report that it writes for a source.
-use Rattle.std.specs.Prelude.{◌≡◌, ◌⊎◌, ℕ, ◌+◌, ◌<◌, List, [], ◌∷◌, true, Contains, All, if◌then◌else◌}
+use Rattle.std.specs.Prelude.{◌≡◌, ◌⊎◌, ℕ, ◌+◌, ◌<◌, List, [], ◌∷◌, Bool, true, Contains, All, if◌then◌else◌}
 use Rattle.rv_core.specs.declared.image.Segment.{Segment}
 use Rattle.rv_core.specs.declared.regions.Region.{Region}
 use Rattle.rv_core.specs.declared.regions.Region.TheVariants.{Spm}
@@ -14,7 +14,7 @@ use Rattle.code_flow_system.specs.declared.moves.Move.{Move}
 use Rattle.code_flow_system.specs.MoveCosts.{lies_within, names}
 use Rattle.code_flow_system.specs.Systems.{System}
 use Rattle.facts_definitions.specs.declared.facts.Facts.{Facts}
-use Rattle.facts_front.specs.Fronts.{IsSource}
+use Rattle.facts_front.specs.Fronts.{IsSourceBy}
 use Rattle.types_tree.specs.Tree.{Program}
 use Rattle.path_answer.specs.declared.bounded.Kind.TheVariants.{Greatest, Empty}
 use Rattle.report_check.specs.Checks.{Holds}
@@ -44,13 +44,13 @@ pub record IsLined (image : Image) (lines : List Within) (m : Move) : Type 0 whe
 abbrev pub AreLined : Image → Report → System → Type 0
 AreLined image r s = All (λ (m : Move). accesses (row_of m.instr.op).class ≡ true → IsLined image r.claims.regions m) s.moves
 
--- the source of these bytes, the texts of an image and a report, and the costs with which they were made
-pub record IsCompiled (costs : Table) (source image_text report_text : List ℕ) (report : Report) : Type 0 where
+-- the source of these bytes, the texts of an image and a report, and whether bounds were derived and the costs with which they were made
+pub record IsCompiled (derive : Bool) (costs : Table) (source image_text report_text : List ℕ) (report : Report) : Type 0 where
   -- the source's typed program, and its facts
   pub names : List (List ℕ)
   pub program : Program
   pub facts : Facts
-  pub is_source : IsSource source names program facts
+  pub is_source : IsSourceBy derive source names program facts
   -- the image that is written
   pub image : Image
   pub text_is : image_text ≡ text_of image

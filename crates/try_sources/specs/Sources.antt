@@ -1,5 +1,5 @@
 -- What becomes of a source.
-use Rattle.std.specs.Prelude.{◌≡◌, ℕ, List}
+use Rattle.std.specs.Prelude.{◌≡◌, ℕ, false, List}
 use Rattle.types_tree.specs.Tree.{Program}
 use Rattle.facts_definitions.specs.FlowFacts.{main_of}
 use Rattle.facts_definitions.specs.declared.facts.Facts.{Facts}
@@ -18,7 +18,7 @@ use Rattle.try_sources.specs.declared.fault.Fault.TheVariants.{Usage, Files, Ref
 -- there is a cause to refuse it
 pub record IsRefused (source : List ℕ) : Type 0 where
   pub refusal : Refusal
-  pub refuses : RefusesSource source refusal
+  pub refuses : RefusesSource false source refusal
 
 -- why there is nothing to say of it; want of memory says nothing of it
 abbrev pub Fails : List ℕ → Fault → Type 0

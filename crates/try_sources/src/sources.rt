@@ -1,5 +1,5 @@
 // From the bytes of a source to its program and its meaning.
-ghost use Rattle.std.specs.Prelude.{ℕ, List, IfErr, IfOk};
+ghost use Rattle.std.specs.Prelude.{ℕ, false, List, IfErr, IfOk};
 ghost use Rattle.facts_front.specs.Fronts.{IsSource, Fails as IsUnread};
 ghost use Rattle.types_tree.specs.View.{program_of};
 ghost use Rattle.try_sources.specs.Sources.{Fails, IsMade, IsMeant};
@@ -13,7 +13,7 @@ use meaning_semantics::SourceRun;
 use std::alloc::Global;
 
 fn fault_of(refusal: &Refusal) -> Fault
-    ensures { (source : List ℕ) → IsUnread source refusal.now → Fails source result }
+    ensures { (source : List ℕ) → IsUnread false source refusal.now → Fails source result }
 {
     match refusal {
         Refusal::Memory => Fault::Memory,
@@ -22,11 +22,12 @@ fn fault_of(refusal: &Refusal) -> Fault
 }
 
 /// The typed program of a source, and its facts.
+#[tactic(auto, using(facts_front::proofs::Ways::one_way))]
 pub fn read(alloc: Global, text: &[u8]) -> Result<Source, Fault>
     ensures source { IfOk result (λ s. IsSource text.now s.typed.program.names.items (program_of s.typed.program) s.facts) }
     ensures err { IfErr result (Fails text.now) }
 {
-    match read_source(alloc, text) {
+    match read_source(alloc, text, false) {
         Ok(source) => Ok(source),
         Err(refusal) => {
             let fault = fault_of(&refusal);

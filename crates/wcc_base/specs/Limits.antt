@@ -1,7 +1,7 @@
 -- The largest inputs that the compiler takes.
 use Rattle.std.specs.Prelude.{ℕ, ◌-◌, ◌^◌}
 use Rattle.wcc_base.specs.declared.limits.Bound.{Bound}
-use Rattle.wcc_base.specs.declared.limits.Bound.TheVariants.{Source, Table, Image, Report, Input, Depth, Nodes, Functions, Parameters, Markers, Restrictions, Globals, Locals, Most}
+use Rattle.wcc_base.specs.declared.limits.Bound.TheVariants.{Source, Table, Image, Report, Input, Tasks, Depth, Nodes, Functions, Parameters, Markers, Restrictions, Globals, Locals, Most}
 
 -- the greatest number that passes
 abbrev pub greatest_of : Bound → ℕ
@@ -10,6 +10,7 @@ greatest_of Table = 65_536
 greatest_of Image = 16_777_216
 greatest_of Report = 536_870_912
 greatest_of Input = 16_777_216
+greatest_of Tasks = 65_536
 greatest_of Depth = 256
 greatest_of Nodes = 16_384
 greatest_of Functions = 256

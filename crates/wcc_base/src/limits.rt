@@ -15,6 +15,8 @@ pub enum Bound {
     Report,
     /// Bytes of the input of a run.
     Input,
+    /// Bytes of a list of tasks.
+    Tasks,
     /// Depth of the source's tree.
     Depth,
     /// Nodes of the source's tree.
@@ -45,6 +47,7 @@ pub fn limit_of(which: Bound) -> u64
         Bound::Image => 16_777_216,
         Bound::Report => 536_870_912,
         Bound::Input => 16_777_216,
+        Bound::Tasks => 65_536,
         Bound::Depth => 256,
         Bound::Nodes => 16_384,
         Bound::Functions => 256,

@@ -1,4 +1,2 @@
-pub mod Values
-pub mod Lines
 pub mod Reports
 pub mod Shared

@@ -7,10 +7,10 @@ use Rattle.facts_front.specs.declared.reading.Source.{Source}
 use Rattle.report_text.specs.Forms.{IsReport}
 use Rattle.compile_made.specs.declared.made.Made.{Made}
 use Rattle.compile_reports.specs.Laws.{ReportedAreReports}
-use Rattle.wcc_compile.specs.declared.finding.Found.{Found}
-use Rattle.wcc_compile.specs.declared.telling.Told.{Told}
-use Rattle.wcc_compile.specs.Found.{HasBound, IsTold, joined_report}
-use Rattle.wcc_compile.specs.Sources.{IsMadeOf, IsReportOn, names_of, tree_of}
+use Rattle.compile_reporting.specs.declared.finding.Found.{Found}
+use Rattle.compile_reporting.specs.declared.telling.Told.{Told}
+use Rattle.compile_reporting.specs.Found.{HasBound, IsTold, joined_report}
+use Rattle.compile_reporting.specs.Sources.{IsMadeOf, IsReportOn, names_of, tree_of}
 
 module _ (t : Table) (s : Source) (m : Made) (told : Told) (found : Found) (is_told : IsTold s m told) (has : HasBound t s m found) where
   pub is_reported : IsReportOn t s m (joined_report told found)

@@ -1,5 +1,5 @@
 -- What is reported of a source is what `compile` promises.
-use Rattle.std.specs.Prelude.{◌≡◌, ℕ, List, []}
+use Rattle.std.specs.Prelude.{◌≡◌, ℕ, Bool, List, []}
 use Rattle.rv_core.specs.Table.{Table}
 use Rattle.elf_image.specs.Loading.{IsLoadable, image_of}
 use Rattle.elf_image.specs.Text.{text_of}
@@ -8,7 +8,7 @@ use Rattle.report_text.specs.Lines.{report_text}
 use Rattle.report_text.specs.Reports.{Report}
 use Rattle.promise_report.specs.Compiled.{IsCompiled}
 use Rattle.facts_definitions.specs.declared.facts.Facts.{Facts}
-use Rattle.facts_front.specs.Fronts.{IsSource}
+use Rattle.facts_front.specs.Fronts.{IsSourceBy}
 use Rattle.types_tree.specs.Tree.{Program}
 use Rattle.compile_made.specs.declared.made.Made.{Made}
 use Rattle.compile_made.specs.Made.{IsMade}
@@ -22,5 +22,5 @@ pub record LoadsAsItself (m : Made) : Type 0 where
 -- where the source has no restrictions, and image and report have the ranges of their types
 abbrev pub ReportedAreCompiled : Type 0
 ReportedAreCompiled =
-    (source : List ℕ) (names : List (List ℕ)) (program : Program) (facts : Facts) (m : Made) (t : Table) (r : Report) → facts.restrictions ≡ [] → IsSource source names program facts → IsMade names program facts m → IsReported t names facts m r → LoadsAsItself m → IsTyped r
-    → IsCompiled t source (text_of m.laid.image) (report_text r) r
+    (derive : Bool) (source : List ℕ) (names : List (List ℕ)) (program : Program) (facts : Facts) (m : Made) (t : Table) (r : Report) → facts.restrictions ≡ [] → IsSourceBy derive source names program facts → IsMade names program facts m → IsReported t names facts m r → LoadsAsItself m → IsTyped r
+    → IsCompiled derive t source (text_of m.laid.image) (report_text r) r

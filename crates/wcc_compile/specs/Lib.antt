@@ -1,3 +1,2 @@
-pub mod Sources
-pub mod Found
 pub mod Laws
+pub mod Built

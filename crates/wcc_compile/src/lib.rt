@@ -1,26 +1,28 @@
 //! From the bytes of a source to its image and the report on it.
 //!
-//! `src/stages.rt` is the list of the stages behind the source: its plan, the low form, the image, what is told of the source,
-//! the bound of the image's flow system, the report. A stage that comes in is one line there.
+//! `src/stages.rt` is the list of the stages behind the source: its plan, the passes, the low form, the image, what is told of the
+//! source, the bound of the image's flow system, the report. A stage that comes in is one line there.
 //!
 //! Proved: what [`compile`] answers is what `promise_report` promises (`IsCompiled`): on every input on which the run of the
 //! source is defined and keeps its annotations the image prints and returns what the source does, within the cycles of the
 //! report; the report tells the facts of the source, and the checker accepts it with the image, which both are short enough to
-//! be read by it. `Form` is answered exactly
-//! where the source has a restriction, and `Front` with the cause for which it has no program with facts; memory alone is
-//! left open.
+//! be read by it. `Form` is answered exactly where the source has a restriction, and `Front` with the cause for which it has no
+//! program with facts; memory alone is left open.
 //!
-//! [`WccCompiler`] is this call as the commands ask for it. The crate knows no files and no status, and no stage from within.
+//! [`Built`] keeps what the source was on the way, and each step is made of the one before it (`specs/Built`): no pass is left
+//! out, the code is that of the last program with each function once, the report has the image's claims and no others.
+//!
+//! [`WccCompiler`] is this call as the commands ask for it: the image and the report alone. The crate knows no files and no
+//! status, and no stage from within.
 #![tactic(auto)]
 
+mod built;
 mod compiler;
 mod compiling;
-mod finding;
-mod joining;
 mod laws;
 mod stages;
-mod telling;
 
+pub use built::Built;
 pub use compiler::WccCompiler;
 pub use compiling::compile;
 pub use laws::reported_are_compiled;

@@ -1,6 +1,6 @@
-use Rattle.high_pass.specs.Listing.{listing_of}
 use Rattle.compile_bounds.proofs.Bounds.{has_system}
 use Rattle.compile_bounds.proofs.made_have_systems.Goals as goal
+use Rattle.compile_made.specs.Made.{copies_of}
 
 pub returns : goal.returns
-returns c = λ source names program facts m fault is made. has_system made.code m.laid made.in_memory (listing_of m.copies).loops fault
+returns c = λ source names program facts m fault is made. has_system m.code m.laid made.in_memory (copies_of m).loops fault

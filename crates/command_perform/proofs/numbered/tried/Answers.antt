@@ -1,4 +1,4 @@
-use Rattle.std.proofs.Common.{List, ℕ, subst}
+use Rattle.std.proofs.Common.{List, ℕ, false, subst}
 use Rattle.rv_core.specs.Table.{default_table}
 use Rattle.command_words.specs.Held.{make_request}
 use Rattle.command_perform.specs.Compiling.{Compiles}
@@ -7,6 +7,6 @@ use Rattle.command_perform.proofs.numbered.tried.Goals as goal
 
 pub returns : goal.returns
 returns c =
-    let compiled = subst (λ (k : List ℕ). Compiles default_table k c.args.texts) c.requires.source c.requires.compiled in
+    let compiled = subst (λ (k : List ℕ). Compiles false default_table k c.args.texts) c.requires.source c.requires.compiled in
     let ran = rw c.as_slice.ensures at c.in_ok-ran.ensures in
     makes (make_request c.args.asked) c.args.texts c.in_ok-ran.ran.machine c.in_ok-ran.ran.ending c.outputs.result compiled ran c.outputs.ensures

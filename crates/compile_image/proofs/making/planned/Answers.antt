@@ -7,7 +7,7 @@ use Rattle.plan_definition.specs.Programs.{program_planned}
 use Rattle.high_ir.specs.Programs.{program_of}
 use Rattle.high_ir.specs.declared.copies.Carried.{Carried}
 use Rattle.high_pass.specs.Listing.{listing_of}
-use Rattle.compile_carried.specs.Carried.{IsPlanned}
+use Rattle.compile_kept.specs.Carried.{IsPlanned}
 use Rattle.compile_image.proofs.Both.{both}
 use Rattle.compile_image.proofs.making.planned.Goals as goal
 

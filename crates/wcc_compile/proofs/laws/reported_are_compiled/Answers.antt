@@ -1,17 +1,19 @@
 use Rattle.std.proofs.Common.{refl, subst}
 use Rattle.code_flow_system.specs.Systems.{IsSystemOf}
+use Rattle.facts_front.proofs.Ways.{one_way}
 use Rattle.wcc_compile.proofs.Shared.{one_kind}
 use Rattle.wcc_compile.proofs.laws.reported_are_compiled.Goals as goal
 
 pub returns : goal.returns
-returns c = λ source names program facts m t r plain is made reported loads typed.
+returns c = λ derive source names program facts m t r plain by made reported loads typed.
+    let is = one_way derive source names program facts by in
     let holds = c.reported_hold.ensures source names program facts m t r is made reported typed loads.loadable loads.same in
     let system = holds.0 in
     record {
       names = names;
       program = program;
       facts = facts;
-      is_source = is;
+      is_source = by;
       image = m.laid.image;
       text_is = refl;
       loads = loads.same;

@@ -1,14 +1,24 @@
-use Rattle.std.proofs.Common.{sym, subst}
 use Rattle.rv_core.specs.Table.{table_of}
-use Rattle.elf_image.specs.Text.{text_of}
-use Rattle.report_text.specs.Lines.{report_text}
-use Rattle.promise_compiler.specs.Lengths.{AreShort}
-use Rattle.promise_report.specs.Compiled.{IsCompiled}
-use Rattle.wcc_compile.specs.Sources.{names_of, tree_of}
+use Rattle.compile_reporting.specs.Sources.{names_of, tree_of}
 use Rattle.wcc_compile.proofs.stages.built.Goals as goal
 
 pub reported-requires : goal.reported-requires
-reported-requires c = record { text = c.requires.source.0; is_source = c.requires.source.1; is_made = c.in_ok-made.ensures }
+reported-requires c = record { text = c.requires.source.0; is_source = c.requires.source.1; is_made = c.in_ok-made.ensures.made }
+
+pub returns-in-Ok-clause-built : goal.returns-in-Ok-clause-built
+returns-in-Ok-clause-built c =
+    let s = c.args.source.now in
+    let from = c.in_ok-made.ensures in
+    λ derive text is. record {
+      names = names_of s;
+      program = tree_of s;
+      facts = s.facts;
+      is_source = is;
+      stages = from.stages;
+      all = from.all;
+      made = from.made;
+      reported = c.in-Ok.ensures.reported;
+    }
 
 pub returns-in-Ok-clause-compiled : goal.returns-in-Ok-clause-compiled
 returns-in-Ok-clause-compiled c =
@@ -16,8 +26,8 @@ returns-in-Ok-clause-compiled c =
     let s = c.args.source.now in
     let m = c.in_ok-made.made in
     let r = c.in-Ok.report in
-    λ text is. subst (λ i. IsCompiled t text (text_of i) (report_text r) r) (sym c.image_of.ensures)
-    (c.reported_are_compiled.ensures text (names_of s) (tree_of s) s.facts m t r c.requires.plain is c.in_ok-made.ensures c.in-Ok.ensures.reported (record { loadable = c.read_of_write.ensures.loads; same = c.read_of_write.ensures.same }) c.in-Ok.ensures.typed)
+    λ derive text is.
+    c.reported_are_compiled.ensures derive text (names_of s) (tree_of s) s.facts m t r c.requires.plain is c.in_ok-made.ensures.made c.in-Ok.ensures.reported (record { loadable = c.read_of_write.ensures.loads; same = c.read_of_write.ensures.same }) c.in-Ok.ensures.typed
 
 pub returns-in-Ok-clause-short : goal.returns-in-Ok-clause-short
 returns-in-Ok-clause-short c =
@@ -25,5 +35,4 @@ returns-in-Ok-clause-short c =
     let s = c.args.source.now in
     let m = c.in_ok-made.made in
     let r = c.in-Ok.report in
-    λ text is small. subst (λ i. AreShort (text_of i) (report_text r)) (sym c.image_of.ensures)
-    (c.texts_are_short.ensures text (names_of s) (tree_of s) s.facts m t r small is c.in_ok-made.ensures c.in-Ok.ensures.reported c.in-Ok.ensures.typed)
+    λ text is small. c.texts_are_short.ensures text (names_of s) (tree_of s) s.facts m t r small is c.in_ok-made.ensures.made c.in-Ok.ensures.reported c.in-Ok.ensures.typed

@@ -1,36 +1,47 @@
-use Rattle.std.proofs.Common.{refl, sym, subst}
+use Rattle.std.proofs.Common.{length, sym, subst}
 use Rattle.high_ir.specs.Programs.{program_of}
 use Rattle.high_pass.specs.Listing.{listing_of}
 use Rattle.low_ir.specs.Places.{assignment, placed}
+use Rattle.low_ir.specs.Placings.{placed_of}
 use Rattle.low_ir.specs.Programs.{low_of}
+use Rattle.low_ir.specs.declared.places.LowReg.{LowReg}
 use Rattle.image_sizes.specs.Sizes.{HasSizes}
-use Rattle.compile_sizes.specs.Limits.{nothing}
+use Rattle.layout_laid.specs.declared.laid.Laid.{Laid}
+use Rattle.compile_kept.specs.Limits.{nothing}
+use Rattle.compile_kept.specs.Carried.{IsCarried}
 use Rattle.compile_sizes.proofs.Sizes.{slotted_fit}
-use Rattle.compile_carried.proofs.Carried.{planned_carried}
-use Rattle.wcc_compile.specs.Sources.{names_of, tree_of}
+use Rattle.compile_made.specs.Made.{IsInMemory, IsLowered}
+use Rattle.compile_made.specs.declared.made.Stages.{Stages}
+use Rattle.compile_passes.specs.Passes.{AreStages, passes, stages_of}
+use Rattle.compile_reporting.specs.Sources.{names_of, tree_of}
 use Rattle.wcc_compile.proofs.stages.made.Goals as goal
 
 pub laid-requires : goal.laid-requires
 laid-requires c =
-    let s = c.args.source.now in
-    let from = c.in_ok-program.field-0 in
-    let p = program_of from.program in
-    let low = low_of c.in_ok-code.code.low in
-    let lowered = c.in_ok-code.ensures in
-    let carried = planned_carried c.requires.0 (names_of s) (tree_of s) s.facts p (listing_of from.copies) c.requires.1 c.in_ok-program.ensures in
-    subst (λ ps. HasSizes nothing (placed (assignment ps) low)) (sym lowered.slots) (slotted_fit p low carried.limited lowered.keeps_program)
+    let p = program_of c.in_ok-stages.stages.last.program in
+    let code = c.in_ok-lowered.lowered.code in
+    let low = low_of code.low in
+    let lowered = c.in_ok-lowered.ensures.code in
+    subst (λ ps. HasSizes nothing (placed (assignment ps) low)) (sym lowered.slots) (slotted_fit p low c.in_ok-stages.ensures.begun.carried.limited lowered.keeps_program)
 
-pub returns : goal.returns
-returns c =
+pub returns-clause-stages : goal.returns-clause-stages
+returns-clause-stages c =
     let s = c.args.source.now in
-    let from = c.in_ok-program.field-0 in
-    let p = program_of from.program in
+    subst (λ (st : Stages). AreStages (names_of s) (tree_of s) s.facts (stages_of st)) (sym c.in_ok-made.ensures.stages)
+    (subst (λ (st : Stages). AreStages (names_of s) (tree_of s) s.facts (stages_of st)) (sym c.in_ok-lowered.ensures.stages) c.in_ok-stages.ensures.begun.stages)
+
+pub returns-clause-made : goal.returns-clause-made
+returns-clause-made c =
+    let s = c.args.source.now in
+    let m = c.in_ok-made.made in
+    let first = c.in_ok-stages.stages in
+    let lowered = c.in_ok-lowered.lowered in
+    let last = c.in_ok-made.ensures in
+    let below = c.in_ok-lowered.ensures in
     record {
-      program = p;
-      planned = c.in_ok-program.ensures;
-      carried = planned_carried c.requires.0 (names_of s) (tree_of s) s.facts p (listing_of from.copies) c.requires.1 c.in_ok-program.ensures;
-      loops = refl;
-      code = c.in_ok-code.code;
-      lowered = c.in_ok-code.ensures;
-      in_memory = c.in_ok-laid.ensures;
+      carried = subst (λ (st : Stages). IsCarried (names_of s) (tree_of s) s.facts (length st.before.items) (program_of st.last.program) (listing_of st.last.copies)) (sym last.stages)
+          (subst (λ (st : Stages). IsCarried (names_of s) (tree_of s) s.facts (length st.before.items) (program_of st.last.program) (listing_of st.last.copies)) (sym below.stages) c.in_ok-stages.ensures.begun.carried);
+      lowered = subst (λ (st : Stages). IsLowered (program_of st.last.program) m.code) (sym last.stages)
+          (subst (λ (st : Stages). IsLowered (program_of st.last.program) m.code) (sym below.stages) (subst (λ (code : LowReg). IsLowered (program_of first.last.program) code) (sym last.code) below.code));
+      in_memory = subst (λ (code : LowReg). IsInMemory code m.laid) (sym last.code) last.memory;
     }

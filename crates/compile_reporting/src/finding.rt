@@ -1,0 +1,164 @@
+// The bound of the image of a source, and its shares.
+ghost use Rattle.std.specs.Prelude.{◌≡◌, ◌≤◌, ◌^◌, pos, ◌<ℤ◌, [], map, IfOk};
+ghost use Rattle.code_flow_system.specs.declared.cert.Mark.TheVariants as marks;
+ghost use Rattle.code_flow_system.specs.Certificates.{Accepts, IsInForm, listed};
+ghost use Rattle.code_flow_system.specs.Flows.{value};
+ghost use Rattle.code_flow_system.specs.Systems.{IsSystemOf};
+ghost use Rattle.path_search.specs.Kinds.{IsMarked};
+ghost use Rattle.report_shares.specs.Shares.{with_sum};
+ghost use Rattle.rv_core.specs.Table.{table_of};
+ghost use Rattle.compile_reports.specs.Reported.{AreShared};
+ghost use Rattle.compile_reporting.specs.Sources.{IsMadeOf, claims_of, ranges_of};
+ghost use Rattle.compile_reporting.specs.Found.{HasBound, IsBound};
+
+use code_flow::{CodeFault, system};
+use code_flow_system::{Claims, System, flows_are_loose, weak_duality};
+use compile_bounds::{made_can_be_bounded, made_have_systems};
+use compile_lines::shares_of;
+use compile_made::Made;
+use facts_front::Source;
+use path_enum::{Bounded, Kind, bound};
+use path_places::systems_are_reached;
+use rv_core::Costs;
+use std::alloc::Global;
+use wcc_base::Memory;
+use wcc_report::{Share, fill_shares};
+
+/// The bound of an image, and how it is shared among the ranges of code.
+#[derive(Drop)]
+pub struct Found {
+    pub bounded: Bounded,
+    pub shares: Vec<Share>,
+}
+
+/// The flow system of the image. Nothing but memory can be wanting.
+fn system_of(alloc: Global, source: &Source, made: &Made, claims: &Claims) -> Result<System, Memory>
+    requires made { IsMadeOf source.now made.now }
+    requires claims { claims.now ≡ claims_of made.now }
+    ensures { IfOk result (IsSystemOf made.now.laid.image claims.now) }
+{
+    made_have_systems();
+    match system(alloc, &made.laid.image, claims) {
+        Ok(system) => Ok(system),
+        Err(CodeFault::Memory) => Err(Memory),
+        Err(CodeFault::BadClaim { .. }) => unreachable!(),
+        Err(CodeFault::NotCode { .. }) => unreachable!(),
+    }
+}
+
+/// The bound of the image, by its flow system.
+fn bounded_of(
+    alloc: Global,
+    source: &Source,
+    made: &Made,
+    system: &System,
+    costs: &Costs,
+) -> Result<Bounded, Memory>
+    requires made { IsMadeOf source.now made.now }
+    requires system { IsSystemOf made.now.laid.image (claims_of made.now) system.now }
+    ensures form { IfOk result (λ b. IsInForm system.now.claims b.cert) }
+    ensures accepted { IfOk result (λ b. Accepts (table_of costs.now) system.now b.cert) }
+    ensures kind { IfOk result (λ b. IsMarked b.kind b.cert.mark) }
+    ensures columns { IfOk result (λ b. b.columns ≡ []) }
+    ensures value { IfOk result (λ b. b.cert.mark ≡ marks.Greatest → value (table_of costs.now) system.now (listed b.cert.flow.parts) <ℤ pos (2 ^ 120)) }
+    ensures cycles { IfOk result (λ b. b.cert.cycles ≤ 2 ^ 62) }
+{
+    made_can_be_bounded();
+    systems_are_reached(&made.laid.image, system);
+    let shapes = &made.laid.claimed.shapes;
+    let spans = &made.laid.lists.spans;
+    let bounded = bound(alloc, system, shapes, spans, costs)?;
+    weak_duality(system, costs, &bounded.cert);
+    flows_are_loose(system);
+    Ok(bounded)
+}
+
+/// The shares of a bound that a flow reaches; another has none.
+fn shared(
+    alloc: Global,
+    system: &System,
+    costs: &Costs,
+    bounded: &Bounded,
+    ranges: Vec<Share>,
+) -> Vec<Share>
+    requires form { IsInForm system.now.claims bounded.now.cert }
+    requires kind { IsMarked bounded.now.kind bounded.now.cert.mark }
+    requires value { bounded.now.cert.mark ≡ marks.Greatest → value (table_of costs.now) system.now (listed bounded.now.cert.flow.parts) <ℤ pos (2 ^ 120) }
+    ensures { AreShared bounded.now.kind (map (with_sum (table_of costs.now) system.now bounded.now.cert.flow.parts) ranges.items) result.items }
+{
+    match bounded.kind {
+        Kind::Greatest => {
+            let mut shares = ranges;
+            fill_shares(system, costs, &bounded.cert.flow, &mut shares);
+            shares
+        }
+        Kind::Empty => {
+            drop(ranges);
+            Vec::new(alloc)
+        }
+        Kind::Wide { .. } => unreachable!(),
+        Kind::Spent { .. } => unreachable!(),
+    }
+}
+
+/// The ranges of code, before their parts are known.
+fn ranges_of(alloc: Global, source: &Source, made: &Made) -> Result<Vec<Share>, Memory>
+    ensures { IfOk result (λ v. v.items ≡ ranges_of source.now made.now) }
+{
+    shares_of(
+        alloc,
+        &source.typed.program().names,
+        source.facts.functions.as_slice(),
+        &made.laid.lists.ranges,
+    )
+}
+
+/// The bound of the image and its shares, by its flow system.
+fn find_in(
+    alloc: Global,
+    source: &Source,
+    made: &Made,
+    system: &System,
+    costs: &Costs,
+) -> Result<Found, Memory>
+    requires made { IsMadeOf source.now made.now }
+    requires system { IsSystemOf made.now.laid.image (claims_of made.now) system.now }
+    ensures { IfOk result (IsBound (table_of costs.now) source.now made.now system.now) }
+{
+    let ranges = ranges_of(alloc, source, made)?;
+    match bounded_of(alloc, source, made, system, costs) {
+        Ok(bounded) => {
+            let shares = shared(alloc, system, costs, &bounded, ranges);
+            Ok(Found { bounded, shares })
+        }
+        Err(memory) => {
+            drop(ranges);
+            Err(memory)
+        }
+    }
+}
+
+/// The bound of the image and its shares.
+pub fn find(
+    alloc: Global,
+    source: &Source,
+    made: &Made,
+    claims: &Claims,
+    costs: &Costs,
+) -> Result<Found, Memory>
+    requires made { IsMadeOf source.now made.now }
+    requires claims { claims.now ≡ claims_of made.now }
+    ensures { IfOk result (HasBound (table_of costs.now) source.now made.now) }
+{
+    let system = system_of(alloc, source, made, claims)?;
+    match find_in(alloc, source, made, &system, costs) {
+        Ok(found) => {
+            drop(system);
+            Ok(found)
+        }
+        Err(memory) => {
+            drop(system);
+            Err(memory)
+        }
+    }
+}

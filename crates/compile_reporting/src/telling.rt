@@ -1,0 +1,68 @@
+// What a report tells of the image of a source.
+ghost use Rattle.std.specs.Prelude.{◌≡◌, ◌++◌, IfOk};
+ghost use Rattle.compile_lines.specs.CopyLines.{AreLinesOf};
+ghost use Rattle.compile_reporting.specs.Sources.{IsMadeOf, claims_of, names_of};
+ghost use Rattle.compile_reporting.specs.Found.{IsTold};
+ghost use Rattle.compile_made.specs.Made.{copies_of};
+
+use code_flow_system::Claims;
+use compile_bounds::made_can_be_named;
+use compile_claims::by_source;
+use compile_lines::copy_lines;
+use compile_made::Made;
+use facts_front::Source;
+use std::alloc::Global;
+use wcc_base::Memory;
+use wcc_report::CopyLine;
+
+/// The copy lines of functions and markers, and the claims by the loops of the source.
+#[derive(Drop)]
+pub struct Told {
+    pub lines: Vec<CopyLine>,
+    pub claims: Claims,
+}
+
+/// The claims on the image, by the loops of the source.
+fn claims_of(alloc: Global, source: &Source, made: &Made) -> Result<Claims, Memory>
+    requires { IsMadeOf source.now made.now }
+    ensures { IfOk result (λ c. c ≡ claims_of made.now) }
+{
+    made_can_be_named();
+    by_source(
+        alloc,
+        &made.laid.claimed.claims,
+        &made.stages.last.copies.loops,
+        made.stages.last.program.loops,
+    )
+}
+
+/// The copy lines of functions and markers.
+fn lines_of(alloc: Global, source: &Source, made: &Made) -> Result<Vec<CopyLine>, Memory>
+    requires { IsMadeOf source.now made.now }
+    ensures { IfOk result (λ v. AreLinesOf (names_of source.now) made.now.laid.lists.places.items (source.now.facts.functions ++ source.now.facts.markers) (copies_of made.now).marks v.items) }
+{
+    let mut counted = Vec::from_slice(alloc, source.facts.functions.as_slice())?;
+    counted.extend_from_slice(source.facts.markers.as_slice())?;
+    copy_lines(
+        alloc,
+        &source.typed.program().names,
+        &counted,
+        &made.stages.last.copies.marks,
+        &made.laid.lists.places,
+    )
+}
+
+/// What is told of the image.
+pub fn tell(alloc: Global, source: &Source, made: &Made) -> Result<Told, Memory>
+    requires { IsMadeOf source.now made.now }
+    ensures { IfOk result (IsTold source.now made.now) }
+{
+    let lines = lines_of(alloc, source, made)?;
+    match claims_of(alloc, source, made) {
+        Ok(claims) => Ok(Told { lines, claims }),
+        Err(memory) => {
+            drop(lines);
+            Err(memory)
+        }
+    }
+}

@@ -1,0 +1,4 @@
+pub mod Homes
+pub mod Counted
+pub mod Arithmetic
+pub mod Turning

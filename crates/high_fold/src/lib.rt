@@ -1,0 +1,16 @@
+//! Folding: the pass that computes what is known of a program in the high form.
+//!
+//! Proved: [`Fold`] makes the program that `high_folded` defines, with the copies that it lists; so it is lawful, as
+//! `high_pass` asks of each pass, and no operator is left over constants, and no choice with a constant test. Each statement
+//! is visited at most once.
+//!
+//! This crate knows nothing of runs, no other pass, no source language and no machine.
+#![tactic(auto)]
+
+mod copies;
+mod expressions;
+mod fold;
+mod program;
+mod statements;
+
+pub use fold::Fold;

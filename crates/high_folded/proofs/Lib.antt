@@ -1,0 +1,12 @@
+pub mod Cases
+pub mod Values
+pub mod Running
+pub mod Measures
+pub mod Holds
+pub mod Standing
+pub mod Weights
+pub mod Listing
+pub mod Formed
+pub mod Computed
+pub mod Wordy
+pub mod Lawful

@@ -1,0 +1,31 @@
+//! Says what pivots and rounds come to: a program for tests.
+//!
+//! A line of the input is a command and its numbers, and the answer is a line, too:
+//!
+//! - `reduced N N ..`: a row without a common divisor.
+//! - `turned PLACE N N .. / N N ..`: the row that a pivot at a place of the first row makes of the second.
+//!
+//! `stdout` has what is wanted: it was worked out with Python's whole numbers.
+#![tactic(auto)]
+
+mod numbers;
+mod pivots;
+
+use std::alloc::{AllocError, Global};
+use std::io;
+
+fn answer_to(alloc: Global, line: &str) -> Result<String, AllocError> {
+    match line.split_once(' ') {
+        Some(("reduced", row)) => pivots::reduced_answer(alloc, row),
+        Some(("turned", rest)) => pivots::turned_answer(alloc, rest),
+        _ => format!(in alloc; "no command: {line}"),
+    }
+}
+
+fn main(rt: HostRuntime) -> io::Result<()> {
+    for line in rt.lines(rt.alloc()) {
+        let answer = answer_to(rt.alloc(), line?.as_str())?;
+        println!(rt; "{answer}")?;
+    }
+    Ok(())
+}
