@@ -12,7 +12,8 @@ HERE = Path(__file__).resolve().parent
 sys.path.insert(0, str(HERE.parent / "tests"))
 import certify  # noqa: E402
 import machine  # noqa: E402
-from certificates import finding, flows, reports  # noqa: E402
+from certificates import finding  # noqa: E402
+from simulator import flows, reports  # noqa: E402
 
 TAIL = 8  # bytes of the exit
 DATA = 0x2000_0000

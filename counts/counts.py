@@ -176,7 +176,7 @@ class Report:
 
     def __init__(self, path, source):
         self.path, self.lines, self.table = path, Lines(path, source), explain.entries()
-        self.files = findings.Files(self.lines, [], [])
+        self.files = findings.Files(self.lines, [], [], False)
 
     def place(self, at):
         return self.lines.place(at)

@@ -1,4 +1,4 @@
-"""evaluator SOURCE INPUT OUTPUT: prints what `wcc eval` must print, and ends with its status."""
+"""evaluator SOURCE INPUT OUTPUT [--derive]: prints what `wcc eval` must print, and ends with its status."""
 import sys
 from pathlib import Path
 
@@ -9,8 +9,8 @@ else:
     from evaluator import answer, with_deep_stack
 
 
-def main(source, data, output):
-    result = with_deep_stack(lambda: answer(Path(source).read_bytes(), Path(data).read_bytes()))
+def main(source, data, output, *flag):
+    result = with_deep_stack(lambda: answer(Path(source).read_bytes(), Path(data).read_bytes(), derive=flag == ("--derive",)))
     if result.output is not None:
         Path(output).write_bytes(result.output)
     print(result.line)

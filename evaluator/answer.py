@@ -1,4 +1,4 @@
-"""The line that `eval SOURCE INPUT OUTPUT` prints, its exit status, and the bytes of OUTPUT."""
+"""The line that `eval SOURCE INPUT OUTPUT [--derive]` prints, its exit status, and the bytes of OUTPUT."""
 from dataclasses import dataclass
 
 from .facts import Facts
@@ -29,18 +29,18 @@ def within(word, most, data):
         raise Limit(word, most + 1)
 
 
-def checked(source, need_bounds=True):
+def checked(source, need_bounds=True, derive=False):
     """The checker of a source and its facts, or a fault."""
     within("source", MOST_SOURCE, source)
     checker = check(unit_of(tokens_of(source), len(source)))
-    return checker, Facts(checker, need_bounds).run()
+    return checker, Facts(checker, need_bounds, derive).run()
 
 
-def program_of(source, data, kind=Program):
+def program_of(source, data, kind=Program, derive=False):
     # Both files are read before anything is said of the source.
     within("source", MOST_SOURCE, source)
     within("input", MOST_INPUT, data)
-    return kind(*checked(source), data)
+    return kind(*checked(source, derive=derive), data)
 
 
 def line_of(fault):
@@ -62,9 +62,9 @@ def value_line(value, output):
     return f"value {value} bytes {len(output)}"
 
 
-def answer(source, data):
+def answer(source, data, derive=False):
     try:
-        program = program_of(source, data)
+        program = program_of(source, data, derive=derive)
         value, output = program.run()
         return Answer(value_line(value, output), DONE, output, program.counts)
     except FAULTS as fault:

@@ -2,7 +2,7 @@
 import re
 from dataclasses import dataclass
 
-from . import constants, tree
+from . import constants, counting, tree
 from .rules import Limit, Routine, is_lone_void
 from .tokens import Refused, decimal
 
@@ -95,10 +95,12 @@ def filling(node):
 
 
 class Facts:
-    """What the annotations say. Where runs don't need bounds, loops may lack theirs, and nothing limits what is executed."""
+    """What the annotations say. Where runs don't need bounds, loops may lack theirs, and nothing limits what is executed. With `derive` a counting
+    loop without a pragma has the bounds of its form."""
 
-    def __init__(self, checker, need_bounds=True):
+    def __init__(self, checker, need_bounds=True, derive=False):
         self.checker, self.need_bounds = checker, need_bounds
+        self.local = set(checker.locals) if derive else set()
         self.functions = checker.definitions
         self.nodes = list(tree.nodes_of(checker.unit))
         self.markers = []
@@ -140,11 +142,11 @@ class Facts:
 
     def faults(self, node, names, known):
         if isinstance(node, tree.Loop):
-            node.limits = None if node.bound is None else limits_of(node)
-            if node.bound is None:
-                yield from [(node.at, "bound")] if self.need_bounds else []
-            elif node.limits is None:
+            node.limits = counting.bounds_of(node, self.local) if node.bound is None else limits_of(node)
+            if node.limits is None and node.bound is not None:
                 yield node.bound_at, "pragma"
+            elif node.limits is None and self.need_bounds:
+                yield node.at, "bound"
         elif isinstance(node, tree.Marker):
             name = marker_name(node)
             if name is None or names.count(name) > 1 or name in self.checker.routines:

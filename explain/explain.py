@@ -8,6 +8,7 @@ import os
 import re
 import stat
 import sys
+from itertools import takewhile
 from pathlib import Path
 
 HERE = Path(__file__).resolve().parent
@@ -20,9 +21,10 @@ COMMANDS = ("compile", "run", "eval", "check", "report", "make", "respond")
 PLACED = ("refused", "undefined", "broken")
 ELSEWHERE = ("image-", "report-", "table-", "tasks-")
 FROM_SOURCE = ("compile", "eval")
-# The options of commands, each with the greatest number that it takes, or None where it takes a file's name.
-OPTIONS = {"compile": {"--table": None}, "run": {"--limit": 1 << 62, "--table": None}, "check": {"--table": None},
-           "respond": {"--table": None}}
+# The options of commands, each with the greatest number that it takes, or None where it takes a file's name; flags take nothing.
+FLAG = "flag"
+OPTIONS = {"compile": {"--table": None, "--derive": FLAG}, "run": {"--limit": 1 << 62, "--table": None}, "eval": {"--derive": FLAG},
+           "check": {"--table": None}, "respond": {"--table": None}}
 # Which of the files that the words name by their places are read, and which are written.
 READ = {"compile": slice(1), "run": slice(2), "eval": slice(2), "check": slice(2), "report": slice(1), "respond": slice(1)}
 WRITTEN = {"compile": slice(1, 3), "run": slice(2, 3), "eval": slice(2, 3), "make": slice(1, 4)}
@@ -67,6 +69,7 @@ class Call:
     def __init__(self, line, words):
         self.line, self.command = line.split(), words[0] if words else None
         placed, named, _ = parted(OPTIONS.get(self.command, {}), words[1:])
+        self.derives = "--derive" in takewhile(lambda it: it != "--", words)
         self.reads = placed[READ.get(self.command, slice(0))] + named
         self.writes = placed[WRITTEN.get(self.command, slice(0))]
         source = quietly(lambda: source_of(placed[0])) if self.command in FROM_SOURCE else None
@@ -99,7 +102,7 @@ class Call:
         # Both take their time, and other lines need neither.
         from evaluator import with_deep_stack
         import findings
-        files = findings.Files(self.lines, self.reads, self.writes)
+        files = findings.Files(self.lines, self.reads, self.writes, self.derives)
 
         def both():
             construct = quietly(lambda: self.at is not None and findings.construct(self.line, files, self.at))
@@ -226,8 +229,12 @@ def parted(options, given):
         option, behind, value = word.partition("=")
         if option not in options:
             return placed, named, f"has no option `{printable(option)}`"
-        value = value if behind else next(words, None)
-        wrong = "stands twice" if option in seen else wrong_value(options[option], value)
+        if options[option] != FLAG:
+            value = value if behind else next(words, None)
+            wrong = wrong_value(options[option], value)
+        else:
+            wrong = "takes no value" if behind else None
+        wrong = "stands twice" if option in seen else wrong
         if wrong:
             return placed, named, f"can't be called so: {option} {wrong}"
         seen.add(option)

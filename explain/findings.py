@@ -9,6 +9,7 @@ import stat
 import time
 
 import constructs
+import forms
 from evaluator import tree
 from evaluator.answer import program_of
 from evaluator.facts import MOST_STARTS, Facts, greatest_starts, marker_name, relation_of
@@ -31,10 +32,10 @@ BOUNDS = re.compile(rb"[ \t]*loopbound[ \t]+min[ \t]+(\w+)[ \t]+max[ \t]+(\w+)[ 
 
 
 class Files:
-    """The files of a call: the source with its lines, and the names of those that it reads and writes."""
+    """The files of a call: the source with its lines, and the names of those that it reads and writes; and whether bounds are derived."""
 
-    def __init__(self, lines, reads, writes):
-        self.lines, self.reads, self.writes = lines, reads, writes
+    def __init__(self, lines, reads, writes, derive):
+        self.lines, self.reads, self.writes, self.derive = lines, reads, writes, derive
         self.source = lines and lines.source
 
     def at(self, place):
@@ -116,7 +117,7 @@ def run_to(files, at):
     data = input_of(files.reads[1])
     if data is None:
         return
-    run = program_of(files.source, data, Followed)
+    run = program_of(files.source, data, Followed, files.derive)
     try:
         run.run()
     except (Undefined, Broken) as event:
@@ -193,7 +194,7 @@ def heaviest(files, _):
     """The loops, one in another, in which the most is executed by the bounds."""
     checker = Checker(unit(files))
     checker.run()
-    facts = Facts(checker)
+    facts = Facts(checker, derive=files.derive)
     facts.refuse_recursion()
     facts.read()
     loops, node, known = [], checker.routines["main"].node, {}
@@ -295,6 +296,14 @@ def dropped(files, at):
         word = next((it for it in (first, f"{first} {second}") if is_misspelt(it, BOUND)), None)
         if word:
             yield "misspelt", word, files.at(match.start()), BOUND
+
+
+def no_bound(files, at):
+    """A bound that was dropped; or else what the form of the loop gives, with --derive why it gives nothing."""
+    found = list(dropped(files, at))
+    if found:
+        return found
+    return forms.unbounded(files, unit(files), at) if files.derive else forms.bounded(unit(files), at)
 
 
 def pragmas(source, place, end):
@@ -407,7 +416,7 @@ def unwritten(files, _):
 
 
 FINDERS = {
-    "refused type-7": misfit, "refused type-13": other_main, "refused recursion": cycle, "refused bound": dropped,
+    "refused type-7": misfit, "refused type-13": other_main, "refused recursion": cycle, "refused bound": no_bound,
     "refused pragma": pragma_fault, "refused name": unknown_name, "undefined": run_to, "broken": run_to,
     "limit depth": too_deep, "limit nodes": largest_part, "limit parameters": many_parameters,
     "limit most": heaviest, "limit globals": largest_object(False), "limit locals": largest_object(True),

@@ -11,8 +11,11 @@ CLAIMS has lines as in a report, without multipliers and without the numbers of 
 import sys
 from pathlib import Path
 
-import machine
-from certificates import finding, reports, rows
+import machine  # finds simulator/
+from certificates import finding, rows
+from simulator import reports
+from simulator.costs import DEFAULT
+from simulator.images import BadImage
 
 DONE, REFUSED, NO = 0, 1, 7
 
@@ -60,7 +63,7 @@ def put_claim(report, word, rest):
 def find(image, claims, version="1", stall="0"):
     report = read_claims(Path(claims).read_text())
     report.version = int(version)
-    finding.certify(*machine.read_image(Path(image).read_bytes()), report, int(stall))
+    finding.certify(*machine.read_image(Path(image).read_bytes()), report, DEFAULT.with_stall(int(stall)))
     sys.stdout.write(reports.write(report).decode())
     return DONE
 
@@ -69,11 +72,8 @@ def check_line(image, report, stall=0):
     """The line and the status of `wcc check` on these bytes."""
     try:
         entry, segments = machine.read_image(image)
-        return f"yes {rows.check(entry, segments, reports.read(report), stall)}", DONE
-    except machine.Answer as answer:
-        _, fault, _, at = answer.line.split()
-        return f"no {fault} {at}", NO
-    except (reports.ReportFault, rows.No) as fault:
+        return f"yes {rows.check(entry, segments, reports.read(report), DEFAULT.with_stall(stall))}", DONE
+    except (BadImage, reports.ReportFault, rows.No) as fault:
         return f"no {fault}", NO
 
 

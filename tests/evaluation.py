@@ -22,8 +22,8 @@ Answer = namedtuple("Answer", "line status output")
 STATUSES = {"value": 0, "refused": 1, "limit": 3, "undefined": 8, "broken": 8}
 
 
-def by_evaluator(source, data=b""):
-    found = answer(source, data)
+def by_evaluator(source, data=b"", derive=False):
+    found = answer(source, data, derive)
     return found.line, found.status, found.output
 
 
@@ -54,12 +54,12 @@ def in_fresh_folder(source, data, calls):
         return calls(room)
 
 
-def by_program(path):
-    """`PATH eval` on a source and an input."""
+def by_program(path, *flags):
+    """`PATH eval` on a source and an input, with these flags."""
     path = built(path)
 
     def run(source, data=b""):
-        return tuple(in_fresh_folder(source, data, lambda room: call(path, room, "eval", "a.c", "a.in", "a.out")))
+        return tuple(in_fresh_folder(source, data, lambda room: call(path, room, "eval", "a.c", "a.in", "a.out", *flags)))
     return run
 
 

@@ -3,8 +3,9 @@ from copy import deepcopy
 
 import certify
 import machine
+from simulator import reports
 
-from . import finding, reports
+from . import finding
 
 GIVEN_IMAGE, GIVEN_REPORT = "a.elf", "a.txt"
 

@@ -2,8 +2,11 @@
 from fractions import Fraction
 from math import lcm
 
-from . import linear, reports
-from .flows import System, destinations, limits
+from simulator import reports
+from simulator.costs import DEFAULT
+from simulator.flows import System, destinations, limits
+
+from . import linear
 from .rows import sums
 
 
@@ -11,9 +14,9 @@ class NoBound(Exception):
     """The claims let a flow have any value, or numbers become too large for a report."""
 
 
-def certify(entry, segments, report, stall=0):
+def certify(entry, segments, report, costs=DEFAULT):
     """Fills a report that has its claims with the certificate: the kind is greatest or empty."""
-    system = System(entry, segments, report, stall)
+    system = System(entry, segments, report, costs)
     rows, signs = rows_of(system, report)
     costs = [system.cost(it) for it in system.moves]
     rights = [int(it == entry) for it in places(system)] + [0] * (len(rows) - len(system.reached))

@@ -2,8 +2,9 @@
 from collections import defaultdict
 from fractions import Fraction
 
-from . import reports
-from .flows import CodeFault, System, coefficients, destinations, limits, multipliers
+from simulator import reports
+from simulator.costs import DEFAULT
+from simulator.flows import CodeFault, System, coefficients, destinations, limits, multipliers
 
 NARROW = 1 << 126  # what the absolute values of a sum must stay below
 
@@ -12,10 +13,10 @@ class No(Exception):
     """The row that fails."""
 
 
-def check(entry, segments, report, stall=0):
+def check(entry, segments, report, costs=DEFAULT):
     """What stands behind `yes`, or No."""
     try:
-        system = System(entry, segments, report, stall)
+        system = System(entry, segments, report, costs)
     except CodeFault as fault:
         raise No(str(fault)) from None
     held = by_address(report)

@@ -15,7 +15,7 @@ HERE = Path(__file__).resolve().parent
 sys.path.insert(0, str(HERE.parent))
 import machine  # noqa: E402
 import nests  # noqa: E402
-from certificates import flows, reports  # noqa: E402
+from simulator import flows, reports  # noqa: E402
 
 REPORTS = ("first", "by_hand", "code", "branches", "calls", "loop", "nested", "never", "regions", "unrolled", "waits",
            "stall", "wide_value_below")
@@ -77,7 +77,7 @@ def given(name):
     report = reports.read((folder / "given" / "a.txt").read_bytes())
     entry, segments = machine.read_image((folder / "given" / "a.elf").read_bytes())
     stall = stall_of(folder)
-    system = flows.System(entry, segments, report, stall)
+    system = flows.System(entry, segments, report, machine.DEFAULT.with_stall(stall))
     loops = [it[2:6] for it in report.loops]
     code = next(it for it in segments if it.start == 0)
     assert all(code.holds(it.at, 4) for it in system.moves), "code elsewhere"

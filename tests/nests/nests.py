@@ -23,7 +23,8 @@ sys.path.insert(0, str(HERE.parent))
 import certify  # noqa: E402
 import flash  # noqa: E402
 import machine  # noqa: E402
-from certificates import finding, reports  # noqa: E402
+from certificates import finding  # noqa: E402
+from simulator import reports  # noqa: E402
 
 DEEPEST = 3  # loops in loops
 SHALLOWEST = 2
@@ -198,7 +199,7 @@ def text_of(lines):
 def report_of(nest):
     """The report that the exact linear program finds."""
     report = certify.read_claims(text_of(claims_of(nest)))
-    finding.certify(*machine.read_image(image_of(nest)), report, STALL)
+    finding.certify(*machine.read_image(image_of(nest)), report, machine.DEFAULT.with_stall(STALL))
     return report
 
 

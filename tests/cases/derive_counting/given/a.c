@@ -1,0 +1,1 @@
+int main(void){int i,s=0;for(i=0;i<10;i+=3)s+=i;return s;}
