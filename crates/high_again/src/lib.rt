@@ -9,7 +9,6 @@
 
 mod copies;
 mod expressions;
-mod objects;
 mod pass;
 mod program;
 mod statements;

@@ -3,9 +3,9 @@ ghost use Rattle.std.specs.Prelude.{◌≡◌, IfOk, map};
 ghost use Rattle.high_ir.specs.Programs.{program_of};
 ghost use Rattle.high_ir.specs.View.{function_of};
 
-use super::objects::copied_objects;
 use super::statements::copied;
 use high_ir::{Function, High};
+use high_parts::objects::copied_objects;
 use std::alloc::Global;
 use wcc_base::Memory;
 
