@@ -35,6 +35,7 @@ pub fn copied_expr(alloc: Global, expr: &Expr) -> Result<Expr, Memory>
     }
 }
 
+/// The same expressions again.
 pub fn copied_exprs(alloc: Global, exprs: &[Expr]) -> Result<Vec<Expr>, Memory>
     ensures { IfOk result (λ v. map expr_of v.items ≡ map expr_of exprs.now) }
 {

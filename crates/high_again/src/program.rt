@@ -21,7 +21,8 @@ fn copied_function(alloc: Global, function: &Function) -> Result<Function, Memor
     })
 }
 
-fn copied_functions(alloc: Global, functions: &[Function]) -> Result<Vec<Function>, Memory>
+/// The same functions again.
+pub fn copied_functions(alloc: Global, functions: &[Function]) -> Result<Vec<Function>, Memory>
     ensures { IfOk result (λ v. map function_of v.items ≡ map function_of functions.now) }
 {
     let mut copies = Vec::new(alloc);

@@ -29,7 +29,8 @@ fn copied_keep(alloc: Global, array: Array, index: &Expr, value: &Expr) -> Resul
     }
 }
 
-fn copied_call(
+/// The same call again.
+pub fn copied_call(
     alloc: Global,
     function: u32,
     values: &[Expr],
