@@ -1,6 +1,8 @@
 -- The loops of what is made of a source have numbers below how many there are, and those of the source have small ones.
-use Rattle.std.proofs.Common.{ℕ, ◌^◌, ◌<◌, List, map, sym, ap, subst, All}
-use Rattle.std.proofs.lemmas.List.Elements.{All-contains, All-map, All-nil, All-same, All-weaker}
+use Rattle.std.proofs.Common.{ℕ, ◌^◌, ◌<◌, Bool, inl, inr, List, [], ◌∷◌, map, Some, sym, ap, subst, All}
+use Rattle.std.specs.Prelude.{if◌then◌else◌}
+use Rattle.std.proofs.lemmas.Bool.Decides.{eqb_tells}
+use Rattle.std.proofs.lemmas.List.Elements.{All-contains, All-head, All-map, All-nil, All-same, All-tail, All-weaker}
 use Rattle.code_flow_system.specs.Claims.{Claims}
 use Rattle.code_flow_system.specs.declared.claims.LoopClaim.{LoopClaim}
 use Rattle.facts_definitions.specs.declared.facts.Facts.{Facts}
@@ -11,6 +13,8 @@ use Rattle.high_ir.specs.Formed.{IsHigh}
 use Rattle.high_ir.specs.Standing.{Bounded, loops_in}
 use Rattle.high_ir.specs.Tree.{Program}
 use Rattle.high_ir.specs.declared.copies.LoopCopies.{LoopCopies}
+use Rattle.high_ir.specs.declared.copies.NeverMark.{NeverMark}
+use Rattle.high_pass.specs.Carries.{StartsFewer, bounds_of}
 use Rattle.high_pass.specs.Listing.{Listing, LoopEntry, listed_loops, loop_entry as entry_of}
 use Rattle.high_pass.proofs.Continuing.{each_loop, loops_below}
 use Rattle.high_pass.proofs.Counting.{all_below}
@@ -60,6 +64,14 @@ memory_there p code y high lowered h =
 abbrev number_of : Bounded → ℕ
 number_of l = l.id
 
+-- a loop that is there has its number
+number_small : (k factor : ℕ) (ls : List Bounded) → All (λ (l : Bounded). l.id < 2 ^ 26) ls → StartsFewer (bounds_of ls k) factor → k < 2 ^ 26
+number_small k factor [] few fewer = absurd fewer
+number_small k factor (l ∷ ls) few fewer = elim (eqb_tells l.id k) [
+    | inl e ↦ subst (λ n. n < 2 ^ 26) e.1 (All-head (λ (x : Bounded). x.id < 2 ^ 26) l ls few)
+    | inr e ↦ number_small k factor ls (All-tail (λ (x : Bounded). x.id < 2 ^ 26) l ls few) (subst (λ (b : Bool). StartsFewer (if b then Some l.bounds else bounds_of ls k) factor) e.0 fewer)
+  ]
+
 module _ (source : List ℕ) (names : List (List ℕ)) (program : c.Program) (facts : Facts) (m : Made) (is : IsSource source names program facts) (made : IsMade names program facts m) where
   abbrev p : Program
   p = high_of m
@@ -74,11 +86,18 @@ module _ (source : List ℕ) (names : List (List ℕ)) (program : c.Program) (fa
       let olds = All-same (λ x. x < 2 ^ 26) (map (λ (e : LoopEntry). e.old) listing.loops) (map number_of (source_behaviour program names facts).loops) made.carried.carries.loops few in
       All-map_back (λ (e : LoopEntry). e.old < 2 ^ 26) entry_of m.stages.last.copies.loops.items (All-map_back (λ x. x < 2 ^ 26) (λ (e : LoopEntry). e.old) listing.loops olds)
 
+  -- a loop that makes fewer starts is one of the source
+  nevers_small : All (λ (v : NeverMark). v.old < 2 ^ 26) m.stages.last.copies.nevers.items
+  nevers_small = All-weaker (λ (v : NeverMark). StartsFewer (bounds_of (source_behaviour program names facts).loops v.old) v.factor) (λ (v : NeverMark). v.old < 2 ^ 26)
+      (λ v fewer. number_small v.old v.factor (source_behaviour program names facts).loops (source_loops_few source names program facts is) fewer) m.stages.last.copies.nevers.items made.carried.carries.nevers
+
   pub can_be_named : CanBeNamed m
   can_be_named =
       record {
         there = memory_there p m.code m.laid made.carried.is_high made.lowered made.in_memory;
         listed = each_loop (λ x. x < p.loops) listing (all_below p.loops (listed_loops listing) made.carried.carries.lists.loops);
         old = old_small;
+        nevers = nevers_small;
+        plain = ap (λ (c : Claims). c.nevers) made.in_memory.laid.claimed.claims;
         facts = ap (λ (c : Claims). c.facts) made.in_memory.laid.claimed.claims;
       }

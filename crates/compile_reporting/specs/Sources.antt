@@ -9,7 +9,7 @@ use Rattle.types_tree.specs.View.{program_of}
 use Rattle.compile_lines.specs.Shares.{share_of}
 use Rattle.report_text.specs.declared.entries.Share.{Share}
 use Rattle.report_text.specs.Reports.{Report}
-use Rattle.compile_claims.specs.Named.{named}
+use Rattle.compile_claims.specs.Named.{AreHanded}
 use Rattle.compile_made.specs.declared.made.Made.{Made}
 use Rattle.compile_made.specs.Made.{IsMade, copies_of}
 use Rattle.compile_reports.specs.Reported.{IsReported}
@@ -33,9 +33,9 @@ pub record IsMadeOf (s : Source) (m : Made) : Type 0 where
   pub is_source : IsOf text s
   pub is_made : IsMade (names_of s) (tree_of s) s.facts m
 
--- the claims on its image, by the loops of the source
-abbrev pub claims_of : Made → Claims
-claims_of m = named (copies_of m).loops m.laid.claimed.claims
+-- the claims on its image as they are handed on, by the loops of the source and with those on never marks
+abbrev pub AreClaimsOn : Made → Claims → Type 0
+AreClaimsOn m claims = AreHanded (copies_of m) m.laid.lists.places.items m.laid.claimed.claims claims
 
 -- its ranges of code, before their parts are known
 abbrev pub ranges_of : Source → Made → List Share

@@ -5,6 +5,7 @@ pub mod Orders
 pub mod Values
 pub mod Ranges
 pub mod Laid
+pub mod Standing
 pub mod Reports
 pub mod Openings
 pub mod Fitting
