@@ -1,11 +1,7 @@
 -- What is reported of a source is a report.
-use Rattle.std.proofs.Common.{◌≡◌, ⊎_elim, ℕ, ◌+◌, ◌^◌, ◌<◌, ◌≤◌, List, [], ◌++◌, length, map, sym, ap, subst, inr, All, arith}
-use Rattle.std.specs.Prelude.{get_or, slice_index_or}
-use Rattle.std.specs.List.{range_with_len}
-use Rattle.std.proofs.lemmas.Bool.{cases_lt}
-use Rattle.std.proofs.lemmas.List.{get_or_past}
-use Rattle.std.proofs.lemmas.List.Elements.{All-map, All-nil}
-use Rattle.std.proofs.lemmas.List.FromFn.{get_or-map-range_with_len, length-map-range_with_len}
+use Rattle.std.proofs.Common.{◌≡◌, ℕ, ◌+◌, ◌^◌, ◌<◌, List, [], ◌++◌, length, map, sym, ap, subst, inr, All, arith}
+use Rattle.std.specs.Prelude.{get_or}
+use Rattle.std.proofs.lemmas.List.Elements.{All-nil}
 use Rattle.rv_core.specs.Table.{Table}
 use Rattle.code_flow_system.specs.Claims.{Claims}
 use Rattle.code_flow_system.specs.declared.cert.Mark.{Mark}
@@ -23,11 +19,12 @@ use Rattle.facts_definitions.specs.declared.facts.Facts.{Facts}
 use Rattle.facts_front.specs.Fronts.{IsSource}
 use Rattle.types_tree.specs.Tree.{Program}
 use Rattle.high_pass.specs.Listing.{Listing}
-use Rattle.high_pass.proofs.Elements.{All-append_front, at_or}
+use Rattle.high_pass.proofs.Elements.{All-append_front}
+use Rattle.low_ir.specs.Placings.{placed_of}
 use Rattle.claims_definition.specs.Laws.{IsPlaceOf, RangesAscend}
-use Rattle.claims_definition.specs.Listed.{Laid, places_of}
+use Rattle.claims_image.specs.Images.{laid_of}
 use Rattle.claims_lists.specs.Lists.{range_of}
-use Rattle.claims_places.specs.Places.{places_below}
+use Rattle.compile_kept.specs.Limits.{nothing}
 use Rattle.compile_names.specs.Laws.{IsNamed}
 use Rattle.compile_names.proofs.Counted.{counted_named}
 use Rattle.compile_made.specs.Made.{IsMade, copies_of, high_of}

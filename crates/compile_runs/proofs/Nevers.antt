@@ -1,6 +1,6 @@
 -- A mark that a run doesn't pass has no address that it visits.
-use Rattle.std.proofs.Common.{◌≡◌, ℕ, ◌+◌, ℤ, pos, ◌+ℤ◌, true, false, List, [], ◌∷◌, map, refl, sym, ap, ◌∙◌, subst, All, arith}
-use Rattle.std.specs.Prelude.{◌==◌}
+use Rattle.std.proofs.Common.{◌≡◌, ℕ, ◌+◌, ℤ, pos, ◌+ℤ◌, Bool, true, false, List, [], ◌∷◌, map, refl, sym, ap, ◌∙◌, subst, All, arith}
+use Rattle.std.specs.Prelude.{◌==◌, if◌then◌else◌}
 use Rattle.std.specs.List.{flat_map}
 use Rattle.std.proofs.Math.IntN.{pos-+ℤ-pos}
 use Rattle.std.proofs.lemmas.Int.{ints}
@@ -22,8 +22,12 @@ AreNumbers f = (a : ℕ) → (n : ℕ) × (f a ≡ pos n)
 abbrev IsNone : (ℕ → ℤ) → ℕ → Type 0
 IsNone f a = f a ≡ pos 0
 
+one_or_none : (b : Bool) → (n : ℕ) × ((if b then pos 1 else pos 0) ≡ pos n)
+one_or_none true = (1, refl)
+one_or_none false = (0, refl)
+
 one_visit : (v : Visit) (a : ℕ) → (n : ℕ) × (when_same v.at a (pos 1) ≡ pos n)
-one_visit v a = elim (v.at == a) as (λ b. (n : ℕ) × ((elim b as (λ c. ℤ) [ true ↦ pos 1 | false ↦ pos 0 ]) ≡ pos n)) [ true ↦ (1, refl) | false ↦ (0, refl) ]
+one_visit v a = one_or_none (v.at == a)
 
 pub visits_some : (vs : List Visit) → AreNumbers (visit_count vs)
 visits_some [] a = (0, refl)

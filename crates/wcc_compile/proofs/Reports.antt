@@ -1,8 +1,7 @@
 -- The report that is put together.
-use Rattle.std.proofs.Common.{refl, sym, subst}
+use Rattle.std.proofs.Common.{refl, subst}
 use Rattle.rv_core.specs.Table.{Table}
 use Rattle.code_flow_system.specs.Certificates.{IsInForm}
-use Rattle.code_flow_system.specs.Systems.{IsSystemOf}
 use Rattle.facts_front.specs.declared.reading.Source.{Source}
 use Rattle.report_text.specs.Forms.{IsReport}
 use Rattle.compile_made.specs.declared.made.Made.{Made}
