@@ -1,8 +1,6 @@
 -- The loops of what is made of a source have numbers below how many there are, and those of the source have small ones.
-use Rattle.std.proofs.Common.{ℕ, ◌^◌, ◌<◌, Bool, inl, inr, List, [], ◌∷◌, map, Some, sym, ap, subst, All}
-use Rattle.std.specs.Prelude.{if◌then◌else◌}
-use Rattle.std.proofs.lemmas.Bool.Decides.{eqb_tells}
-use Rattle.std.proofs.lemmas.List.Elements.{All-contains, All-head, All-map, All-nil, All-same, All-tail, All-weaker}
+use Rattle.std.proofs.Common.{ℕ, ◌^◌, ◌<◌, List, map, sym, ap, subst, All}
+use Rattle.std.proofs.lemmas.List.Elements.{All-contains, All-map, All-nil, All-same, All-weaker}
 use Rattle.code_flow_system.specs.Claims.{Claims}
 use Rattle.code_flow_system.specs.declared.claims.LoopClaim.{LoopClaim}
 use Rattle.facts_definitions.specs.declared.facts.Facts.{Facts}
@@ -19,6 +17,7 @@ use Rattle.high_pass.specs.Listing.{Listing, LoopEntry, listed_loops, loop_entry
 use Rattle.high_pass.proofs.Continuing.{each_loop, loops_below}
 use Rattle.high_pass.proofs.Counting.{all_below}
 use Rattle.high_pass.proofs.Elements.{All-map_back, at_or}
+use Rattle.high_pass.proofs.Origins.{StartsFewer-there}
 use Rattle.low_ir.specs.Code.{Loop}
 use Rattle.low_ir.specs.declared.places.LowReg.{LowReg}
 use Rattle.low_ir.specs.Placings.{assignment_of, placed_of}
@@ -64,14 +63,6 @@ memory_there p code y high lowered h =
 abbrev number_of : Bounded → ℕ
 number_of l = l.id
 
--- a loop that is there has its number
-number_small : (k factor : ℕ) (ls : List Bounded) → All (λ (l : Bounded). l.id < 2 ^ 26) ls → StartsFewer (bounds_of ls k) factor → k < 2 ^ 26
-number_small k factor [] few fewer = absurd fewer
-number_small k factor (l ∷ ls) few fewer = elim (eqb_tells l.id k) [
-    | inl e ↦ subst (λ n. n < 2 ^ 26) e.1 (All-head (λ (x : Bounded). x.id < 2 ^ 26) l ls few)
-    | inr e ↦ number_small k factor ls (All-tail (λ (x : Bounded). x.id < 2 ^ 26) l ls few) (subst (λ (b : Bool). StartsFewer (if b then Some l.bounds else bounds_of ls k) factor) e.0 fewer)
-  ]
-
 module _ (source : List ℕ) (names : List (List ℕ)) (program : c.Program) (facts : Facts) (m : Made) (is : IsSource source names program facts) (made : IsMade names program facts m) where
   abbrev p : Program
   p = high_of m
@@ -79,17 +70,22 @@ module _ (source : List ℕ) (names : List (List ℕ)) (program : c.Program) (fa
   abbrev listing : Listing
   listing = copies_of m
 
+  abbrev loops : List Bounded
+  loops = (source_behaviour program names facts).loops
+
+  few : All (λ x. x < 2 ^ 26) (map number_of loops)
+  few = All-map (λ x. x < 2 ^ 26) number_of loops (source_loops_few source names program facts is)
+
   -- copies are listed by the loops of the source
   old_small : All (λ (e : LoopCopies). e.old < 2 ^ 26) m.stages.last.copies.loops.items
   old_small =
-      let few = All-map (λ x. x < 2 ^ 26) number_of (source_behaviour program names facts).loops (source_loops_few source names program facts is) in
-      let olds = All-same (λ x. x < 2 ^ 26) (map (λ (e : LoopEntry). e.old) listing.loops) (map number_of (source_behaviour program names facts).loops) made.carried.carries.loops few in
+      let olds = All-same (λ x. x < 2 ^ 26) (map (λ (e : LoopEntry). e.old) listing.loops) (map number_of loops) made.carried.carries.loops few in
       All-map_back (λ (e : LoopEntry). e.old < 2 ^ 26) entry_of m.stages.last.copies.loops.items (All-map_back (λ x. x < 2 ^ 26) (λ (e : LoopEntry). e.old) listing.loops olds)
 
   -- a loop that makes fewer starts is one of the source
   nevers_small : All (λ (v : NeverMark). v.old < 2 ^ 26) m.stages.last.copies.nevers.items
-  nevers_small = All-weaker (λ (v : NeverMark). StartsFewer (bounds_of (source_behaviour program names facts).loops v.old) v.factor) (λ (v : NeverMark). v.old < 2 ^ 26)
-      (λ v fewer. number_small v.old v.factor (source_behaviour program names facts).loops (source_loops_few source names program facts is) fewer) m.stages.last.copies.nevers.items made.carried.carries.nevers
+  nevers_small = All-weaker (λ (v : NeverMark). StartsFewer (bounds_of loops v.old) v.factor) (λ (v : NeverMark). v.old < 2 ^ 26)
+      (λ v fewer. StartsFewer-there loops (2 ^ 26) v.factor v.old few fewer) m.stages.last.copies.nevers.items made.carried.carries.nevers
 
   pub can_be_named : CanBeNamed m
   can_be_named =
