@@ -24,13 +24,14 @@ use Rattle.claims_image.specs.Images.{HasClaims, laid_of}
 use Rattle.layout_kept.specs.Kept.{IsLight}
 use Rattle.path_search.specs.Conditions.{CanBound}
 use Rattle.compile_claims.specs.Laws.{under}
-use Rattle.compile_claims.specs.Named.{AreHanded, named}
+use Rattle.compile_claims.specs.Named.{named}
 use Rattle.compile_claims.proofs.Bounds.{bound_same}
 use Rattle.compile_claims.proofs.Systems.{system_same}
 use Rattle.compile_made.specs.declared.made.Made.{Made}
 use Rattle.compile_made.specs.Made.{IsInMemory, IsMade, copies_of, high_of}
 use Rattle.compile_kept.specs.Limits.{nothing}
-use Rattle.compile_reports.proofs.Standing.{nevers_fine}
+use Rattle.compile_handed.specs.Handed.{AreHandedOn}
+use Rattle.compile_handed.proofs.Standing.{nevers_fine}
 use Rattle.compile_turns.proofs.Light.{source_light}
 use Rattle.compile_turns.proofs.Whole.{all_kept}
 use Rattle.compile_bounds.proofs.Faults.{only_memory}
@@ -73,12 +74,12 @@ module _ (source : List ℕ) (names : List (List ℕ)) (program : c.Program) (fa
       }
 
   -- whatever is handed on
-  module _ (claims : Claims) (handed : AreHanded (copies_of m) m.laid.lists.places.items m.laid.claimed.claims claims) where
+  module _ (claims : Claims) (handed : AreHandedOn m claims) where
     abbrev es : List LoopEntry
     es = (copies_of m).loops
 
     pub made_only_memory : (fault : CodeFault) → IsFault m.laid.image claims fault → fault ≡ Memory
-    made_only_memory fault h = has_system m.code m.laid made.in_memory es claims.nevers (nevers_fine names program facts m made claims.nevers handed.nevers) fault (subst (λ (c : Claims). IsFault m.laid.image c fault) handed.claims h)
+    made_only_memory fault h = has_system m.code m.laid made.in_memory es claims.nevers (nevers_fine names program facts m made claims handed) fault (subst (λ (c : Claims). IsFault m.laid.image c fault) handed.claims h)
 
     pub made_bounded : (c : Costs) (s : System) → IsSystemOf m.laid.image claims s → CanBound (table_of c) s m.laid.claimed.shapes.items m.laid.lists.spans.items
     made_bounded c s h = can_bound m.code m.laid made.in_memory es claims.nevers light c s (subst (λ (k : Claims). IsSystemOf m.laid.image k s) handed.claims h)

@@ -13,7 +13,7 @@ use Rattle.types_tree.specs.Tree.{Program}
 use Rattle.high_ir.specs.declared.copies.LoopCopies.{LoopCopies}
 use Rattle.high_ir.specs.declared.copies.NeverMark.{NeverMark}
 use Rattle.path_search.specs.Conditions.{CanBound}
-use Rattle.compile_claims.specs.Named.{AreHanded}
+use Rattle.compile_handed.specs.Handed.{AreHandedOn}
 use Rattle.compile_made.specs.declared.made.Made.{Made}
 use Rattle.compile_made.specs.Made.{IsMade, copies_of, high_of}
 
@@ -30,10 +30,6 @@ pub record CanBeNamed (m : Made) : Type 0 where
 -- claims can be named by the loops of the source
 abbrev pub MadeCanBeNamed : Type 0
 MadeCanBeNamed = (source : List ℕ) (names : List (List ℕ)) (program : Program) (facts : Facts) (m : Made) → IsSource source names program facts → IsMade names program facts m → CanBeNamed m
-
--- claims on what is made, as they are handed on
-abbrev pub AreHandedOn : Made → Claims → Type 0
-AreHandedOn m claims = AreHanded (copies_of m) m.laid.lists.places.items m.laid.claimed.claims claims
 
 -- nothing but memory can be wanting for the flow system: no claim is bad, and what is reached is code
 abbrev pub MadeHaveSystems : Type 0

@@ -9,17 +9,18 @@ use Rattle.path_search.specs.Kinds.{IsMarked}
 use Rattle.compile_lines.specs.CopyLines.{AreLinesOf}
 use Rattle.report_shares.specs.Shares.{with_sum}
 use Rattle.report_text.specs.Reports.{Report, report_of}
+use Rattle.compile_handed.specs.Handed.{AreHandedOn}
 use Rattle.compile_made.specs.declared.made.Made.{Made}
 use Rattle.compile_reports.specs.Reported.{AreShared}
 use Rattle.compile_reporting.specs.declared.finding.Found.{Found}
 use Rattle.compile_reporting.specs.declared.telling.Told.{Told}
-use Rattle.compile_reporting.specs.Sources.{AreClaimsOn, names_of, ranges_of}
+use Rattle.compile_reporting.specs.Sources.{names_of, ranges_of}
 use Rattle.compile_made.specs.Made.{copies_of}
 
 -- the copy lines, and the claims by the loops of the source
 pub record IsTold (s : Source) (m : Made) (told : Told) : Type 0 where
   pub lines : AreLinesOf (names_of s) m.laid.lists.places.items (s.facts.functions ++ s.facts.markers) (copies_of m).marks told.lines.items
-  pub claims : AreClaimsOn m told.claims
+  pub claims : AreHandedOn m told.claims
 
 -- the bound of a flow system, and its shares
 pub record IsBound (t : Table) (s : Source) (m : Made) (system : System) (found : Found) : Type 0 where

@@ -1,7 +1,8 @@
 // What a report tells of the image of a source.
 ghost use Rattle.std.specs.Prelude.{◌++◌, IfOk};
+ghost use Rattle.compile_handed.specs.Handed.{AreHandedOn};
 ghost use Rattle.compile_lines.specs.CopyLines.{AreLinesOf};
-ghost use Rattle.compile_reporting.specs.Sources.{AreClaimsOn, IsMadeOf, names_of};
+ghost use Rattle.compile_reporting.specs.Sources.{IsMadeOf, names_of};
 ghost use Rattle.compile_reporting.specs.Found.{IsTold};
 ghost use Rattle.compile_made.specs.Made.{copies_of};
 
@@ -26,7 +27,7 @@ pub struct Told {
 /// The claims on the image, by the loops of the source.
 fn claims_of(alloc: Global, source: &Source, made: &Made) -> Result<Claims, Memory>
     requires { IsMadeOf source.now made.now }
-    ensures { IfOk result (AreClaimsOn made.now) }
+    ensures { IfOk result (AreHandedOn made.now) }
 {
     made_can_be_named();
     claims_are_few();

@@ -1,11 +1,9 @@
 pub mod Names
-pub mod Places
 pub mod Copies
 pub mod Orders
 pub mod Values
 pub mod Ranges
 pub mod Laid
-pub mod Standing
 pub mod Reports
 pub mod Openings
 pub mod Fitting

@@ -33,9 +33,9 @@ use Rattle.compile_reports.specs.Reported.{AreShared, IsReported}
 use Rattle.compile_reports.proofs.Copies.{AreOnce, copy_lines}
 use Rattle.compile_reports.proofs.Laid.{claims_named, system_sound}
 use Rattle.compile_reports.proofs.Orders.{sound_in_order}
-use Rattle.compile_reports.proofs.Places.{copies_once, together_once}
+use Rattle.compile_handed.proofs.Places.{copies_once, together_once}
 use Rattle.compile_reports.proofs.Ranges.{each_share, shares, shares_ascend}
-use Rattle.compile_reports.proofs.Standing.{own_places, rising}
+use Rattle.compile_handed.proofs.Standing.{own_places, rising}
 use Rattle.compile_reports.proofs.Values.{value_small}
 
 same_kind : (kind : Kind) (mark : Mark) → IsMarked kind mark → mark ≡ mark_of kind

@@ -9,7 +9,7 @@ use Rattle.std.proofs.lemmas.List.Concat.{flat_map-cons}
 use Rattle.std.proofs.lemmas.List.Elements.{All-append, All-cons, All-head, All-map, All-nil, All-tail}
 use Rattle.std.proofs.lemmas.List.FromFn.{get_or-map-range_with_len, length-map-range_with_len}
 use Rattle.std.proofs.lemmas.List.Sorted.{All-permutation, IsPermutation-map}
-use Rattle.code_flow_system.specs.Claims.{is_above, is_aligned, never_flaws}
+use Rattle.code_flow_system.specs.Claims.{Claims, is_above, is_aligned, never_flaws}
 use Rattle.code_flow_system.specs.declared.claims.Never.{Never}
 use Rattle.facts_definitions.specs.declared.facts.Facts.{Facts}
 use Rattle.types_tree.specs.Tree.{Program}
@@ -22,12 +22,13 @@ use Rattle.claims_image.specs.Images.{laid_of}
 use Rattle.claims_places.specs.Places.{places_below}
 use Rattle.low_ir.specs.Placings.{placed_of}
 use Rattle.report_text.specs.Forms.{Ascend}
-use Rattle.compile_claims.specs.Named.{AreNevers, addresses, never_at, nevers_at}
+use Rattle.compile_claims.specs.Named.{addresses, never_at, nevers_at}
 use Rattle.compile_lines.specs.CopyLines.{places_at}
 use Rattle.compile_kept.specs.Limits.{nothing}
 use Rattle.compile_made.specs.Made.{IsMade, copies_of, high_of}
 use Rattle.compile_made.specs.declared.made.Made.{Made}
-use Rattle.compile_reports.proofs.Places.{nevers_once, rise_aligned, rise_ascends, strictly, times, times-permuted, together_once}
+use Rattle.compile_handed.specs.Handed.{AreHandedOn}
+use Rattle.compile_handed.proofs.Places.{nevers_once, rise_aligned, rise_ascends, strictly, times, times-permuted, together_once}
 
 abbrev mark_of : NeverMark → ℕ
 mark_of v = v.mark
@@ -134,8 +135,10 @@ module _ (names : List (List ℕ)) (program : Program) (facts : Facts) (m : Made
   once a = together_once (IsPlaceOf l) made.in_memory.keeps_low.apart (places_at places) own_places rising a marks (nevers_once listing (high_of m).marks made.carried.carries.lists.marks)
 
   -- the claims on never marks are sound
-  pub nevers_fine : (ns : List Never) → AreNevers places listing.nevers ns → All Fine (never_flaws None ns)
-  nevers_fine ns h =
+  pub nevers_fine : (claims : Claims) → AreHandedOn m claims → All Fine (never_flaws None claims.nevers)
+  nevers_fine claims handed =
+      let ns = claims.nevers in
+      let h = handed.nevers in
       let from : IsPermutation (flat_map (addresses places) marks) (map at_of ns) = subst (λ xs. IsPermutation xs (map at_of ns)) (all_addresses places listing.nevers) (IsPermutation-map at_of (flat_map (nevers_at places) listing.nevers) ns h.all) in
       let few : (a : ℕ) → times a (map at_of ns) ≤ 1 = λ a. let one = once a in let same = times-permuted a (flat_map (addresses places) marks) (map at_of ns) from in omega (arith, one, same) in
       never_fine None ns
