@@ -16,7 +16,5 @@ mod laws;
 mod naming;
 mod nevers;
 
-pub use laws::{
-    bounds_are_same, no_code_is_same, none_is_bad, runs_keep_same, systems_are_same,
-};
+pub use laws::{bounds_are_same, no_code_is_same, none_is_bad, runs_keep_same, systems_are_same};
 pub use naming::by_source;

@@ -42,7 +42,11 @@ fn add_nevers(mark: NeverMark, addresses: &[u32], nevers: &mut Vec<Never>) -> Re
 }
 
 /// The claims on the addresses of these marks, mark by mark.
-fn nevers_by_mark(alloc: Global, places: &[Items<u32>], marks: &[NeverMark]) -> Result<Vec<Never>, Memory>
+fn nevers_by_mark(
+    alloc: Global,
+    places: &[Items<u32>],
+    marks: &[NeverMark],
+) -> Result<Vec<Never>, Memory>
     requires { All (λ v. v.old < 4294967295) marks.now }
     ensures { IfOk result (λ v. v.items ≡ flat_map (nevers_at places.now) marks.now) }
 {
@@ -54,7 +58,11 @@ fn nevers_by_mark(alloc: Global, places: &[Items<u32>], marks: &[NeverMark]) -> 
 }
 
 /// The claims on the addresses of these marks, in ascending order.
-pub fn nevers_of(alloc: Global, places: &[Items<u32>], marks: &[NeverMark]) -> Result<Vec<Never>, Memory>
+pub fn nevers_of(
+    alloc: Global,
+    places: &[Items<u32>],
+    marks: &[NeverMark],
+) -> Result<Vec<Never>, Memory>
     requires { All (λ v. v.old < 4294967295) marks.now }
     ensures { IfOk result (λ v. AreNevers places.now marks.now v.items) }
 {
