@@ -74,12 +74,12 @@ module _ (source : List ℕ) (names : List (List ℕ)) (program : c.Program) (fa
       }
 
   -- whatever is handed on
-  module _ (claims : Claims) (handed : AreHandedOn m claims) where
+  module _ (told : Claims) (handed : AreHandedOn m told) where
     abbrev es : List LoopEntry
     es = (copies_of m).loops
 
-    pub made_only_memory : (fault : CodeFault) → IsFault m.laid.image claims fault → fault ≡ Memory
-    made_only_memory fault h = has_system m.code m.laid made.in_memory es claims.nevers (nevers_fine names program facts m made claims handed) fault (subst (λ (c : Claims). IsFault m.laid.image c fault) handed.claims h)
+    pub made_only_memory : (fault : CodeFault) → IsFault m.laid.image told fault → fault ≡ Memory
+    made_only_memory fault h = has_system m.code m.laid made.in_memory es told.nevers (nevers_fine names program facts m made told handed) fault (subst (λ (c : Claims). IsFault m.laid.image c fault) handed.claims h)
 
-    pub made_bounded : (c : Costs) (s : System) → IsSystemOf m.laid.image claims s → CanBound (table_of c) s m.laid.claimed.shapes.items m.laid.lists.spans.items
-    made_bounded c s h = can_bound m.code m.laid made.in_memory es claims.nevers light c s (subst (λ (k : Claims). IsSystemOf m.laid.image k s) handed.claims h)
+    pub made_bounded : (c : Costs) (s : System) → IsSystemOf m.laid.image told s → CanBound (table_of c) s m.laid.claimed.shapes.items m.laid.lists.spans.items
+    made_bounded c s h = can_bound m.code m.laid made.in_memory es told.nevers light c s (subst (λ (k : Claims). IsSystemOf m.laid.image k s) handed.claims h)
