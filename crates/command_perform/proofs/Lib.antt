@@ -13,3 +13,5 @@ pub mod NumberedRuns
 pub mod CheckRuns
 pub mod TaskRuns
 pub mod RespondRuns
+pub mod NamesApart
+pub mod CompileChecks
