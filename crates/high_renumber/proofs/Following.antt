@@ -1,7 +1,7 @@
 -- One statement, run from two states that differ in their traces alone, under two labellings.
 use Rattle.std.proofs.Common.{◌≡◌, ℕ, zero, suc, ◌-◌, Bool, true, false, List, [], ◌∷◌, ◌++◌, Option, Some, None, refl, sym, ap, subst}
 use Rattle.std.specs.Prelude.{slice_get}
-use Rattle.high_ir.specs.Meaning.{World, Variables, State, Outcome, Goes, Leaves, Returns, Bad, Given, Calls, Labels, after_call, again, choose, got, if_met, keep, next_byte, objects_of, out_of_block, pass, put, run, run_all, set_variables, set_world, taken, then_do, turns, value_of, values_of, with_value, written}
+use Rattle.high_ir.specs.Meaning.{World, Variables, State, Outcome, Goes, Leaves, Returns, Bad, Given, Calls, Labels, after_call, again, choose, if_met, keep, next_byte, objects_of, out_of_block, pass, run, run_all, taken, then_do, turns, value_of, values_of, with_value, written}
 use Rattle.high_ir.specs.Runs.{calls, enter, frame, given, only_good, takes}
 use Rattle.high_ir.specs.Tree.{Statement, Set, Put, Get, Keep, Mark, Seq, If, Loop, Block, Leave, Call, Return, Statements, End, Then, Function}
 

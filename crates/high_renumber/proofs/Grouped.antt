@@ -1,10 +1,10 @@
 -- The copies of marks and loops, one new number more.
-use Rattle.std.proofs.Common.{◌≡◌, ℕ, zero, suc, ◌+◌, ◌<◌, ◌≤◌, Bool, true, false, cond, List, [], ◌∷◌, ◌++◌, length, take, get_or, map, refl, sym, ap, ◌∙◌, subst, add-one, arith, append-nil}
+use Rattle.std.proofs.Common.{◌≡◌, ℕ, zero, suc, ◌+◌, ◌<◌, ◌≤◌, Bool, true, false, cond, List, [], ◌∷◌, ◌++◌, length, take, get_or, map, refl, sym, ap, ◌∙◌, add-one, arith, append-nil}
 use Rattle.std.specs.Prelude.{slice_set, ◌==◌}
 use Rattle.std.specs.List.{range_with_len}
 use Rattle.std.proofs.lemmas.Bool.{eq-eqb, ne_eqb}
-use Rattle.std.proofs.lemmas.List.{get_or-map, length-take-le, map-append, map-set}
-use Rattle.std.proofs.lemmas.List.FromFn.{get_or-map-range_with_len}
+use Rattle.std.proofs.lemmas.List.{get_or-map, length-map, length-take-le, map-append, map-set}
+use Rattle.std.proofs.lemmas.List.FromFn.{get_or-map-range_with_len, length-map-range_with_len}
 use Rattle.high_pass.specs.Listing.{LoopEntry, MarkEntry, loop_entry, mark_entry}
 use Rattle.high_ir.specs.declared.copies.MarkCopies.{MarkCopies}
 use Rattle.high_ir.specs.declared.copies.LoopCopies.{LoopCopies}
@@ -17,7 +17,7 @@ before_both true i xs ys zs e = ap (λ l. i ∷ l) e
 before_both false i xs ys zs e = e
 
 -- a list with an element more has its place more, where it is that number
-pub places_more : (i : ℕ) (os : List ℕ) (o x : ℕ) → places i (os ++ o ∷ []) x ≡ places i os x ++ cond (o == x) (i + length os ∷ []) []
+pub places_more : (i : ℕ) (os : List ℕ) (o x : ℕ) → places i (os ++ o ∷ []) x ≡ places i os x ++ cond (o == x) ((i + length os) ∷ []) []
 places_more i [] o x =
     let last : ℕ → List ℕ = λ k. cond (o == x) (k ∷ []) [] in
     let z : i ≡ i + 0 = omega arith in
@@ -27,6 +27,10 @@ places_more i (p ∷ os) o x =
     let z : i + 1 + length os ≡ i + suc (length os) = omega arith in
     before_both (p == x) i (places (i + 1) (os ++ o ∷ []) x) (places (i + 1) os x) (last (i + suc (length os)))
     (places_more (i + 1) os o x ∙ ap (λ k. places (i + 1) os x ++ last k) z)
+
+-- how many there are of them
+pub count_made : {A B : Type 0} (F : A → B) (G : ℕ → B) (xs : List A) (n : ℕ) → map F xs ≡ map G (range_with_len 0 n) → length xs ≡ n
+count_made F G xs n made = sym (length-map xs F) ∙ ap length made ∙ length-map-range_with_len G 0 n
 
 -- rows of things made in two ways that agree from a number on
 rows_same : {A : Type 0} (F G : ℕ → A) (b n : ℕ) → ((j : ℕ) → b ≤ j → F j ≡ G j) → map F (range_with_len b n) ≡ map G (range_with_len b n)
@@ -48,7 +52,7 @@ set_made F G a (suc n) (suc k) lt same =
 other_mark : (os : List ℕ) (o j : ℕ) → (j ≡ o → ⊥) → mark_at (os ++ o ∷ []) j ≡ mark_at os j
 other_mark os o j apart =
     let ne = ne_eqb o j (λ e. apart (sym e)) in
-    ap (λ l. record { old = j; new = l }) (places_more 0 os o j ∙ ap (λ b. places 0 os j ++ cond b (0 + length os ∷ []) []) ne ∙ append-nil (places 0 os j))
+    ap (λ l. record { old = j; new = l }) (places_more 0 os o j ∙ ap (λ b. places 0 os j ++ cond b ((0 + length os) ∷ []) []) ne ∙ append-nil (places 0 os j))
 
 -- one new mark more
 pub marks_pushed : (os : List ℕ) (o n : ℕ) (copies after : List MarkCopies) (e : MarkEntry) → o < n → map mark_entry copies ≡ map (mark_at os) (range_with_len 0 n) → map mark_entry after ≡ slice_set (map mark_entry copies) o e → e ≡ mark_at (os ++ o ∷ []) o → map mark_entry after ≡ map (mark_at (os ++ o ∷ [])) (range_with_len 0 n)
@@ -60,7 +64,7 @@ marks_pushed os o n copies after e lt before made is =
 other_loop : (os : List ℕ) (o j : ℕ) → (j ≡ o → ⊥) → loop_at (os ++ o ∷ []) j ≡ loop_at os j
 other_loop os o j apart =
     let ne = ne_eqb o j (λ e. apart (sym e)) in
-    ap (λ l. record { old = j; new = map once l }) (places_more 0 os o j ∙ ap (λ b. places 0 os j ++ cond b (0 + length os ∷ []) []) ne ∙ append-nil (places 0 os j))
+    ap (λ l. record { old = j; new = map once l }) (places_more 0 os o j ∙ ap (λ b. places 0 os j ++ cond b ((0 + length os) ∷ []) []) ne ∙ append-nil (places 0 os j))
 
 -- one new loop more
 pub loops_pushed : (os : List ℕ) (o n : ℕ) (copies after : List LoopCopies) (e : LoopEntry) → o < n → map loop_entry copies ≡ map (loop_at os) (range_with_len 0 n) → map loop_entry after ≡ slice_set (map loop_entry copies) o e → e ≡ loop_at (os ++ o ∷ []) o → map loop_entry after ≡ map (loop_at (os ++ o ∷ [])) (range_with_len 0 n)
@@ -83,7 +87,7 @@ last_place : (os : List ℕ) (o : ℕ) → places 0 (os ++ o ∷ []) o ≡ place
 last_place os o =
     let same : (o == o) ≡ true = eq-eqb o o refl in
     let z : 0 + length os ≡ length os = omega arith in
-    places_more 0 os o o ∙ ap (λ b. places 0 os o ++ cond b (0 + length os ∷ []) []) same ∙ ap (λ k. places 0 os o ++ k ∷ []) z
+    places_more 0 os o o ∙ ap (λ b. places 0 os o ++ cond b ((0 + length os) ∷ []) []) same ∙ ap (λ k. places 0 os o ++ k ∷ []) z
 
 -- the same lists, as the code changes them
 module _ (os : List ℕ) (i o n number : ℕ) (lt : i < length os) (at : o ≡ get_or os i o) (there : o < n) (is : number ≡ 0 + i) where

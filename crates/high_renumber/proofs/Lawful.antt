@@ -1,34 +1,32 @@
 -- A pass is lawful that makes a loose program which keeps the old one, and renumbers it.
-use Rattle.std.proofs.Common.{◌≡◌, ℕ, zero, suc, ◌+◌, ◌*◌, ◌<◌, ◌≤◌, ◌^◌, max, Bool, true, false, cond, nat_lt, List, [], ◌∷◌, ◌++◌, length, get_or, map, Option, Some, None, refl, sym, ap, ◌∙◌, subst, ⊎_elim, arith, All, append-nil, length-append}
+use Rattle.std.proofs.Common.{◌≡◌, ℕ, zero, suc, ◌+◌, ◌<◌, ◌≤◌, ◌^◌, Bool, true, false, cond, nat_lt, List, [], ◌∷◌, ◌++◌, length, get_or, map, Option, Some, None, refl, sym, ap, ◌∙◌, subst, ⊎_elim, arith, All, append-nil, length-append}
 use Rattle.std.specs.Prelude.{option_map, slice_get, slice_index_or, sum_by, Contains, ◌==◌}
 use Rattle.std.specs.List.{flat_map, range_with_len}
 use Rattle.std.proofs.lemmas.Bool.{cases_lt, cond-false, cond-true, eq-eqb, le-ltb, lt-ltb}
 use Rattle.std.proofs.lemmas.Bool.Decides.{nat_tests}
 use Rattle.std.proofs.lemmas.Simd.{map-map}
-use Rattle.std.proofs.lemmas.List.{length-map, map-append, map-id}
+use Rattle.std.proofs.lemmas.List.{length-map, map-id}
 use Rattle.std.proofs.lemmas.List.Concat.{flat_map-cons}
 use Rattle.std.proofs.lemmas.List.Elements.{All-append, All-cons, All-head, All-map, All-nil, All-same, All-tail, Contains-append_right}
 use Rattle.std.proofs.lemmas.List.Folds.{flat_map-map}
 use Rattle.std.proofs.lemmas.List.FromFn.{get_or-map-range_with_len, get_or-range_with_len, length-range_with_len}
 use Rattle.std.proofs.lemmas.List.Sums.{sum_by-cons}
 use Rattle.std.proofs.lemmas.Option.{none-some, same_Some, slice_get-get_or, slice_get-map, slice_get_within}
-use Rattle.high_ir.specs.declared.copies.LoopCopy.{LoopCopy}
 use Rattle.high_ir.specs.Formed.{IsHigh, LeavesWithin, RanksFall}
-use Rattle.high_ir.specs.Meaning.{Given, Labels, World}
-use Rattle.high_ir.specs.Runs.{Run, calls, count_of, hrun, labelled_run, rank_or, run_of, start}
-use Rattle.high_ir.specs.Size.{depth, frame_bytes, function_nodes, greatest, local_bytes, nodes, operations, program_depth, program_nodes, program_operations}
-use Rattle.high_ir.specs.Splitting.{by_factor}
+use Rattle.high_ir.specs.Meaning.{Given}
+use Rattle.high_ir.specs.Runs.{calls, count_of, hrun, rank_or, run_of, start}
+use Rattle.high_ir.specs.Size.{depth, frame_bytes, function_nodes, greatest, local_bytes, operations, program_nodes, program_operations}
 use Rattle.high_ir.specs.Standing.{Bounded, callees_of, loops_in, loops_of, marks_in, marks_of}
 use Rattle.high_ir.specs.Tree.{Function, Program}
-use Rattle.high_ir.specs.Weight.{reach, weight, weights}
-use Rattle.high_ir.specs.Whole.{HasWords, IsWhole}
-use Rattle.high_pass.specs.Carries.{AreBy, Carries, RunsAlike, ShowsAlike, StartsFewer, behaviour_of, bounds_of, shown}
-use Rattle.high_pass.specs.Law.{FactorsWithin, IsLawful, ReachWithin, WithinBudgets, signature_of}
-use Rattle.high_pass.specs.Listing.{HasEachBelow, Listing, ListsThoseOf, MarkEntry, listed_loops, listed_marks, mark_copies}
+use Rattle.high_ir.specs.Weight.{reach, weight}
+use Rattle.high_ir.specs.Whole.{HasWords}
+use Rattle.high_pass.specs.Carries.{AreBy, Carries, RunsAlike, StartsFewer, behaviour_of, bounds_of, shown}
+use Rattle.high_pass.specs.Law.{IsLawful, signature_of}
+use Rattle.high_pass.specs.Listing.{ListsThoseOf}
 use Rattle.high_pass.proofs.Counting.{sum_by-flat_map, sum_by-pointwise}
-use Rattle.high_renumber.specs.Keeping.{FunctionsServe, IsLoose, Keeps, ServesCall}
+use Rattle.high_renumber.specs.Keeping.{IsLoose, Keeps, ServesCall}
 use Rattle.high_renumber.specs.Numbered.{copies_by, copies_in, function_numbered, functions_numbered, ids, loop_at, loop_origins, mark_at, mark_origins, numbered, once, places, renumbered}
-use Rattle.high_renumber.proofs.Counting.{counted, one_if, one_place, past_places, places_hold, sum_by-plus, sum_by-zero}
+use Rattle.high_renumber.proofs.Counting.{counted, one_if, one_place, past_places, places_hold, sum_by-zero}
 use Rattle.high_renumber.proofs.Following.{FollowsCall, calls_follow}
 use Rattle.high_renumber.proofs.NumberedLemmas.{callees-numbered, depth-numbered, leaves-numbered, loops-numbered, marks-numbered, nodes-numbered, operations-numbered, range_append, with_ids, with_ids_append, words-numbered}
 use Rattle.high_renumber.proofs.Origins.{Marked, by_origin, marked_follows, numbered_calls, opening_origin, rank_or-numbered}

@@ -1,5 +1,5 @@
 -- The renumbered program, from what the code makes.
-use Rattle.std.proofs.Common.{◌≡◌, ℕ, ◌<◌, List, [], ◌++◌, length, refl, sym, ap, ◌∙◌, subst, All}
+use Rattle.std.proofs.Common.{◌≡◌, ℕ, ◌<◌, List, [], ◌++◌, length, sym, ap, ◌∙◌, subst, All}
 use Rattle.std.specs.List.{range_with_len}
 use Rattle.std.proofs.lemmas.List.FromFn.{length-range_with_len}
 use Rattle.high_ir.specs.declared.copies.NeverMark.{NeverMark}
@@ -7,7 +7,7 @@ use Rattle.high_ir.specs.Standing.{loops_in, marks_in}
 use Rattle.high_ir.specs.Tree.{Function, Object, Program}
 use Rattle.high_pass.specs.Listing.{Listing, LoopEntry, MarkEntry}
 use Rattle.high_renumber.specs.Keeping.{IsLoose}
-use Rattle.high_renumber.specs.Numbered.{copies_by, functions_numbered, ids, loop_at, loop_origins, mark_at, mark_origins, renumbered}
+use Rattle.high_renumber.specs.Numbered.{copies_by, functions_numbered, ids, loop_origins, mark_origins, renumbered}
 use Rattle.high_renumber.proofs.Lawful.{origins_below}
 
 -- the origins behind the opening marks

@@ -1,5 +1,5 @@
 -- What stands in a statement whose marks and loops are numbered, and how large it is.
-use Rattle.std.proofs.Common.{◌≡◌, ℕ, zero, suc, ◌+◌, ◌-◌, ◌*◌, ◌<◌, ◌≤◌, max, List, [], ◌∷◌, ◌++◌, length, map, Option, Some, None, refl, sym, ap, ◌∙◌, subst, arith, length-append}
+use Rattle.std.proofs.Common.{◌≡◌, ℕ, zero, suc, ◌+◌, ◌-◌, ◌*◌, max, List, [], ◌∷◌, ◌++◌, length, refl, sym, ap, ◌∙◌, arith, length-append}
 use Rattle.std.specs.List.{range_with_len}
 use Rattle.high_ir.specs.Size.{depth, depth_all, expr_depth, expr_nodes, expr_operations, nodes, nodes_all, operations, operations_all}
 use Rattle.high_ir.specs.Standing.{Bounded, blocks_needed, blocks_needed_all, callees_of, callees_of_all, loops_of, loops_of_all, marks_of, marks_of_all}

@@ -1,16 +1,15 @@
 -- A renumbered program weighs as much, and reaches the copies of a mark together as often as the mark was reached.
-use Rattle.std.proofs.Common.{◌≡◌, ℕ, zero, suc, ◌+◌, ◌*◌, ◌<◌, cond, List, [], ◌∷◌, ◌++◌, length, get_or, map, Option, Some, None, refl, sym, ap, ◌∙◌, subst, arith, All}
+use Rattle.std.proofs.Common.{◌≡◌, ℕ, zero, suc, ◌+◌, ◌*◌, List, [], ◌∷◌, length, Some, refl, ap, ◌∙◌, subst, arith}
 use Rattle.std.specs.Prelude.{if◌then◌else◌, slice_get, sum_by, ◌==◌}
 use Rattle.std.proofs.lemmas.Option.{slice_get_within}
 use Rattle.std.proofs.lemmas.List.Concat.{flat_map-cons}
 use Rattle.std.proofs.lemmas.List.Sums.{sum_by-cons}
 use Rattle.high_ir.specs.Runs.{rank_or}
-use Rattle.high_ir.specs.Size.{expr_nodes}
-use Rattle.high_ir.specs.Standing.{loops_of, loops_of_all, marks_in, marks_of, marks_of_all}
+use Rattle.high_ir.specs.Standing.{loops_of, marks_in, marks_of, marks_of_all}
 use Rattle.high_ir.specs.Tree.{Statement, Set, Put, Get, Keep, Mark, Seq, If, Loop, Block, Leave, Call, Return, Statements, End, Then, Function, Program}
 use Rattle.high_ir.specs.Weight.{body_reach, body_weight, most_starts, reach, reach_of, reach_of_all, reaches, weight, weight_of, weight_of_all, weights}
 use Rattle.high_renumber.specs.Numbered.{functions_numbered, mark_origins, numbered, numbered_all, places, renumbered}
-use Rattle.high_renumber.proofs.Counting.{one_if, one_place, sum_by-plus, sum_by-zero}
+use Rattle.high_renumber.proofs.Counting.{one_place, sum_by-plus, sum_by-zero}
 use Rattle.high_renumber.proofs.NumberedLemmas.{weight-numbered}
 use Rattle.high_renumber.proofs.Origins.{by_origin, labels_of, opening_origin, rank_or-numbered}
 use Rattle.high_renumber.proofs.Running.{Labelled, labelled_back, labelled_front}
@@ -52,7 +51,9 @@ weight-renumbered p =
 
 sum_by-times : (k : ℕ) (f : ℕ → ℕ) (xs : List ℕ) → sum_by (λ x. k * f x) xs ≡ k * sum_by f xs
 sum_by-times k f [] = omega arith
-sum_by-times k f (x ∷ xs) = omega (arith, sum_by-cons (λ y. k * f y) x xs, sum_by-cons f x xs, sum_by-times k f xs)
+sum_by-times k f (x ∷ xs) =
+    let more : k * sum_by f (x ∷ xs) ≡ k * (f x + sum_by f xs) = ap (λ n. k * n) (sum_by-cons f x xs) in
+    omega (arith, sum_by-cons (λ y. k * f y) x xs, more, sum_by-times k f xs)
 
 -- the copies of one mark, among origins
 module _ (os : List ℕ) (x : ℕ) where

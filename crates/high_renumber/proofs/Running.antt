@@ -1,8 +1,8 @@
 -- A program runs in the same way whatever its marks and loops are called, where the marks have the same labels.
-use Rattle.std.proofs.Common.{◌≡◌, ℕ, zero, suc, ◌+◌, ◌-◌, ◌<◌, Bool, List, [], ◌∷◌, ◌++◌, length, Option, Some, None, refl, sym, ap, ◌∙◌, subst, arith}
+use Rattle.std.proofs.Common.{◌≡◌, ℕ, zero, suc, ◌+◌, ◌-◌, List, [], ◌∷◌, ◌++◌, length, Option, Some, None, refl, ap, ◌∙◌, subst, arith}
 use Rattle.std.specs.Prelude.{slice_get}
 use Rattle.std.proofs.lemmas.List.Concat.{flat_map-cons}
-use Rattle.high_ir.specs.Meaning.{World, Variables, State, Outcome, Goes, Leaves, Returns, Bad, Given, Calls, Labels, after_call, again, choose, objects_of, out_of_block, pass, run, run_all, then_do, turns, value_of, values_of, with_value}
+use Rattle.high_ir.specs.Meaning.{World, State, Outcome, Goes, Leaves, Returns, Bad, Calls, Labels, after_call, again, choose, objects_of, out_of_block, pass, run, run_all, then_do, turns, value_of, values_of, with_value}
 use Rattle.high_ir.specs.Runs.{calls, enter, frame, given, only_good, takes}
 use Rattle.high_ir.specs.Standing.{loops_of, marks_in, marks_of, marks_of_all}
 use Rattle.high_ir.specs.Tree.{Statement, Set, Put, Get, Keep, Mark, Seq, If, Loop, Block, Leave, Call, Return, Statements, End, Then, Function}

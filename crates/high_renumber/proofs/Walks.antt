@@ -1,13 +1,10 @@
 -- Statements one after another, as the code walks them.
-use Rattle.std.proofs.Common.{◌≡◌, ℕ, suc, ◌+◌, ◌<◌, ◌≤◌, List, [], ◌∷◌, ◌++◌, length, get_or, drop, map, refl, sym, ap, ◌∙◌, add-one, append-nil, append_assoc, drop-cons, length-append}
-use Rattle.std.specs.Prelude.{Vec}
-use Rattle.std.specs.Global.{Global}
+use Rattle.std.proofs.Common.{◌≡◌, ℕ, suc, ◌+◌, ◌<◌, ◌≤◌, List, [], ◌∷◌, ◌++◌, length, get_or, drop, sym, ap, ◌∙◌, add-one, append-nil, append_assoc, drop-cons, length-append}
 use Rattle.std.proofs.Math.ListN.{drop_of_length-le}
 use Rattle.std.proofs.lemmas.List.{map-append}
 use Rattle.high_code.specs.Code.{alone, joined}
-use Rattle.high_ir.proofs.Rows.{statement_of-Seq}
 use Rattle.high_ir.specs.Standing.{loops_of, loops_of_all, marks_of, marks_of_all}
-use Rattle.high_ir.specs.Tree.{Statement, Seq, Statements, End, Then}
+use Rattle.high_ir.specs.Tree.{Statements, End, Then}
 use Rattle.high_ir.specs.View.{statement_of, statements_of}
 use Rattle.high_ir.specs.declared.statement.Statement as statements
 use Rattle.high_parts.proofs.Making.{joined_end, joined_then, statements_push}

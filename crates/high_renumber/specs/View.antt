@@ -1,5 +1,4 @@
 -- What the code has, without where it lies in memory.
-use Rattle.std.specs.Prelude.{ℕ, List, map}
 use Rattle.high_ir.specs.Tree.{Program}
 use Rattle.high_ir.specs.View.{program}
 use Rattle.high_renumber.specs.declared.loose.Loose.{Loose}

@@ -18,3 +18,4 @@ pub mod Answered
 pub mod Walks
 pub mod Fitted
 pub mod Counted
+pub mod Swept

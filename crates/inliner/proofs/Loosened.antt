@@ -10,6 +10,7 @@ use Rattle.high_ir.specs.Programs.{program_of}
 use Rattle.high_ir.specs.Tree.{Program}
 use Rattle.high_ir.specs.View.{function_of, object_of, program}
 use Rattle.high_pass.specs.Listing.{Listing}
+use Rattle.high_again.specs.Same.{same_listing}
 use Rattle.high_renumber.specs.Keeping.{IsLoose}
 use Rattle.high_renumber.specs.Numbered.{copies_in, renumbered}
 use Rattle.inliner.specs.Inlining.{Making, copies_of_inlined, inlined, opened_program, swept}

@@ -6,7 +6,7 @@ ghost use Rattle.inliner.specs.Sites.{Inlined};
 ghost use Rattle.inliner.specs.View.{making_of};
 
 use super::inlining::Making;
-use super::settling::{Settled, settled};
+use super::settling::{Settled, settle};
 use high_again::Again;
 use high_ir::{Carried, High};
 use high_parts::objects::copied_objects;
@@ -56,7 +56,7 @@ impl Pass for Inline {
     ghost did = { λ pass old new copies. Inlined pass.limit old new copies };
 
     fn run(&self, alloc: Global, old: &High) -> Result<Carried, Memory> {
-        let settled = settled(alloc, self.limit, old)?;
+        let settled = settle(alloc, self.limit, old)?;
         Ok(inlined(alloc, self.limit, old, settled)?)
     }
 }

@@ -125,7 +125,7 @@ pub struct Settled {
 }
 
 /// Goes through the functions, callees first, until no call is left that may be opened.
-pub fn settled(alloc: Global, limit: u32, program: &High) -> Result<Settled, Memory>
+pub fn settle(alloc: Global, limit: u32, program: &High) -> Result<Settled, Memory>
     ensures made { IfOk result (λ s. making_of s.making ≡ swept limit (program_of program.now) s.sweeps) }
     ensures wanted { IfOk result (λ s. (n : ℕ) → n < s.sweeps → is_open limit (swept limit (program_of program.now) n) ≡ true) }
     ensures done { IfOk result (λ s. is_open limit (swept limit (program_of program.now) s.sweeps) ≡ false) }

@@ -1,12 +1,12 @@
-use Rattle.std.proofs.Common.{◌≡◌, ℕ, ◌+◌, ◌++◌, arith, length, refl, ap, sym, ◌∙◌, length-append}
-use Rattle.std.proofs.lemmas.List.{length-map, map-append}
+use Rattle.std.proofs.Common.{◌+◌, ◌++◌, arith, length, ap, ◌∙◌}
+use Rattle.std.proofs.lemmas.List.{length-map}
 use Rattle.high_parts.proofs.Making.{part_size, size_of_seq}
 use Rattle.high_code.specs.Code.{alone, joined}
 use Rattle.high_ir.proofs.Rows.{statement_of-Seq}
-use Rattle.high_ir.specs.Standing.{loops_of, loops_of_all, marks_of, marks_of_all}
-use Rattle.high_ir.specs.Tree.{If, Seq}
-use Rattle.high_ir.specs.View.{expr_of, statement_of, statements_of}
-use Rattle.high_renumber.specs.Numbered.{ids, numbered, numbered_all}
+use Rattle.high_ir.specs.Standing.{loops_of, marks_of}
+use Rattle.high_ir.specs.Tree.{Seq}
+use Rattle.high_ir.specs.View.{statement_of, statements_of}
+use Rattle.high_renumber.specs.Numbered.{ids}
 use Rattle.high_renumber.proofs.Numerals.{choice_loops, choice_made, choice_marks, choice_view, seq_loops, seq_marks, seq_numbered}
 use Rattle.high_renumber.proofs.Walks.{length_behind, loops_done, loops_more, marks_done, marks_more, numbered_done, numbered_more, statements_pushed}
 use Rattle.high_renumber.proofs.numbering.+statements.Goals as goal

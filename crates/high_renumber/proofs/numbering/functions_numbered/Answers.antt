@@ -1,4 +1,4 @@
-use Rattle.std.proofs.Common.{◌≡◌, ◌+◌, ◌++◌, [], ◌∷◌, ap, length, map, ◌∙◌}
+use Rattle.std.proofs.Common.{◌+◌, [], ◌∷◌, ap, length, map, ◌∙◌}
 use Rattle.std.proofs.lemmas.List.{length-map, map-append}
 use Rattle.high_ir.specs.Standing.{loops_of, marks_of}
 use Rattle.high_ir.specs.View.{function_of}

@@ -1,6 +1,6 @@
-use Rattle.std.proofs.Common.{◌≡◌, ◌+◌, arith, ap, length, refl, subst, sym, ◌∙◌}
+use Rattle.std.proofs.Common.{◌≡◌, arith, ap, length, refl, subst, sym}
 use Rattle.high_ir.specs.Formed.{IsHigh}
-use Rattle.high_renumber.specs.Numbered.{loop_origins, mark_origins, renumbered}
+use Rattle.high_renumber.specs.Numbered.{loop_origins, mark_origins}
 use Rattle.high_renumber.specs.View.{loose_program}
 use Rattle.high_renumber.proofs.Lawful.{renumbered_is_high}
 use Rattle.high_renumber.proofs.Made.{program_made}

@@ -3,7 +3,7 @@ use Rattle.high_ir.specs.Programs.{program_of}
 use Rattle.inliner.specs.Inlining.{by_rank, swept}
 use Rattle.inliner.specs.Sites.{is_open}
 use Rattle.inliner.specs.View.{IsSizedMaking, making_of}
-use Rattle.inliner.proofs.settling.settled.Given as goal
+use Rattle.inliner.proofs.settling.settle.Given as goal
 
 abbrev pub invariant-loop-sweeps : goal.invariant-loop-sweeps
 invariant-loop-sweeps l = record {
