@@ -6,6 +6,7 @@
 #![tactic(auto)]
 
 mod folding;
+mod narrow;
 mod passes;
 mod programs;
 
@@ -93,5 +94,7 @@ fn main(rt: HostRuntime) -> io::Result<()> {
     println!(rt; "{}", folded(alloc, &folding::test_that_holds(alloc)?)?)?;
     println!(rt; "{}", folded(alloc, &folding::marker_left_out(alloc)?)?)?;
     println!(rt; "{}", folded(alloc, &folding::loop_left_out(alloc)?)?)?;
+    println!(rt; "{}", folded(alloc, &narrow::conversion(alloc)?)?)?;
+    println!(rt; "{}", folded(alloc, &narrow::neutral(alloc)?)?)?;
     Ok(())
 }
