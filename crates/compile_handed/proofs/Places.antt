@@ -1,5 +1,5 @@
 -- Addresses of which none stands twice ascend when they are sorted.
-use Rattle.std.proofs.Common.{◌≡◌, ℕ, zero, suc, ◌+◌, ◌<◌, ◌≤◌, Bool, true, false, List, [], ◌∷◌, ◌++◌, length, get_or, map, refl, sym, ap, ◌∙◌, subst, All, arith, inl, inr, ⊎_elim}
+use Rattle.std.proofs.Common.{◌≡◌, ℕ, zero, suc, ◌+◌, ◌%◌, ◌<◌, ◌≤◌, Bool, true, false, List, [], ◌∷◌, ◌++◌, length, get_or, map, refl, sym, ap, ◌∙◌, subst, All, arith, inl, inr, ⊎_elim}
 use Rattle.std.specs.Prelude.{◌==◌, if◌then◌else◌, nat_lt, sum_by, IsPermutation}
 use Rattle.std.specs.List.{flat_map}
 use Rattle.std.specs.List.Sorted.{IsNonDecreasing, IsSorted}
@@ -27,6 +27,10 @@ rise_above a (x ∷ xs) h =
 pub rise_ascends : (a : ℕ) (xs : List ℕ) → Rise a xs → Ascend xs
 rise_ascends a [] h = tt
 rise_ascends a (x ∷ xs) h = (All-weaker (λ y. x + 4 ≤ y) (λ y. x < y) (λ y k. omega (arith, k)) xs (rise_above (x + 4) xs h.1.1), rise_ascends (x + 4) xs h.1.1)
+
+pub rise_aligned : (a : ℕ) (xs : List ℕ) → Rise a xs → All (λ x. x % 4 ≡ 0) xs
+rise_aligned a [] h = All-nil (λ x. x % 4 ≡ 0)
+rise_aligned a (x ∷ xs) h = All-cons (λ y. y % 4 ≡ 0) x xs h.1.0 (rise_aligned (x + 4) xs h.1.1)
 
 -- how often a number stands in a list
 
@@ -61,7 +65,7 @@ times-counted : (a : ℕ) (xs : List ℕ) → times a xs ≡ count_of a xs
 unfolding times
 times-counted a xs = refl
 
-times-permuted : (a : ℕ) (xs ys : List ℕ) → IsPermutation xs ys → times a ys ≡ times a xs
+pub times-permuted : (a : ℕ) (xs ys : List ℕ) → IsPermutation xs ys → times a ys ≡ times a xs
 unfolding times
 times-permuted a xs ys h = sum_by-IsPermutation (once a) xs ys h
 
@@ -97,7 +101,7 @@ there a (x ∷ xs) (suc k) d lt e = let rest = there a xs k d (omega (arith, lt)
 less : (a b : ℕ) → a ≤ b → (b ≡ a → ⊥) → a < b
 less a b le other = grind arith
 
-strictly : (xs : List ℕ) → ((a : ℕ) → times a xs ≤ 1) → IsNonDecreasing xs → Ascend xs
+pub strictly : (xs : List ℕ) → ((a : ℕ) → times a xs ≤ 1) → IsNonDecreasing xs → Ascend xs
 strictly [] few up = tt
 strictly (x ∷ xs) few up = (above, strictly xs fewer (λ i j d le lt. up (suc i) (suc j) d (omega (arith, le)) (omega (arith, lt))))
   where
@@ -200,3 +204,13 @@ copies_once c n each = λ i d lt k.
     let count = times-counted k (marks ++ nevers) ∙ each k in
     let most = one_or_none (nat_lt k n) in
     entries_once k 1 c.marks (omega (arith, sum, count, most)) i d lt
+
+-- nor is one a never mark twice
+pub nevers_once : (c : Listing) (n : ℕ) → HasEachBelow n (listed_marks c) → (k : ℕ) → times k (map (λ (v : NeverMark). v.mark) c.nevers) ≤ 1
+nevers_once c n each k =
+    let marks = flat_map (λ (e : MarkEntry). e.new) c.marks in
+    let nevers = map (λ (v : NeverMark). v.mark) c.nevers in
+    let sum = times-append k marks nevers in
+    let count = times-counted k (marks ++ nevers) ∙ each k in
+    let most = one_or_none (nat_lt k n) in
+    omega (arith, sum, count, most)
