@@ -11,7 +11,7 @@ use Rattle.report_text.specs.declared.entries.CopyLine.{CopyLine}
 use Rattle.report_words.specs.Words.{is_name}
 use Rattle.compile_names.specs.Laws.{IsNamed}
 use Rattle.compile_reports.proofs.Names.{formed_name}
-use Rattle.compile_reports.proofs.Places.{sorted_ascends, times}
+use Rattle.compile_handed.proofs.Places.{sorted_ascends, times}
 
 module _ (names places : List (List ℕ)) where
   -- no address stands twice among those of a mark's copies

@@ -1,21 +1,18 @@
 -- The same program again is lawful.
-use Rattle.std.proofs.Common.{◌≡◌, ℕ, ◌+◌, ◌<◌, ◌≤◌, Bool, true, false, List, [], ◌∷◌, get_or, map, Option, Some, None, refl, sym, ap, ◌∙◌, subst, arith, All, le_refl}
-use Rattle.std.specs.Prelude.{◌==◌, Contains, if◌then◌else◌, sum_by}
+use Rattle.std.proofs.Common.{◌≡◌, ℕ, ◌≤◌, Bool, true, false, List, [], ◌∷◌, get_or, map, Option, Some, refl, sym, ap, ◌∙◌, arith, All, le_refl}
+use Rattle.std.specs.Prelude.{◌==◌, if◌then◌else◌}
 use Rattle.std.specs.List.{flat_map, range_with_len}
 use Rattle.std.proofs.lemmas.Bool.{eq-eqb, true≢false}
-use Rattle.std.proofs.lemmas.List.{append-nil}
-use Rattle.std.proofs.lemmas.List.Elements.{All-cons, All-map, All-nil, All-same, Contains-get_or}
-use Rattle.std.proofs.lemmas.List.FromFn.{get_or-map-range_with_len}
-use Rattle.std.proofs.lemmas.List.Sums.{sum_by-cons}
+use Rattle.std.proofs.lemmas.List.Elements.{All-cons, All-map, All-nil, All-same}
 use Rattle.high_ir.specs.declared.copies.LoopCopy.{LoopCopy}
 use Rattle.high_ir.specs.Formed.{IsHigh}
-use Rattle.high_ir.specs.Runs.{Run, count_of, hrun}
+use Rattle.high_ir.specs.Runs.{count_of, hrun}
 use Rattle.high_ir.specs.Standing.{Bounded, Bounds, loops_in}
 use Rattle.high_ir.specs.Tree.{Program}
 use Rattle.high_ir.specs.Weight.{reach}
-use Rattle.high_pass.specs.Carries.{AreBy, Carries, RunsAlike, StartsFewer, behaviour_of, bounds_of, shown}
-use Rattle.high_pass.specs.Law.{IsLawful, ReachWithin}
-use Rattle.high_pass.specs.Listing.{HasEachBelow, LoopEntry, MarkEntry, listed_loops, listed_marks, mark_copies}
+use Rattle.high_pass.specs.Carries.{AreBy, Carries, StartsFewer, behaviour_of, bounds_of}
+use Rattle.high_pass.specs.Law.{IsLawful}
+use Rattle.high_pass.specs.Listing.{HasEachBelow, LoopEntry, listed_loops}
 use Rattle.high_again.specs.Same.{same_listing, same_loop}
 use Rattle.high_parts.proofs.SameMarks.{marks_listed, old_marks, opening_stays, reach_stays, shows_same}
 use Rattle.high_parts.proofs.Numbers.{range_has_each}

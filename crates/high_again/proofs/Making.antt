@@ -1,18 +1,13 @@
 -- What the code makes, in the words of the views.
-use Rattle.std.proofs.Common.{◌≡◌, ℕ, ◌+◌, ◌<◌, ◌≤◌, List, [], ◌∷◌, ◌++◌, length, get_or, map, refl, sym, ap, ◌∙◌, subst, arith}
+use Rattle.std.proofs.Common.{◌≡◌, ℕ, List, [], ◌∷◌, map, refl, sym, ap, ◌∙◌}
 use Rattle.std.specs.Prelude.{Vec}
 use Rattle.std.specs.Global.{Global}
 use Rattle.std.specs.List.{range_with_len}
-use Rattle.std.proofs.lemmas.List.{map_push}
-use Rattle.std.proofs.lemmas.List.FromFn.{map-range_with_len_more}
-use Rattle.std.proofs.lemmas.List.Sums.{get_or-le-sum_by}
 use Rattle.high_ir.specs.declared.copies.NeverMark.{NeverMark}
 use Rattle.high_ir.specs.declared.statement.Statement as statements
-use Rattle.high_ir.specs.Size.{nodes, nodes_all}
 use Rattle.high_ir.specs.Tree.{End, Function, Object, Program, Seq, Statement, Statements, Then}
 use Rattle.high_ir.specs.View.{statement_of, statements_of}
 use Rattle.high_ir.proofs.Rows.{statement_of-Seq}
-use Rattle.high_ir.proofs.Sizes.{nodes_all-statements_of}
 use Rattle.high_pass.specs.Listing.{Listing, LoopEntry, MarkEntry}
 use Rattle.high_again.specs.Same.{same_listing, same_loop}
 use Rattle.high_parts.specs.Same.{same_marks}

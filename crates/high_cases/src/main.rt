@@ -1,13 +1,14 @@
 //! Says what the parts of the high form come to: a program for tests.
 //!
 //! Operators at the ends of their ranges; the size and the loops of a program; the copies of a pass that makes the same again,
-//! behind a pass that copied mark 5; the numbers of copies; for each program that is folded its sizes, the value of its run, and
-//! the copies of its marks and loops; and a program that calls a function of twelve nodes three times, with its calls opened
-//! and without. What is printed was worked out by hand.
+//! behind a pass that copied mark 5; for each program that is folded its sizes, the value of its run, and the copies of its
+//! marks and loops; the numbers of copies; and a program that calls a function of twelve nodes three times, with its calls
+//! opened and without. What is printed was worked out by hand.
 #![tactic(auto)]
 
 mod folding;
 mod inlined;
+mod narrow;
 mod numbered;
 mod passes;
 mod programs;
@@ -110,6 +111,11 @@ fn main(rt: HostRuntime) -> io::Result<()> {
         Ok(copies) => println!(rt; "marks{}", marks_of(alloc, &copies)?)?,
         Err(_) => println!(rt; "no memory")?,
     }
+    println!(rt; "{}", folded(alloc, &folding::test_that_holds(alloc)?)?)?;
+    println!(rt; "{}", folded(alloc, &folding::marker_left_out(alloc)?)?)?;
+    println!(rt; "{}", folded(alloc, &folding::loop_left_out(alloc)?)?)?;
+    println!(rt; "{}", folded(alloc, &narrow::conversion(alloc)?)?)?;
+    println!(rt; "{}", folded(alloc, &narrow::neutral(alloc)?)?)?;
     match numbered::numbered(alloc) {
         Ok(copies) => println!(rt;
             "copies{} loops {}",
@@ -118,9 +124,6 @@ fn main(rt: HostRuntime) -> io::Result<()> {
         )?,
         Err(_) => println!(rt; "no memory")?,
     }
-    println!(rt; "{}", folded(alloc, &folding::test_that_holds(alloc)?)?)?;
-    println!(rt; "{}", folded(alloc, &folding::marker_left_out(alloc)?)?)?;
-    println!(rt; "{}", folded(alloc, &folding::loop_left_out(alloc)?)?)?;
     for limit in [12u32, 11, 0] {
         match inlined_of(alloc, limit) {
             Ok(line) => println!(rt; "inlined{}", line)?,
