@@ -6,8 +6,8 @@ use Rattle.std.proofs.lemmas.Option.{none-some, same_Some}
 use Rattle.clap.specs.Words.{App, Row, Text, matches_of}
 use Rattle.command_words.specs.Asked.{accepts, asked_by as request_by, check_asked, compile_asked, distinct, eval_asked, make_asked, report_asked, respond_asked, run_asked, taken}
 use Rattle.command_words.specs.Commands.{check_command, compile_command, eval_command, make_command, report_command, respond_command, run_command}
-use Rattle.command_words.specs.Requests.{CompileRequest, Name, Request, Compile as AsksCompile, Check as AsksCheck, Run as AsksRun, Eval as AsksEval, Report as AsksReport, Make as AsksMake, Respond as AsksRespond, files_of, has_twins, with_table}
-use Rattle.command_perform.specs.Words.{Asked, Command, Named, Compile, asked_by, built, has_options}
+use Rattle.command_words.specs.Requests.{Request, Compile as AsksCompile, Check as AsksCheck, Run as AsksRun, Eval as AsksEval, Report as AsksReport, Make as AsksMake, Respond as AsksRespond, files_of, has_twins, with_table}
+use Rattle.command_perform.specs.Words.{Asked, Command, Named, Compile, Check, Run, Eval, Report, Make, asked_by, built, has_options}
 
 taken_apart : (command : App) (reading : List Row → Request) (words : List Text) (r : Request) → taken command reading words ≡ Some r → has_twins (files_of r) ≡ false
 unfolding taken
@@ -40,32 +40,37 @@ requests_apart (w ∷ ws) r h =
     (either (bytes_eq w (codes "respond")) (taken respond_command respond_asked (w ∷ ws)) None r (Apart r) (taken_apart respond_command respond_asked (w ∷ ws) r) (λ e. absurd (none-some r e))))))))
     h
 
--- the names of a compilation
-abbrev pub names_of : CompileRequest → List Name
-names_of asked = with_table asked.table (asked.source ∷ asked.image ∷ asked.report ∷ [])
+-- what is written has names of its own: those of the files beside it are others
+abbrev pub IsApart : Command → Type 0
+IsApart (Compile q) = has_twins (with_table q.table (q.source ∷ q.image ∷ q.report ∷ [])) ≡ false
+IsApart (Make q) = has_twins (q.source ∷ q.image ∷ q.report ∷ []) ≡ false
+IsApart c = Unit {0}
 
-abbrev asks : CompileRequest → Asked
-asks q = Named (Compile q)
+abbrev asks : Command → Asked
+asks c = Named c
 
-same_asked : (p q : CompileRequest) → asks p ≡ asks q → p ≡ q
-same_asked p q h = cc
+same_command : (c d : Command) → asks c ≡ asks d → c ≡ d
+same_command c d h = cc
 
-built_apart : (r : Request) (asked : CompileRequest) → has_twins (files_of r) ≡ false → built r ≡ Some (Named (Compile asked)) → has_twins (names_of asked) ≡ false
-built_apart (AsksCompile q) asked apart h = options (has_options q) h
+handed : (c d : Command) → IsApart c → Some (asks c) ≡ Some (asks d) → IsApart d
+handed c d apart h = subst IsApart (same_command c d (same_Some (asks c) (asks d) h)) apart
+
+built_apart : (r : Request) (c : Command) → has_twins (files_of r) ≡ false → built r ≡ Some (Named c) → IsApart c
+built_apart (AsksCompile q) c apart h = options (has_options q) h
   where
-    options : (b : Bool) → (if b then None else Some (Named (Compile q))) ≡ Some (Named (Compile asked)) → has_twins (names_of asked) ≡ false
-    options true k = absurd (none-some (Named (Compile asked)) k)
-    options false k = subst (λ x. has_twins (names_of x) ≡ false) (same_asked q asked (same_Some (Named (Compile q)) (Named (Compile asked)) k)) apart
-built_apart (AsksCheck q) asked apart h = absurd (cc)
-built_apart (AsksRun q) asked apart h = absurd (cc)
-built_apart (AsksEval q) asked apart h = absurd (cc)
-built_apart (AsksReport q) asked apart h = absurd (cc)
-built_apart (AsksMake q) asked apart h = absurd (cc)
-built_apart (AsksRespond q) asked apart h = absurd (cc)
+    options : (b : Bool) → (if b then None else Some (Named (Compile q))) ≡ Some (Named c) → IsApart c
+    options true k = absurd (none-some (Named c) k)
+    options false k = handed (Compile q) c apart k
+built_apart (AsksCheck q) c apart h = handed (Check q) c tt h
+built_apart (AsksRun q) c apart h = handed (Run q) c tt h
+built_apart (AsksEval q) c apart h = handed (Eval q) c tt h
+built_apart (AsksReport q) c apart h = handed (Report q) c tt h
+built_apart (AsksMake q) c apart h = handed (Make q) c apart h
+built_apart (AsksRespond q) c apart h = absurd (cc)
 
-pub compile_apart : (words : List Text) (asked : CompileRequest) → asked_by words ≡ Some (Named (Compile asked)) → has_twins (names_of asked) ≡ false
-compile_apart words asked h = of (request_by words) refl h
+pub names_apart : (words : List Text) (c : Command) → asked_by words ≡ Some (Named c) → IsApart c
+names_apart words c h = of (request_by words) refl h
   where
-    of : (o : Option Request) → request_by words ≡ o → option_and_then built o ≡ Some (Named (Compile asked)) → has_twins (names_of asked) ≡ false
-    of None e k = absurd (none-some (Named (Compile asked)) k)
-    of (Some r) e k = built_apart r asked (requests_apart words r e) k
+    of : (o : Option Request) → request_by words ≡ o → option_and_then built o ≡ Some (Named c) → IsApart c
+    of None e k = absurd (none-some (Named c) k)
+    of (Some r) e k = built_apart r c (requests_apart words r e) k

@@ -26,7 +26,7 @@ pub fn wcc<S: Store, O: Sink>(alloc: Global, words: &[String], store: &mut S, ou
     // least ones of the cycles that their reports are found to hold, and no job ends later.
     ensures done { result ≡ Status.Done → IsDone (asked_by (map string_bytes words.now)) (S.state store.old) (S.state store.new) (O.state out.old) (O.state out.new) }
 
-    // What `compile` wrote, `check` accepts: with the same table it can only end so.
+    // What `compile` and `make` wrote, `check` accepts: with the same table it can only end so.
     ensures checked { result ≡ Status.Done → IsCheckable (asked_by (map string_bytes words.now)) (S.state store.old) (S.state store.new) }
 
     // What can only end in one way ends so, unless a fault is counted or memory runs out: a source
