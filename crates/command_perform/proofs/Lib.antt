@@ -13,3 +13,6 @@ pub mod NumberedRuns
 pub mod CheckRuns
 pub mod TaskRuns
 pub mod RespondRuns
+pub mod Ranges
+pub mod NamesApart
+pub mod CompileChecks

@@ -70,7 +70,7 @@ kept_exits source t c k =
       in_cycles = omega (arith, r.1.cycles, c.small);
       in_output = k.fits;
     } in
-    (f, subst (λ (m : Image). ExitsWithin (setup m default_table []) (limits (2 ^ 62) 16_777_216) f) (sym i.loads) w)
+    (f, subst (λ (m : Image). ExitsWithin (setup m default_table []) (limits (2 ^ 62) 16_777_216) f) (sym i.written.loads) w)
 
 made_done : (asked : MakeRequest) (made : Outputs) → IsKept (numbered_text asked.number) [] → MakesNumbered asked made → made.status ≡ status.Done
 made_done asked made k m =

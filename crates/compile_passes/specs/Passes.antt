@@ -6,13 +6,13 @@ use Rattle.high_ir.specs.declared.copies.Carried.{Carried}
 use Rattle.high_ir.specs.Programs.{program_of}
 use Rattle.high_ir.specs.Tree.{Program}
 use Rattle.high_pass.specs.Listing.{Listing, listing_of}
-use Rattle.high_again.specs.Same.{IsSame}
+use Rattle.high_folded.specs.Done.{IsFolded}
 use Rattle.compile_kept.specs.Carried.{IsCarried, IsPassed, IsPlanned}
 use Rattle.compile_made.specs.declared.made.Stages.{Stages}
 
 -- what the pass at each place promises
 abbrev pub does : ℕ → Program → Program → Listing → Type 0
-does zero old new copies = IsSame old new copies
+does zero old new copies = IsFolded old new copies
 does (suc place) old new copies = ⊥
 
 -- how many there are

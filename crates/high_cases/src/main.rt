@@ -8,6 +8,7 @@
 
 mod folding;
 mod looping;
+mod narrow;
 mod passes;
 mod programs;
 mod unrolling;
@@ -96,6 +97,8 @@ fn main(rt: HostRuntime) -> io::Result<()> {
     println!(rt; "{}", folded(alloc, &folding::test_that_holds(alloc)?)?)?;
     println!(rt; "{}", folded(alloc, &folding::marker_left_out(alloc)?)?)?;
     println!(rt; "{}", folded(alloc, &folding::loop_left_out(alloc)?)?)?;
+    println!(rt; "{}", folded(alloc, &narrow::conversion(alloc)?)?)?;
+    println!(rt; "{}", folded(alloc, &narrow::neutral(alloc)?)?)?;
     match unrolling::rows(alloc) {
         Ok(rows) => {
             for row in &rows {

@@ -21,7 +21,7 @@ use compile_reporting::{find, joined, tell};
 use compile_reports::reported_are_reports;
 use elf_image::read_of_write;
 use facts_front::Source;
-use high_again::Again;
+use high_fold::Fold;
 use rv_core::Costs;
 use std::alloc::Global;
 use wcc_base::Memory;
@@ -34,7 +34,7 @@ fn high(alloc: Global, source: &Source) -> Result<Stages, Memory>
     ensures all { IfOk result (λ s. length s.before.items ≡ passes) }
 {
     let stages = begun(alloc, source, planned(alloc, source)?);
-    let stages = passed(alloc, source, stages, 0, &Again)?;
+    let stages = passed(alloc, source, stages, 0, &Fold)?;
     Ok(stages)
 }
 
