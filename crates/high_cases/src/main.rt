@@ -2,16 +2,19 @@
 //!
 //! Operators at the ends of their ranges; the size and the loops of a program; the copies of a pass that makes the same again,
 //! behind a pass that copied mark 5; for each program that is folded its sizes, the value of its run, and the copies of its
-//! marks and loops; the numbers of copies; and a program that calls a function of twelve nodes three times, with its calls
+//! marks and loops; for each whose loops are unrolled those of the new program with their bounds and the starts before them, and
+//! the value of its run; the numbers of copies; and a program that calls a function of twelve nodes three times, with its calls
 //! opened and without. What is printed was worked out by hand.
 #![tactic(auto)]
 
 mod folding;
 mod inlined;
+mod looping;
 mod narrow;
 mod numbered;
 mod passes;
 mod programs;
+mod unrolling;
 
 use high_eval::evaluate;
 use high_fold::Fold;
@@ -116,6 +119,14 @@ fn main(rt: HostRuntime) -> io::Result<()> {
     println!(rt; "{}", folded(alloc, &folding::loop_left_out(alloc)?)?)?;
     println!(rt; "{}", folded(alloc, &narrow::conversion(alloc)?)?)?;
     println!(rt; "{}", folded(alloc, &narrow::neutral(alloc)?)?)?;
+    match unrolling::rows(alloc) {
+        Ok(rows) => {
+            for row in &rows {
+                println!(rt; "{row}")?;
+            }
+        }
+        Err(_) => println!(rt; "no memory")?,
+    }
     match numbered::numbered(alloc) {
         Ok(copies) => println!(rt;
             "copies{} loops {}",
