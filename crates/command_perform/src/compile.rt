@@ -121,6 +121,8 @@ fn compile_with<'a, C: Compiler>(
     let options = Options {
         costs,
         derive: asked.derive,
+        inline: asked.inline_size() as u32,
+        unroll: asked.unroll_factor() as u32,
     };
     match compiled(compiler, alloc, source.as_slice(), options) {
         Ok(texts) => match outputs(alloc, asked, texts) {
