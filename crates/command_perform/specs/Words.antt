@@ -20,7 +20,7 @@ pub data Asked : Type 0 where
 
 -- an option of `compile` is given that isn't built
 abbrev pub has_options : CompileRequest → Bool
-has_options r = is_some r.spm || (is_some r.unroll || is_some r.inline)
+has_options r = is_some r.spm || is_some r.inline
 
 -- what a request asks; where an option is given that isn't built, there is nothing
 abbrev pub built : Request → Option Asked

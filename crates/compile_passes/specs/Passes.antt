@@ -7,6 +7,7 @@ use Rattle.high_ir.specs.Programs.{program_of}
 use Rattle.high_ir.specs.Tree.{Program}
 use Rattle.high_pass.specs.Listing.{Listing, listing_of}
 use Rattle.high_folded.specs.Done.{IsFolded}
+use Rattle.high_unrolled.specs.Promise.{Unrolls}
 use Rattle.promise_compiler.specs.declared.built.Options.{Options}
 use Rattle.compile_kept.specs.Carried.{IsCarried, IsPassed, IsPlanned}
 use Rattle.compile_made.specs.declared.made.Stages.{Stages}
@@ -14,11 +15,13 @@ use Rattle.compile_made.specs.declared.made.Stages.{Stages}
 -- what the pass at each place promises, where a source is compiled with these options
 abbrev pub does : Options → ℕ → Program → Program → Listing → Type 0
 does options zero old new copies = IsFolded old new copies
-does options (suc place) old new copies = ⊥
+does options (suc zero) old new copies = Unrolls options.unroll old new copies
+does options (suc (suc zero)) old new copies = IsFolded old new copies
+does options (suc (suc (suc place))) old new copies = ⊥
 
 -- how many there are
 abbrev pub passes : ℕ
-passes = 1
+passes = 3
 
 -- what a pass that promises this made of a program with its copies of the source
 abbrev pub IsStep : (Program → Program → Listing → Type 0) → Carried → Carried → Type 0

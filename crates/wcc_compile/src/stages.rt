@@ -25,6 +25,7 @@ use high_fold::Fold;
 use promise_compiler::Options;
 use rv_core::Costs;
 use std::alloc::Global;
+use unroller::Unroll;
 use wcc_base::Memory;
 use wcc_report::Report;
 
@@ -36,6 +37,9 @@ fn high(alloc: Global, source: &Source, options: &Options) -> Result<Stages, Mem
 {
     let stages = begun(alloc, source, planned(alloc, source)?);
     let stages = passed(alloc, source, stages, options, 0, &Fold)?;
+    let unroll = Unroll { factor: options.unroll };
+    let stages = passed(alloc, source, stages, options, 1, &unroll)?;
+    let stages = passed(alloc, source, stages, options, 2, &Fold)?;
     Ok(stages)
 }
 
