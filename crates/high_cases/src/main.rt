@@ -1,13 +1,17 @@
 //! Says what the parts of the high form come to: a program for tests.
 //!
 //! Operators at the ends of their ranges; the size and the loops of a program; the copies of a pass that makes the same again,
-//! behind a pass that copied mark 5; and for each program that is folded its sizes, the value of its run, and the copies of its
-//! marks and loops. What is printed was worked out by hand.
+//! behind a pass that copied mark 5; for each program that is folded its sizes, the value of its run, and the copies of its marks
+//! and loops; and for each whose loops are unrolled those of the new program with their bounds and the starts before them, and the
+//! value of its run. What is printed was worked out by hand.
 #![tactic(auto)]
 
 mod folding;
+mod looping;
+mod narrow;
 mod passes;
 mod programs;
+mod unrolling;
 
 use high_eval::evaluate;
 use high_fold::Fold;
@@ -93,5 +97,15 @@ fn main(rt: HostRuntime) -> io::Result<()> {
     println!(rt; "{}", folded(alloc, &folding::test_that_holds(alloc)?)?)?;
     println!(rt; "{}", folded(alloc, &folding::marker_left_out(alloc)?)?)?;
     println!(rt; "{}", folded(alloc, &folding::loop_left_out(alloc)?)?)?;
+    println!(rt; "{}", folded(alloc, &narrow::conversion(alloc)?)?)?;
+    println!(rt; "{}", folded(alloc, &narrow::neutral(alloc)?)?)?;
+    match unrolling::rows(alloc) {
+        Ok(rows) => {
+            for row in &rows {
+                println!(rt; "{row}")?;
+            }
+        }
+        Err(_) => println!(rt; "no memory")?,
+    }
     Ok(())
 }
