@@ -64,11 +64,11 @@ def by_program(path, *flags):
 
 
 def by_compiler(path):
-    """What `PATH compile` answers on a source, and behind it `check` and `run`, by the names of the commands."""
+    """What `PATH compile` answers on a source with options, and behind it `check` and `run`, by the names of the commands."""
     path = built(path)
-    calls = (("compile", "a.c", "a.elf", "a.txt"), ("check", "a.elf", "a.txt"), ("run", "a.elf", "a.in", "a.out"))
 
-    def run(source, data=b""):
+    def run(source, data=b"", options=()):
+        calls = (("compile", "a.c", "a.elf", "a.txt", *options), ("check", "a.elf", "a.txt"), ("run", "a.elf", "a.in", "a.out"))
         return in_fresh_folder(source, data, lambda room: {words[0]: call(path, room, *words) for words in calls})
     return run
 

@@ -10,7 +10,7 @@ pub struct Options {
     pub costs: Costs,
     /// Whether bounds of counting loops are derived.
     pub derive: bool,
-    /// How many operations a function has at most that is put into the place of its calls.
+    /// How many statements and expressions a function has at most that is put into the place of its calls.
     pub inline: u32,
     /// How many starts of an innermost loop become one.
     pub unroll: u32,
