@@ -6,7 +6,7 @@ use Rattle.high_ir.specs.Whole.{AllHaveWords, AreWordy, HasWords, IsWordy}
 use Rattle.inliner.specs.declared.used.Used.{Used}
 use Rattle.inliner.specs.Budgets.{fits}
 use Rattle.inliner.specs.Moving.{Place, ended, moved, moved_all, moved_expr}
-use Rattle.inliner.specs.Opening.{Site, assigned, call_of, opening}
+use Rattle.inliner.specs.Opening.{Site, assigned, opening}
 use Rattle.inliner.specs.Walking.{at_call, opened, opened_all, opened_if}
 
 -- in the frame of another function

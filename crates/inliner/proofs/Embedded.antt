@@ -4,11 +4,11 @@ use Rattle.std.specs.Prelude.{slice_set}
 use Rattle.std.proofs.lemmas.List.{length-set}
 use Rattle.std.proofs.lemmas.Bool.{lt-ltb}
 use Rattle.high_ir.specs.declared.object.Base.{Base}
-use Rattle.high_ir.specs.Meaning.{World, Variables, State, Outcome, Goes, Leaves, Returns, Given, Calls, Labels, after_call, got, keep, next_byte, objects_of, only_if, pass, put, run, run_all, taken, then_do, value_of, values_of, with_value, written}
+use Rattle.high_ir.specs.Meaning.{World, Variables, State, Outcome, Goes, Leaves, Returns, Given, Calls, Labels, after_call, keep, next_byte, objects_of, only_if, pass, run, run_all, then_do, value_of, values_of, with_value, written}
 use Rattle.high_ir.specs.Tree.{Expr, Statement, Set, Put, Get, Keep, Mark, Seq, If, Loop, Block, Leave, Call, Return, Statements, End, Then}
 use Rattle.high_renumber.specs.Keeping.{CallsServe, ServesCall}
 use Rattle.inliner.specs.Moving.{Place, ended, moved, moved_all, moved_array, moved_base, moved_expr, moved_into}
-use Rattle.inliner.proofs.Embedding.{Embeds, IsThere, Kept, Sees, Serves', Turned, held, inner, left, sees_write, serves_block, serves_choose, serves_then, serves_turns, serves_value, serves_write}
+use Rattle.inliner.proofs.Embedding.{Embeds, IsThere, Sees, Serves', Turned, left, sees_write, serves_block, serves_choose, serves_then, serves_turns, serves_value, serves_write}
 use Rattle.inliner.proofs.Shifting.{Meets, keep_moved, objects_moved, value_moved, values_moved}
 
 module _ (outer : Variables) (most size : ℕ) (arrays : List Base) (into : Option ℕ) (there : IsThere into outer) (passed old : List ℕ) (meets : Meets arrays passed old) where

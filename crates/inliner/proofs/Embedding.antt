@@ -3,8 +3,7 @@ use Rattle.std.proofs.Common.{◌≡◌, ℕ, zero, suc, ◌+◌, ◌-◌, ◌<�
 use Rattle.std.specs.Prelude.{nat_lt, slice_index_or, slice_set}
 use Rattle.std.proofs.lemmas.List.{get_or-set_same, get_or-set_other, get_or_past, length-set}
 use Rattle.std.proofs.lemmas.Bool.{cases_lt, cases_eq, ltb-true, lt-ltb}
-use Rattle.high_ir.specs.Meaning.{World, Variables, State, Outcome, Goes, Leaves, Returns, Bad, Given, after_call, again, choose, only_if, out_of_block, set_world, taken, then_do, turns, with_value, written}
-use Rattle.high_renumber.specs.Keeping.{ServesCall}
+use Rattle.high_ir.specs.Meaning.{World, Variables, State, Outcome, Goes, Leaves, Returns, Bad, again, choose, only_if, out_of_block, then_do, turns, with_value, written}
 
 -- what becomes of a return: it stays, or it leaves so many blocks and one more, behind a write to a variable if there is one
 pub data Ending : Type 0 where

@@ -1,16 +1,15 @@
 -- A function's body with calls opened does in a larger frame what the body does in its own.
-use Rattle.std.proofs.Common.{◌≡◌, ℕ, zero, suc, ◌+◌, ◌-◌, ◌*◌, ◌≤◌, Bool, true, false, ◌&&◌, List, [], ◌∷◌, ◌++◌, length, map, Option, Some, None, refl, sym, ap, ◌∙◌, subst, arith, length-append}
-use Rattle.std.specs.Prelude.{nat_lt, replicate, slice_get}
-use Rattle.std.proofs.lemmas.List.{length-map, length-replicate}
-use Rattle.high_ir.specs.Meaning.{World, Variables, State, Outcome, Goes, Leaves, Returns, Bad, Given, Calls, Labels, after_call, keep, next_byte, objects_of, pass, run, run_all, then_do, value_of, values_of, with_value}
-use Rattle.high_ir.specs.Tree.{Expr, Statement, Set, Put, Get, Keep, Mark, Seq, If, Loop, Block, Leave, Call, Return, Statements, End, Then, Function}
+use Rattle.std.proofs.Common.{◌≡◌, ℕ, ◌+◌, ◌≤◌, Bool, true, false, List, [], Option, Some, None, refl, sym, subst, arith}
+use Rattle.std.specs.Prelude.{slice_get}
+use Rattle.high_ir.specs.Meaning.{World, Variables, Outcome, Given, Calls, Labels, after_call, keep, next_byte, objects_of, pass, run, run_all, value_of, values_of, with_value, written}
+use Rattle.high_ir.specs.Tree.{Statement, Set, Put, Get, Keep, Mark, Seq, If, Loop, Block, Leave, Call, Return, Statements, End, Then, Function}
 use Rattle.high_renumber.specs.Keeping.{CallsServe, ServesCall}
 use Rattle.high_renumber.proofs.Serving.{Opens}
 use Rattle.inliner.specs.declared.used.Used.{Used}
-use Rattle.inliner.specs.Budgets.{fits, variables}
-use Rattle.inliner.specs.Opening.{Site, call_of, opening}
-use Rattle.inliner.specs.Walking.{Walked, at_call, opened, opened_all, opened_if}
-use Rattle.inliner.proofs.Embedding.{Embeds, Kept, Sees, Serves', serves_block, serves_choose, serves_then, serves_turns, serves_value, serves_write}
+use Rattle.inliner.specs.Budgets.{fits}
+use Rattle.inliner.specs.Opening.{Site, call_of}
+use Rattle.inliner.specs.Walking.{at_call, opened, opened_all, opened_if}
+use Rattle.inliner.proofs.Embedding.{Embeds, Kept, Serves', serves_block, serves_choose, serves_then, serves_turns, serves_value, serves_write}
 use Rattle.inliner.proofs.OpenedCall.{open_serves}
 use Rattle.inliner.proofs.Shifting.{value_same, values_same}
 

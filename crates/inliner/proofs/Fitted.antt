@@ -1,12 +1,10 @@
 -- Whether a call fits, by the numbers that the code keeps.
-use Rattle.std.proofs.Common.{◌≡◌, ℕ, ◌+◌, ◌-◌, ◌*◌, ◌<◌, ◌≤◌, max, Bool, true, false, List, length, map, Option, Some, None, refl, sym, ap, ◌∙◌, subst, arith}
-use Rattle.std.specs.Prelude.{nat_le, slice_get, ◌&&◌}
+use Rattle.std.proofs.Common.{◌≡◌, ℕ, ◌+◌, ◌-◌, ◌*◌, ◌<◌, ◌≤◌, max, Bool, true, false, length, Option, Some, None, refl, sym, ap, ◌∙◌, arith}
+use Rattle.std.specs.Prelude.{nat_le, ◌&&◌}
 use Rattle.std.proofs.lemmas.Bool.{le-leb, lt-leb}
 use Rattle.high_ir.specs.Size.{depth, expr_depth, function_nodes, greatest, operations}
 use Rattle.high_ir.specs.Tree.{Function}
 use Rattle.inliner.specs.declared.measuring.Measure.{Measure}
-use Rattle.inliner.specs.declared.measuring.Returns.TheVariants.{Kept}
-use Rattle.inliner.specs.declared.sizes.Sizes.{Sizes}
 use Rattle.inliner.specs.declared.used.Used.{Used}
 use Rattle.inliner.specs.Budgets.{fits, used_behind, variables}
 use Rattle.inliner.specs.Measures.{measured, returns_into, size_into, sizes_of}
@@ -77,3 +75,10 @@ module _ (limit : ℕ) (used : Used) (around : ℕ) (s : Site) (h : Function) wh
   -- what is used behind the opening
   pub behind_operations : used.operations + body.operations + 2 - length s.arrays ≡ (used_behind used s h).operations
   behind_operations = omega (arith, counted)
+
+  pub behind_made : (next operations bytes : ℕ) → next ≡ used.next + variables h → operations ≡ used.operations + body.operations + 2 - length s.arrays → bytes ≡ used.bytes + 4 * variables h → record { next = next; operations = operations; bytes = bytes } ≡ used_behind used s h
+  behind_made next operations bytes first second third =
+      let whole : ℕ → ℕ → ℕ → Used = λ x y z. record { next = x; operations = y; bytes = z } in
+      ap (λ x. whole x operations bytes) first
+      ∙ ap (λ y. whole (used.next + variables h) y bytes) (second ∙ behind_operations)
+      ∙ ap (λ z. whole (used.next + variables h) (used_behind used s h).operations z) third

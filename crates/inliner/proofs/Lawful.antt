@@ -1,18 +1,16 @@
 -- The program with its calls opened keeps the program, so that inlining is lawful.
-use Rattle.std.proofs.Common.{◌≡◌, ℕ, zero, suc, ◌+◌, ◌*◌, ◌<◌, ◌≤◌, ◌^◌, max, Bool, true, false, ◌⊎◌, inl, inr, List, [], ◌∷◌, length, get_or, map, Option, Some, None, refl, sym, ap, ◌∙◌, subst, arith, All}
+use Rattle.std.proofs.Common.{◌≡◌, ℕ, zero, suc, ◌<◌, ◌≤◌, ◌^◌, Bool, true, false, inl, inr, List, [], ◌∷◌, length, get_or, Some, refl, sym, ap, ◌∙◌, subst, arith, All}
 use Rattle.std.specs.Prelude.{slice_get, sum_by, if◌then◌else◌, ◌==◌}
-use Rattle.std.specs.List.{flat_map}
 use Rattle.std.proofs.lemmas.List.{length-map}
 use Rattle.std.proofs.lemmas.List.Elements.{All-cons, All-head, All-map, All-nil, All-tail}
 use Rattle.std.proofs.lemmas.Option.{get_or_from_slice_get, slice_get-get_or, slice_get_within}
 use Rattle.high_ir.specs.Formed.{IsHigh, RanksFall}
 use Rattle.high_ir.specs.Runs.{rank_or}
-use Rattle.high_ir.specs.Size.{depth, function_nodes, greatest, local_bytes, nodes, operations, program_depth, program_nodes, program_operations}
-use Rattle.high_ir.specs.Standing.{blocks_needed, loops_in, loops_of, marks_in, marks_of}
+use Rattle.high_ir.specs.Size.{depth, function_nodes, greatest, program_nodes}
+use Rattle.high_ir.specs.Standing.{blocks_needed, loops_in, loops_of, marks_of}
 use Rattle.high_ir.specs.Tree.{Leave, Function, Program}
-use Rattle.high_ir.specs.Weight.{reach, weight}
 use Rattle.high_ir.specs.Whole.{HasWords}
-use Rattle.high_pass.specs.Law.{IsLawful, WithinBudgets, signature_of}
+use Rattle.high_pass.specs.Law.{IsLawful, signature_of}
 use Rattle.high_pass.proofs.Continuing.{loops_below}
 use Rattle.high_pass.proofs.Elements.{All-flat_map, All-flat_map_back, All-map_back}
 use Rattle.high_renumber.specs.Keeping.{IsLoose, Keeps}
@@ -21,8 +19,8 @@ use Rattle.high_again.specs.Same.{same_listing}
 use Rattle.high_again.proofs.Lawful.{lawful}
 use Rattle.high_renumber.proofs.Lawful.{kept_is_lawful}
 use Rattle.high_parts.proofs.Numbers.{bounds_found}
-use Rattle.inliner.specs.Inlining.{Making, after_all, begun, by_rank, copies_of_inlined, inlined, opened_program, swept}
-use Rattle.inliner.proofs.Making.{Each, IsCopy, Keeping, all_keep, rank_there, there_too}
+use Rattle.inliner.specs.Inlining.{begun, by_rank, copies_of_inlined, inlined, opened_program, swept}
+use Rattle.inliner.proofs.Making.{Each, IsCopy, Keeping, all_keep, rank_there}
 use Rattle.inliner.proofs.Sizing.{program_nodes-le}
 use Rattle.inliner.proofs.Stepping.{swept_serves}
 use Rattle.inliner.proofs.Untouched.{Untouched, all_untouched, both_steps}

@@ -1,20 +1,19 @@
 -- The calls that an inlined program is left with may not be opened in it.
-use Rattle.std.proofs.Common.{◌≡◌, ℕ, zero, suc, ◌+◌, ◌*◌, ◌≤◌, max, Bool, true, false, List, [], ◌∷◌, ◌++◌, length, get_or, map, Option, Some, None, refl, sym, ap, ◌∙◌, subst, arith, All}
-use Rattle.std.specs.Prelude.{if◌then◌else◌, nat_le, slice_get, sum_by, ◌&&◌, ◌||◌, ◌==◌}
+use Rattle.std.proofs.Common.{◌≡◌, ℕ, zero, suc, ◌+◌, ◌*◌, max, Bool, true, false, List, [], ◌∷◌, ◌++◌, length, get_or, refl, sym, ap, ◌∙◌, subst, arith, All}
+use Rattle.std.specs.Prelude.{if◌then◌else◌, nat_le, slice_get, ◌&&◌, ◌||◌, ◌==◌}
 use Rattle.std.proofs.lemmas.Bool.{eqb-true}
 use Rattle.std.proofs.lemmas.List.Elements.{All-append, All-cons, All-head, All-nil, All-tail}
 use Rattle.high_ir.specs.Formed.{IsHigh}
-use Rattle.high_ir.specs.Size.{depth, expr_depth, frame_bytes, function_nodes, greatest, local_bytes, nodes, operations, program_operations}
+use Rattle.high_ir.specs.Size.{depth, expr_depth, function_nodes, greatest, operations}
 use Rattle.high_ir.specs.Standing.{loops_of, marks_of}
 use Rattle.high_ir.specs.Tree.{Statement, Set, Put, Get, Keep, Mark, Seq, If, Loop, Block, Leave, Call, Return, Statements, End, Then, Function, Program}
 use Rattle.high_renumber.specs.Numbered.{function_numbered, functions_numbered, numbered, numbered_all, renumbered}
 use Rattle.high_renumber.proofs.Lawful.{bytes_in-numbered, operations_in-numbered}
 use Rattle.high_renumber.proofs.NumberedLemmas.{nodes-numbered}
-use Rattle.inliner.specs.declared.measuring.Measure.{Measure}
 use Rattle.inliner.specs.declared.measuring.Returns.{Returns}
 use Rattle.inliner.specs.declared.used.Used.{Used}
 use Rattle.inliner.specs.Budgets.{fits, fits_any, may_open, used_by, variables}
-use Rattle.inliner.specs.Inlining.{Making, begun, inlined, opened_program, swept}
+use Rattle.inliner.specs.Inlining.{inlined, opened_program, swept}
 use Rattle.inliner.specs.Measures.{beside, expr_measure, measured, measured_all, returns_into, within}
 use Rattle.inliner.specs.Opening.{Site, call_of, opening}
 use Rattle.inliner.specs.Sites.{IsLeft, Standing, any_fits, any_fits_all, any_fits_in, is_open, sites, sites_all}

@@ -1,6 +1,6 @@
 -- The program of functions that were gone through, as the code has it.
-use Rattle.std.proofs.Common.{◌≡◌, ℕ, ◌<◌, Bool, true, false, List, map, refl, sym, ap, ◌∙◌, arith}
-use Rattle.std.specs.Prelude.{if◌then◌else◌, ◌==◌}
+use Rattle.std.proofs.Common.{◌≡◌, ℕ, ◌<◌, List, map, ap, ◌∙◌, arith}
+use Rattle.std.specs.Prelude.{if◌then◌else◌}
 use Rattle.std.proofs.lemmas.Bool.{eq-eqb, ne_eqb}
 use Rattle.high_ir.specs.declared.high.Function as functions
 use Rattle.high_ir.specs.declared.high.High.{High}
@@ -9,7 +9,6 @@ use Rattle.high_ir.specs.Formed.{IsHigh}
 use Rattle.high_ir.specs.Programs.{program_of}
 use Rattle.high_ir.specs.Tree.{Program}
 use Rattle.high_ir.specs.View.{function_of, object_of, program}
-use Rattle.high_pass.specs.Listing.{Listing}
 use Rattle.high_again.specs.Same.{same_listing}
 use Rattle.high_renumber.specs.Keeping.{IsLoose}
 use Rattle.high_renumber.specs.Numbered.{copies_in, renumbered}

@@ -4,11 +4,10 @@ use Rattle.std.specs.Prelude.{nat_lt, replicate, slice_get, slice_set}
 use Rattle.std.proofs.lemmas.List.{get_or-set_same, get_or-set_other, length-set, get_or-take, length-take-le, length-map, length-replicate}
 use Rattle.std.proofs.lemmas.Bool.{eqb-true, ltb-true, lt-ltb}
 use Rattle.std.proofs.lemmas.Option.{none-some}
-use Rattle.high_ir.specs.declared.object.Base.{Base}
 use Rattle.high_ir.specs.Meaning.{World, Variables, State, Outcome, Goes, Leaves, Returns, Bad, Given, Calls, Labels, after_call, at_value, objects_of, only_if, out_of_block, pass, run, run_all, then_do, value_of, values_of, with_value, written}
 use Rattle.high_ir.specs.Runs.{enter, frame, given, only_good, takes}
-use Rattle.high_ir.specs.Tree.{Expr, Statement, Block, Statements, End, Then, Function}
-use Rattle.high_renumber.specs.Keeping.{CallsServe, ServesCall}
+use Rattle.high_ir.specs.Tree.{Expr, Block, Statements, End, Then, Function}
+use Rattle.high_renumber.specs.Keeping.{ServesCall}
 use Rattle.high_renumber.proofs.Serving.{Opens, calls_refl}
 use Rattle.inliner.specs.Moving.{moved}
 use Rattle.inliner.specs.Opening.{Site, assigned, call_of, opening}

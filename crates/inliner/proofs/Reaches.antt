@@ -1,17 +1,17 @@
 -- A program may reach its marks no more often when its calls are opened.
-use Rattle.std.proofs.Common.{◌≡◌, ℕ, zero, suc, ◌+◌, ◌*◌, ◌<◌, ◌≤◌, max, Bool, true, false, ◌⊎◌, inl, inr, List, [], ◌∷◌, ◌++◌, length, get_or, map, Option, Some, None, refl, sym, ap, ◌∙◌, subst, arith, All}
-use Rattle.std.specs.Prelude.{slice_get, slice_index_or, slice_set, ◌&&◌, ◌==◌, if◌then◌else◌}
+use Rattle.std.proofs.Common.{◌≡◌, ℕ, zero, suc, ◌+◌, ◌*◌, ◌<◌, ◌≤◌, Bool, true, false, ◌⊎◌, inl, inr, List, [], ◌∷◌, get_or, Option, Some, None, refl, sym, ap, ◌∙◌, subst, arith, All}
+use Rattle.std.specs.Prelude.{slice_get, slice_set, ◌==◌, if◌then◌else◌}
 use Rattle.std.proofs.Math.Nat.{mul-le-mul_left}
 use Rattle.std.proofs.lemmas.Bool.{cases_eq}
 use Rattle.std.proofs.lemmas.Option.{same_Some}
 use Rattle.std.proofs.lemmas.List.Elements.{All-head}
 use Rattle.high_ir.specs.Standing.{callees_of, callees_of_all}
-use Rattle.high_ir.specs.Tree.{Expr, Constant, Variable, Element, Unary, Binary, Statement, Set, Put, Get, Keep, Mark, Seq, If, Loop, Block, Leave, Call, Return, Statements, End, Then, Function}
+use Rattle.high_ir.specs.Tree.{Expr, Statement, Set, Put, Get, Keep, Mark, Seq, If, Loop, Block, Leave, Call, Return, Statements, End, Then, Function}
 use Rattle.high_ir.specs.Weight.{body_reach, most_starts, reach_of, reach_of_all, reaches}
 use Rattle.high_pass.proofs.Elements.{All-append_back, All-append_front}
 use Rattle.inliner.specs.declared.used.Used.{Used}
 use Rattle.inliner.specs.Budgets.{fits}
-use Rattle.inliner.specs.Moving.{Place, ended, moved, moved_all, moved_base, moved_expr}
+use Rattle.inliner.specs.Moving.{Place, ended, moved, moved_all, moved_expr}
 use Rattle.inliner.specs.Opening.{Site, assigned, call_of, opening}
 use Rattle.inliner.specs.Walking.{at_call, opened, opened_all, opened_if}
 use Rattle.inliner.proofs.Stepping.{set_other, set_same}

@@ -1,19 +1,19 @@
 -- How large bodies are where they are moved, and where calls are opened.
-use Rattle.std.proofs.Common.{◌≡◌, ℕ, zero, suc, ◌+◌, ◌-◌, ◌*◌, ◌<◌, ◌≤◌, max, Bool, true, false, List, [], ◌∷◌, length, map, Option, Some, None, refl, sym, ap, ◌∙◌, subst, arith}
+use Rattle.std.proofs.Common.{◌≡◌, ℕ, ◌+◌, ◌*◌, ◌≤◌, max, Bool, true, false, List, [], ◌∷◌, length, map, Option, Some, None, refl, ap, ◌∙◌, arith}
 use Rattle.std.specs.Prelude.{nat_le, slice_get, sum_by, ◌&&◌}
 use Rattle.std.proofs.lemmas.Bool.{leb-true}
 use Rattle.std.proofs.lemmas.List.{length-map}
 use Rattle.std.proofs.lemmas.List.Sums.{sum_by-cons}
 use Rattle.high_ir.specs.declared.object.Base.{Base}
-use Rattle.high_ir.specs.Size.{depth, depth_all, expr_depth, expr_nodes, expr_operations, function_nodes, greatest, nodes, nodes_all, operations, operations_all, program_nodes, program_operations}
+use Rattle.high_ir.specs.Size.{depth, depth_all, expr_depth, expr_nodes, expr_operations, function_nodes, greatest, nodes, nodes_all, operations, operations_all}
 use Rattle.high_ir.specs.Tree.{Expr, Constant, Variable, Element, Unary, Binary, Statement, Set, Put, Get, Keep, Mark, Seq, If, Loop, Block, Leave, Call, Return, Statements, End, Then, Function}
-use Rattle.inliner.specs.declared.measuring.Returns.TheVariants.{Kept, Written, Dropped}
+use Rattle.inliner.specs.declared.measuring.Returns.TheVariants.{Kept}
 use Rattle.inliner.specs.declared.used.Used.{Used}
-use Rattle.inliner.specs.Budgets.{fits, used_behind, variables}
+use Rattle.inliner.specs.Budgets.{fits, variables}
 use Rattle.inliner.specs.Measures.{measured, measured_all, returns_into}
 use Rattle.inliner.specs.Moving.{Place, ended, moved, moved_all, moved_base, moved_expr}
 use Rattle.inliner.specs.Opening.{Site, assigned, call_of, opening}
-use Rattle.inliner.specs.Walking.{Walked, at_call, opened, opened_all, opened_if}
+use Rattle.inliner.specs.Walking.{at_call, opened, opened_all, opened_if}
 
 -- a body where it stands
 mutual
@@ -131,7 +131,7 @@ module _ (p : Place) where
 
 -- an opened call, beside the call
 assigned_operations : (x : ℕ) (es : List Expr) (after : Statements) → operations_all (assigned x es after) ≡ sum_by expr_operations es + length es + operations_all after
-assigned_operations x [] after = refl
+assigned_operations x [] after = omega arith
 assigned_operations x (e ∷ es) after = omega (arith, sum_by-cons expr_operations e es, assigned_operations (x + 1) es after)
 
 pub opening_operations : (s : Site) (n : ℕ) (body : Statement) → operations (opening s n body) + length s.arrays ≡ operations (call_of s) + 2 + (measured (returns_into s.into) body).operations

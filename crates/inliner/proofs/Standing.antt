@@ -1,6 +1,6 @@
 -- What stands in a body where it is moved, and where its calls are opened: callees, marks and loops.
-use Rattle.std.proofs.Common.{◌≡◌, ℕ, zero, suc, ◌+◌, ◌-◌, ◌<◌, ◌≤◌, max, Bool, true, false, List, [], ◌∷◌, ◌++◌, length, get_or, map, Option, Some, None, refl, sym, ap, ◌∙◌, subst, arith, All}
-use Rattle.std.specs.Prelude.{slice_get, ◌&&◌}
+use Rattle.std.proofs.Common.{◌≡◌, ℕ, ◌+◌, ◌-◌, ◌≤◌, max, Bool, true, false, List, [], ◌∷◌, ◌++◌, Option, Some, None, refl, sym, ap, ◌∙◌, subst, arith, All}
+use Rattle.std.specs.Prelude.{slice_get}
 use Rattle.std.proofs.lemmas.List.Elements.{All-append, All-cons, All-head, All-nil, All-tail}
 use Rattle.high_ir.specs.Standing.{Bounded, blocks_needed, blocks_needed_all, callees_of, callees_of_all, loops_of, loops_of_all, marks_of, marks_of_all}
 use Rattle.high_ir.specs.Tree.{Expr, Statement, Set, Put, Get, Keep, Mark, Seq, If, Loop, Block, Leave, Call, Return, Statements, End, Then, Function}
@@ -8,7 +8,7 @@ use Rattle.high_pass.proofs.Elements.{All-append_back, All-append_front}
 use Rattle.inliner.specs.declared.used.Used.{Used}
 use Rattle.inliner.specs.Budgets.{fits}
 use Rattle.inliner.specs.Moving.{Place, ended, moved, moved_all, moved_expr}
-use Rattle.inliner.specs.Opening.{Site, assigned, call_of, opening}
+use Rattle.inliner.specs.Opening.{Site, assigned, opening}
 use Rattle.inliner.specs.Walking.{at_call, opened, opened_all, opened_if}
 
 -- the callees of a body are the same where it is moved

@@ -1,11 +1,11 @@
 -- A program serves with the calls of one function opened, and so with those of all.
-use Rattle.std.proofs.Common.{◌≡◌, ℕ, zero, suc, ◌+◌, ◌-◌, ◌≤◌, ◌<◌, Bool, true, false, ◌&&◌, ◌==◌, ◌⊎◌, inl, inr, List, [], ◌∷◌, ◌++◌, length, map, get_or, Option, Some, None, refl, sym, ap, ◌∙◌, subst, ⊎_elim, arith, length-append}
+use Rattle.std.proofs.Common.{◌≡◌, ℕ, zero, suc, ◌+◌, ◌-◌, ◌≤◌, Bool, true, false, ◌==◌, ◌⊎◌, inl, inr, List, [], ◌∷◌, ◌++◌, length, map, Option, Some, None, refl, sym, ap, subst, arith, length-append}
 use Rattle.std.specs.Prelude.{replicate, slice_get, slice_set}
 use Rattle.std.proofs.lemmas.Bool.{cases_eq, eqb-true}
 use Rattle.std.proofs.lemmas.List.{length-map, length-replicate}
 use Rattle.std.proofs.lemmas.Option.{none-some}
-use Rattle.high_ir.specs.Meaning.{World, Variables, State, Outcome, Goes, Leaves, Returns, Bad, Given, Calls, Labels, pass, run, then_do}
-use Rattle.high_ir.specs.Runs.{enter, frame, given, only_good, takes}
+use Rattle.high_ir.specs.Meaning.{World, Outcome, Goes, Leaves, Returns, Bad, Calls, Labels, pass, run, then_do}
+use Rattle.high_ir.specs.Runs.{frame, given, only_good, takes}
 use Rattle.high_ir.specs.Tree.{Function, Program}
 use Rattle.high_renumber.specs.Keeping.{CallsServe, FunctionsServe, ServesCall}
 use Rattle.high_renumber.proofs.Serving.{FunctionServes, Opens, each_serves, functions_refl, functions_trans, stays}
@@ -13,7 +13,7 @@ use Rattle.inliner.specs.declared.used.Used.{Used}
 use Rattle.inliner.specs.Budgets.{variables}
 use Rattle.inliner.specs.Inlining.{Making, after, after_all, after_function, by_rank, swept, used_in, with_body}
 use Rattle.inliner.specs.Walking.{Walked, opened}
-use Rattle.inliner.proofs.Embedding.{Embeds, Kept, Sees, Serves', held}
+use Rattle.inliner.proofs.Embedding.{Kept, Serves', held}
 use Rattle.inliner.proofs.Extending.{next_grows, run_opened}
 use Rattle.inliner.proofs.OpenedCall.{both_true, empty_frame}
 

@@ -1,9 +1,9 @@
 -- Functions that are gone through, as the code does it.
-use Rattle.std.proofs.Common.{◌≡◌, ℕ, ◌+◌, ◌<◌, Bool, true, false, List, Option, Some, None, sym, ap, ◌∙◌, add-one, below_more}
+use Rattle.std.proofs.Common.{◌≡◌, ℕ, ◌+◌, ◌<◌, Bool, true, List, Some, None, sym, ap, ◌∙◌, add-one, below_more}
 use Rattle.std.specs.Prelude.{slice_get, slice_set}
 use Rattle.high_ir.specs.Tree.{Function, Program}
 use Rattle.inliner.specs.declared.used.Used.{Used}
-use Rattle.inliner.specs.Inlining.{Making, after, after_all, after_function, by_rank, put_back, swept, used_in, with_body}
+use Rattle.inliner.specs.Inlining.{Making, after, after_all, after_function, by_rank, swept, used_in, with_body}
 use Rattle.inliner.specs.Sites.{is_open}
 use Rattle.inliner.specs.Walking.{Walked, opened}
 
@@ -29,4 +29,4 @@ pub open_now : (limit : ℕ) (p : Program) (n : ℕ) (m : Making) (b c : Bool) �
 open_now limit p n m b c made is which = ap (is_open limit) (sym made) ∙ sym is ∙ which
 
 pub wanted_more : (limit : ℕ) (p : Program) (n : ℕ) (m : Making) (b : Bool) → m ≡ swept limit p n → b ≡ is_open limit m → b ≡ true → ((k : ℕ) → k < n → is_open limit (swept limit p k) ≡ true) → (k : ℕ) → k < n + 1 → is_open limit (swept limit p k) ≡ true
-wanted_more limit p n m b made is open before = below_more (λ k. is_open limit (swept limit p k) ≡ true) n before (open_now limit p n m b true made is open)
+wanted_more limit p n m b made is opens before = below_more (λ k. is_open limit (swept limit p k) ≡ true) n before (open_now limit p n m b true made is opens)

@@ -1,15 +1,14 @@
 -- Either no call was opened, or what is used is within the budget of operations.
-use Rattle.std.proofs.Common.{◌≡◌, ℕ, ◌+◌, ◌-◌, ◌≤◌, ◌⊎◌, inl, inr, Bool, true, false, List, [], ◌∷◌, map, Option, Some, None, refl, sym, ap, ◌∙◌, subst, arith}
-use Rattle.std.specs.Prelude.{slice_get, slice_set, ◌&&◌}
-use Rattle.high_ir.specs.Size.{operations}
-use Rattle.high_ir.specs.Tree.{Expr, Statement, Set, Put, Get, Keep, Mark, Seq, If, Loop, Block, Leave, Call, Return, Statements, End, Then, Function, Program}
+use Rattle.std.proofs.Common.{◌≡◌, ℕ, ◌+◌, ◌-◌, ◌≤◌, ◌⊎◌, inl, inr, Bool, true, false, List, [], ◌∷◌, Option, Some, None, refl, sym, ap, ◌∙◌, subst, arith}
+use Rattle.std.specs.Prelude.{slice_get, slice_set}
+use Rattle.high_ir.specs.Tree.{Expr, Statement, Set, Put, Get, Keep, Mark, Seq, If, Loop, Block, Leave, Call, Return, Statements, End, Then, Function}
 use Rattle.inliner.specs.declared.used.Used.{Used}
 use Rattle.inliner.specs.Budgets.{fits, variables}
-use Rattle.inliner.specs.Inlining.{Making, after, after_all, after_function, begun, used_in, with_body}
+use Rattle.inliner.specs.Inlining.{Making, after, after_all, after_function, used_in, with_body}
 use Rattle.inliner.specs.Opening.{Site, call_of}
 use Rattle.inliner.specs.Walking.{Walked, WalkedAll, at_call, block, chosen, followed, looped, opened, opened_all, opened_if, seq, walked, walked_all}
 use Rattle.inliner.proofs.Making.{set_itself}
-use Rattle.inliner.proofs.Sizing.{Fitting, fitting, second_true}
+use Rattle.inliner.proofs.Sizing.{Fitting, fitting}
 
 abbrev pub Few : Used → Type 0
 Few used = used.operations ≤ 98304

@@ -1,12 +1,12 @@
 -- Statements one after another, as the code walks them.
-use Rattle.std.proofs.Common.{◌≡◌, ℕ, zero, suc, ◌+◌, ◌<◌, ◌≤◌, max, min, Bool, true, false, List, [], ◌∷◌, ◌++◌, length, get_or, drop, map, refl, sym, ap, ◌∙◌, arith, drop-cons, add-one}
-use Rattle.std.specs.Prelude.{Vec, sum_by, ◌||◌}
+use Rattle.std.proofs.Common.{◌≡◌, ℕ, suc, ◌+◌, ◌<◌, ◌≤◌, min, false, List, [], ◌∷◌, length, get_or, drop, map, refl, sym, ap, ◌∙◌, arith, drop-cons, add-one}
+use Rattle.std.specs.Prelude.{Vec, ◌||◌}
 use Rattle.std.specs.Global.{Global}
 use Rattle.std.proofs.Math.ListN.{drop_of_length-le}
 use Rattle.std.proofs.lemmas.List.Sums.{sum_by-cons}
 use Rattle.high_code.specs.Code.{alone, joined}
 use Rattle.high_ir.proofs.Rows.{statement_of-Seq}
-use Rattle.high_ir.specs.Size.{expr_depth, expr_nodes, expr_operations, greatest}
+use Rattle.high_ir.specs.Size.{expr_nodes, expr_operations, greatest}
 use Rattle.high_ir.specs.Tree.{Expr, Statement, Seq, Set, If, Statements, End, Then, Function}
 use Rattle.high_ir.specs.View.{expr_of, statement_of, statements_of}
 use Rattle.high_ir.specs.declared.expression.Expr as exprs
@@ -16,7 +16,7 @@ use Rattle.high_renumber.proofs.Walks.{statements_at}
 use Rattle.inliner.specs.declared.measuring.Measure.{Measure}
 use Rattle.inliner.specs.declared.measuring.Returns.{Returns}
 use Rattle.inliner.specs.declared.used.Used.{Used}
-use Rattle.inliner.specs.Measures.{beside, expr_measure, measure, measured, measured_all, no_part, passed_measure, values_measure, within}
+use Rattle.inliner.specs.Measures.{beside, measure, measured, measured_all, no_part, passed_measure, values_measure, within}
 use Rattle.inliner.specs.Moving.{Place, moved, moved_all}
 use Rattle.inliner.specs.Opening.{assigned}
 use Rattle.inliner.specs.Sites.{any_fits, any_fits_all}

@@ -49,10 +49,17 @@ fn long_sum(a: u64, b: u64) -> Result<u64, Memory>
     }
 }
 
+/// The bytes of so many words of a frame.
+fn words_bytes(values: u32, arrays: u32, locals: u32) -> u64
+    ensures { result ≡ 4 * (values + arrays + locals) }
+{
+    4 * (u64::from(values) + u64::from(arrays) + u64::from(locals))
+}
+
 fn frame_bytes(function: &Function) -> u64
     ensures { result ≡ frame_bytes (function_of function.now) }
 {
-    4 * (u64::from(function.values) + u64::from(function.arrays) + u64::from(function.locals))
+    words_bytes(function.values, function.arrays, function.locals)
 }
 
 /// The bytes of so many elements, rounded up to whole words.

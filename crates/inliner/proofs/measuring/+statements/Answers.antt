@@ -18,7 +18,7 @@ measured_all-measured-requires t c =
     (omega (arith, c.decreases, part_size c.args.parts.now c.loop-part.part-index c.part-item.result c.loop-part-test.true c.part-item.is), tt)
 
 pub measured_all-loop-part-init : goal.measured_all-loop-part-init
-measured_all-loop-part-init t c = ap (λ m. beside m (measured_all c.args.returns (statements_of c.args.parts.now))) c.none.ensures ∙ none-beside (measured_all c.args.returns (statements_of c.args.parts.now))
+measured_all-loop-part-init t c = ap (λ m. beside m (measured_all c.args.returns (statements_of c.args.parts.now))) c.none-all.ensures ∙ none-beside (measured_all c.args.returns (statements_of c.args.parts.now))
 
 pub measured_all-loop-part-preserved : goal.measured_all-loop-part-preserved
 measured_all-loop-part-preserved t c =

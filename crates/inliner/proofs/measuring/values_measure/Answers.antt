@@ -5,7 +5,7 @@ use Rattle.inliner.proofs.Walks.{none-beside, values_done, values_more}
 use Rattle.inliner.proofs.measuring.values_measure.Goals as goal
 
 pub loop-value-init : goal.loop-value-init
-loop-value-init c = ap (λ m. beside m (values_measure (map expr_of c.args.values.now))) c.none.ensures ∙ none-beside (values_measure (map expr_of c.args.values.now))
+loop-value-init c = ap (λ m. beside m (values_measure (map expr_of c.args.values.now))) c.none-all.ensures ∙ none-beside (values_measure (map expr_of c.args.values.now))
 
 pub loop-value-preserved : goal.loop-value-preserved
 loop-value-preserved c =

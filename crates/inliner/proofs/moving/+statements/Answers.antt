@@ -1,11 +1,11 @@
 use Rattle.std.proofs.Common.{arith, ap, map, sym, ◌∙◌}
 use Rattle.high_code.specs.Code.{alone, joined}
 use Rattle.high_ir.proofs.Rows.{statement_of-Seq}
-use Rattle.high_ir.specs.Tree.{Call, If, Keep, Seq}
+use Rattle.high_ir.specs.Tree.{Call, Seq}
 use Rattle.high_renumber.proofs.Walks.{statements_pushed}
 use Rattle.high_ir.specs.View.{expr_of, statement_of, statements_of}
 use Rattle.high_parts.proofs.Making.{part_size, size_of_seq}
-use Rattle.inliner.specs.Moving.{moved, moved_all, moved_expr}
+use Rattle.inliner.specs.Moving.{moved}
 use Rattle.inliner.specs.View.{place_of}
 use Rattle.inliner.proofs.Walks.{moved_done, moved_more, moved_seq}
 use Rattle.inliner.proofs.moving.+statements.Goals as goal

@@ -24,7 +24,7 @@ any_fits_all-any_fits-requires t c =
 pub any_fits_all-loop-part-preserved : goal.any_fits_all-loop-part-preserved
 any_fits_all-loop-part-preserved t c =
     let scope = c.args.scope.now in
-    fits_more scope.limit (functions_of scope.functions.now) c.args.used c.args.around c.args.parts.now c.loop-part.part-index c.part-item.result c.loop-part-test.true c.part-item.is (sym c.in_ok-any_fits.ensures ∙ c.if-any_fits.false)
+    fits_more scope.limit (functions_of scope.functions.now) c.args.used c.args.around c.args.parts.now c.loop-part.part-index c.part-item.result c.loop-part-test.true c.part-item.is (sym c.in_ok-any_fits.ensures ∙ c.if-branch.false)
     ∙ c.loop-part.invariant
 
 pub any_fits_all-returns : goal.any_fits_all-returns

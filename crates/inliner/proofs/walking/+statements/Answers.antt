@@ -1,11 +1,10 @@
-use Rattle.std.proofs.Common.{◌+◌, arith, ap, sym, ◌∙◌}
+use Rattle.std.proofs.Common.{arith, ap, ◌∙◌}
 use Rattle.high_ir.proofs.Rows.{statement_of-Seq}
-use Rattle.high_ir.specs.Tree.{If}
 use Rattle.high_renumber.proofs.Walks.{statements_pushed}
-use Rattle.high_ir.specs.View.{expr_of, statement_of, statements_of}
+use Rattle.high_ir.specs.View.{statements_of}
 use Rattle.high_parts.proofs.Making.{part_size, size_of_seq}
 use Rattle.inliner.specs.View.{functions_of}
-use Rattle.inliner.specs.Walking.{behind, opened, opened_all, seq, walked, walked_all}
+use Rattle.inliner.specs.Walking.{behind, opened_all, seq, walked, walked_all}
 use Rattle.inliner.proofs.Walks.{opened_done, opened_more, opened_seq}
 use Rattle.inliner.proofs.walking.+statements.Goals as goal
 
