@@ -38,9 +38,13 @@ fn high(alloc: Global, source: &Source, options: &Options) -> Result<Stages, Mem
 {
     let stages = begun(alloc, source, planned(alloc, source)?);
     let stages = passed(alloc, source, stages, options, 0, &Fold)?;
-    let inline = Inline { limit: options.inline };
+    let inline = Inline {
+        limit: options.inline,
+    };
     let stages = passed(alloc, source, stages, options, 1, &inline)?;
-    let unroll = Unroll { factor: options.unroll };
+    let unroll = Unroll {
+        factor: options.unroll,
+    };
     let stages = passed(alloc, source, stages, options, 2, &unroll)?;
     let stages = passed(alloc, source, stages, options, 3, &Fold)?;
     Ok(stages)
