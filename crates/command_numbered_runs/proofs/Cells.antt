@@ -53,7 +53,7 @@ reads object at w st h = ap (λ o. held (element o 0) at st) h
 pub cell_kept : (object other : ℕ) (x y : Option ℕ) (st : State) → other ≢ object → Cell other y st → Cell other y (put object x st)
 cell_kept object other x y st n h = put_other object other x st n ∙ h
 
-same_or_not : (a b : ℕ) → (a ≡ b) ⊎ (a ≢ b)
+pub same_or_not : (a b : ℕ) → (a ≡ b) ⊎ (a ≢ b)
 same_or_not a b = grind arith
 
 pub one_kept : (object other : ℕ) (x : Option ℕ) (st : State) → IsOne object st → IsOne other st → IsOne other (put object x st)

@@ -66,7 +66,7 @@ module _ (source : Source) (call : Calls) (x k s l i : ℕ) (q : ℕ → ℕ) wh
 
   module _ (few : i ≤ 100) (apart : k ≢ s) where
     test_is : (c : ℕ) (st : State) → Cell k (Some c) st → c ≤ 10 → loop.test st ≡ Fine (truth_word (nat_lt c 10)) st
-    test_is c st h low = operate_value source.program.variables call Less _ _ (q 22) c 10 (truth_word (nat_lt c 10)) true st (read_value source.program.variables call k (q 22) c true st h) refl (less_is c 10 (omega (arith, low)) (omega arith))
+    test_is c st h low = operate_value source.program.variables call Less (Read (Scalar k (q 22))) (Number (int 10) (q 24)) (q 22) c 10 (truth_word (nat_lt c 10)) true st (read_value source.program.variables call k (q 22) c true st h) refl (less_is c 10 (omega (arith, low)) (omega arith))
 
     round_is : (c w : ℕ) (st : State) → Cell k (Some c) st → Cell s (Some w) st → c < 10 → w < 1000 → loop.round st ≡ Fine Onward (after_round c w st)
     round_is c w st counts holds c_low w_low =

@@ -120,8 +120,8 @@ module _ (n : ℕ) (few : n ≤ 100) (p : Places) where
   letter_value : (w : ℕ) (st : State) → Cell s (Some w) st → w < 1000
       → value source.program.variables own (Operate Add Int (Number (int 65) (p.tail 2)) (Operate Remainder Int (Read (Scalar s (p.tail 4))) (Number (int 26) (p.tail 6)) (p.tail 4)) (p.tail 2)) true st ≡ Fine (letter w) st
   letter_value w st holds low =
-      operate_value source.program.variables own Add _ _ (p.tail 2) 65 (w % 26) (letter w) true st refl
-      (operate_value source.program.variables own Remainder _ _ (p.tail 4) w 26 (w % 26) true st (read_value source.program.variables own s (p.tail 4) w true st holds) refl (remainder_is w 25 (omega (arith, low)) (omega arith)))
+      operate_value source.program.variables own Add (Number (int 65) (p.tail 2)) (Operate Remainder Int (Read (Scalar s (p.tail 4))) (Number (int 26) (p.tail 6)) (p.tail 4)) (p.tail 2) 65 (w % 26) (letter w) true st refl
+      (operate_value source.program.variables own Remainder (Read (Scalar s (p.tail 4))) (Number (int 26) (p.tail 6)) (p.tail 4) w 26 (w % 26) true st (read_value source.program.variables own s (p.tail 4) w true st holds) refl (remainder_is w 25 (omega (arith, low)) (omega arith)))
       (sum_is 65 (w % 26) (omega arith) (omega arith) (omega arith))
 
   abbrev after_put : ℕ → State → State
@@ -131,7 +131,7 @@ module _ (n : ℕ) (few : n ≤ 100) (p : Places) where
   tail_is w st holds low =
       ap (λ o. then_do (then_do (then_do (then_do (then_do o with_none) (called own Putchar (p.tail 0))) (needed false (p.tail 0))) go_onward) (if_onward (run_items source own last))) (letter_value w st holds low)
       ∙ ap (λ o. then_do (then_do o give) (if_onward (run_items source own NoItem)))
-      (operate_value source.program.variables own Remainder _ _ (p.tail 10) w 256 (w % 256) true (after_put w st) (read_value source.program.variables own s (p.tail 10) w true (after_put w st) holds) refl (remainder_is w 255 (omega (arith, low)) (omega arith)))
+      (operate_value source.program.variables own Remainder (Read (Scalar s (p.tail 10))) (Number (int 256) (p.tail 12)) (p.tail 10) w 256 (w % 256) true (after_put w st) (read_value source.program.variables own s (p.tail 10) w true (after_put w st) holds) refl (remainder_is w 255 (omega (arith, low)) (omega arith)))
     where
       with_none : ℕ → State → Outcome (List ℕ)
       with_none word st1 = then_do (values source.program.variables own NoExpr st1) (λ words st2. Fine (word ∷ words) st2)

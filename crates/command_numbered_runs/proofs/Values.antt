@@ -14,6 +14,7 @@ use Rattle.meaning_semantics.specs.Values.{Calls, value}
 use Rattle.meaning_semantics.specs.declared.outcome.Change.{Change}
 use Rattle.meaning_semantics.specs.declared.outcome.Operands.{Operands}
 use Rattle.meaning_semantics.specs.declared.outcome.Target.{Target}
+use Rattle.command_numbered_tree.proofs.Trees.{int}
 use Rattle.command_numbered_types.proofs.Programs as typed
 use Rattle.command_numbered_runs.proofs.Cells.{Cell, IsOne, found_at, put, reads, writes}
 use Rattle.command_numbered_runs.proofs.Words.{product_is, remainder_is, sum_is}
@@ -52,11 +53,21 @@ module _ (variables : List Variable) (call : Calls) where
       given : Change → State → Outcome ℕ
       given change st2 = Fine (step_value Postfix change) st2
 
+  abbrev scaled : (s : ℕ) (q : ℕ → ℕ) → Expr
+  scaled s q = Operate Multiply Int (Read (Scalar s (q 32))) (Number (int 5) (q 34)) (q 32)
+
+  abbrev moved : (s i : ℕ) (q : ℕ → ℕ) → Expr
+  moved s i q = Operate Add Int (scaled s q) (Number (int i) (q 36)) (q 32)
+
+  scaled_value : (s w : ℕ) (q : ℕ → ℕ) (st : State) → Cell s (Some w) st → w < 1000 → value variables call (scaled s q) true st ≡ Fine (w * 5) st
+  scaled_value s w q st h low =
+      operate_value Multiply (Read (Scalar s (q 32))) (Number (int 5) (q 34)) (q 32) w 5 (w * 5) true st (read_value s (q 32) w true st h) refl (product_is w 5 (omega (arith, low)) (omega arith) (omega (arith, low)))
+
+  moved_value : (s i w : ℕ) (q : ℕ → ℕ) (st : State) → Cell s (Some w) st → w < 1000 → i ≤ 100 → value variables call (moved s i q) true st ≡ Fine (w * 5 + i) st
+  moved_value s i w q st h low few =
+      operate_value Add (scaled s q) (Number (int i) (q 36)) (q 32) (w * 5) i (w * 5 + i) true st (scaled_value s w q st h low) refl (sum_is (w * 5) i (omega (arith, low)) (omega (arith, few)) (omega (arith, low, few)))
+
   -- (s * 5 + i) % 1000
   pub next_value : (x k s l i w : ℕ) (q : ℕ → ℕ) (used : Bool) (st : State) → Cell s (Some w) st → w < 1000 → i ≤ 100 → value variables call (typed.step x k s l i q) used st ≡ Fine ((w * 5 + i) % 1000) st
   next_value x k s l i w q used st h low few =
-      operate_value Remainder _ _ (q 31) (w * 5 + i) 1000 ((w * 5 + i) % 1000) used st
-      (operate_value Add _ _ (q 32) (w * 5) i (w * 5 + i) true st
-      (operate_value Multiply _ _ (q 32) w 5 (w * 5) true st (read_value s (q 32) w true st h) refl (product_is w 5 (omega (arith, low)) (omega arith) (omega (arith, low))))
-      refl (sum_is (w * 5) i (omega (arith, low)) (omega (arith, few)) (omega (arith, low, few))))
-      refl (remainder_is (w * 5 + i) 999 (omega (arith, low, few)) (omega arith))
+      operate_value Remainder (Paren (moved s i q) (q 31)) (Number (int 1000) (q 39)) (q 31) (w * 5 + i) 1000 ((w * 5 + i) % 1000) used st (moved_value s i w q st h low few) refl (remainder_is (w * 5 + i) 999 (omega (arith, low, few)) (omega arith))

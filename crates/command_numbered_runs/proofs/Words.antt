@@ -1,13 +1,14 @@
 -- What the operators give for small numbers.
-use Rattle.std.proofs.Common.{◌≡◌, ◌≢◌, ℕ, zero, suc, ◌+◌, ◌*◌, ◌-◌, ◌%◌, ◌^◌, ◌<◌, ◌≤◌, ◌&&◌, Bool, true, false, nat_eq, not, ℤ, pos, negsuc, ◌+ℤ◌, ◌*ℤ◌, Result, Ok, Err, refl, sym, ap, ◌∙◌, arith}
+use Rattle.std.proofs.Common.{◌≡◌, ◌≢◌, ℕ, zero, suc, ◌+◌, ◌*◌, ◌-◌, ◌%◌, ◌^◌, ◌<◌, ◌≤◌, ◌&&◌, Bool, true, false, nat_eq, not, ℤ, pos, negsuc, ◌+ℤ◌, ◌*ℤ◌, Option, Some, None, Result, Ok, Err, refl, sym, ap, ◌∙◌, arith}
 use Rattle.std.specs.Prelude.{◌==◌, int_lt, int_rem, nat_lt, if◌then◌else◌}
 use Rattle.std.proofs.lemmas.Bool.{le-leb, lt-ltb, ne_eqb}
+use Rattle.std.proofs.lemmas.Nat.{mod_below}
 use Rattle.wcc_base.specs.Words.{signed_remainder_word, signed_word, truth_word, wrapped}
 use Rattle.types_value.specs.Operators.{computed, given, overflows, when}
 use Rattle.types_value.specs.declared.kind.Kind.TheVariants.{Int}
 use Rattle.types_value.specs.declared.operator.Operator.TheVariants.{Multiply, Remainder, Add, Less}
 use Rattle.types_value.specs.declared.operator.Undefined.{Undefined}
-use Rattle.types_value.specs.declared.operator.Undefined.TheVariants.{Overflow, Quotient}
+use Rattle.types_value.specs.declared.operator.Undefined.TheVariants.{Overflow, Quotient, ZeroDivisor}
 
 signed_small : (x : ℕ) → x < 2 ^ 31 → signed_word x ≡ pos x
 signed_small x h = ap (λ t. if t then pos x else negsuc (2 ^ 32 - 1 - x)) (lt-ltb x (2 ^ 31) h)
@@ -38,7 +39,7 @@ module _ (x y : ℕ) (x_small : x < 2 ^ 31) (y_small : y < 2 ^ 31) where
 pub remainder_is : (x d : ℕ) → x < 2 ^ 31 → suc d < 2 ^ 31 → computed Remainder Int x (suc d) ≡ Ok (x % suc d)
 unfolding computed
 remainder_is x d x_small d_small =
-    ap (λ t. given (if t then _ else when (true && (x == 2 ^ 31) && (suc d == 2 ^ 32 - 1)) Quotient) (signed_remainder_word x (suc d))) some
+    ap (λ t. given (if t then Some ZeroDivisor else when (true && (x == 2 ^ 31) && (suc d == 2 ^ 32 - 1)) Quotient) (signed_remainder_word x (suc d))) some
     ∙ fine _ Quotient _ (x % suc d) (first (suc d == 2 ^ 32 - 1) (ne_eqb x (2 ^ 31) (λ e. omega (arith, e, x_small))))
     ((λ i. wrapped (int_rem (signed_small x x_small i) (signed_small (suc d) d_small i))) ∙ small (x % suc d) low)
   where
@@ -49,4 +50,4 @@ remainder_is x d x_small d_small =
     first t e = rw e refl
 
     low : x % suc d < 2 ^ 31
-    low = ?
+    low = let lt = mod_below x (suc d) (omega arith) in omega (arith, lt, d_small)

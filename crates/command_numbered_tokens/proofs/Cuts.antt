@@ -58,7 +58,7 @@ with_append (Gap bytes) at xs ys = refl
 with_append b at xs ys = refl
 
 pub spoken_append : (xs ys : List Bit) (at : ℕ) → spoken_of (xs ++ ys) at ≡ spoken_of xs at ++ spoken_of ys (at + length (written xs))
-spoken_append [] ys at = ap (spoken_of ys) (omega arith)
+spoken_append [] ys at = let here : at ≡ at + 0 = omega arith in ap (spoken_of ys) here
 spoken_append (x ∷ xs) ys at =
     let behind : at + length (bytes_of x) + length (written xs) ≡ at + length (written (x ∷ xs)) = let long = length-append (bytes_of x) (written xs) in omega (arith, long) in
     ap (with_spoken x at) (spoken_append xs ys (at + length (bytes_of x)) ∙ ap (λ n. spoken_of xs (at + length (bytes_of x)) ++ spoken_of ys n) behind)
@@ -102,6 +102,6 @@ cut_from source (b ∷ bits) c rest fresh at to inside there next test low e =
     let long = length-append (bytes_of b) (written bits) in
     let more = cut_from source bits c rest (fresh_of b fresh) (at + length (bytes_of b)) to (ends_inside source at inside (bytes_of b) behind here) (rest_is source at (bytes_of b) behind here) next p.1 l.1 (omega (arith, long, e)) in
     record {
-      cut = (s.stands, not_outside b, more.cut);
+      cut = (s.cuts, not_outside b, more.cut);
       said = with_said source b at s.said (tokens_of (pieces_of bits (fresh_of b fresh) (at + length (bytes_of b))) (at + length (bytes_of b))) (spoken_of bits (at + length (bytes_of b))) more.said;
     }

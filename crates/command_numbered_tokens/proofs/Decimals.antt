@@ -2,7 +2,7 @@
 use Rattle.std.proofs.Common.{◌≡◌, ℕ, ◌+◌, ◌*◌, ◌-◌, ◌^◌, ◌<◌, ◌≤◌, Bool, true, false, nat_eq, List, [], ◌∷◌, length, refl, sym, ap, subst, ◌∙◌, arith}
 use Rattle.std.specs.Prelude.{slice_index}
 use Rattle.std.specs.Fmt.{decimal}
-use Rattle.std.specs.Str.Parse.{AllDigits, digits_value, digits_value_after}
+use Rattle.std.specs.Str.Parse.{AllDigits, IsNumeral, digits_value, digits_value_after}
 use Rattle.std.specs.Char.{digit_value}
 use Rattle.std.proofs.lemmas.Bool.{ne_eqb}
 use Rattle.std.proofs.lemmas.Bool.Decides.{nat_tests}
@@ -39,6 +39,7 @@ spelled_is n (b ∷ bytes) h =
 pub decimal_is : (i : ℕ) → 0 < i → i ≤ 100 → IsDecimal i
 decimal_is i some low = of (decimal i) refl
   where
+    numeral : IsNumeral 10 (decimal i) × (digits_value 10 (decimal i) ≡ i)
     numeral = decimal_is_IsNumeral i (omega (arith, low))
 
     of : (bytes : List ℕ) → decimal i ≡ bytes → IsDecimal i

@@ -115,7 +115,7 @@ stops b word number =
     let p = and_parts (not (nat_eq b 46)) (not (nat_eq b 43) && not (nat_eq b 45)) number in
     let q = and_parts (not (nat_eq b 43)) (not (nat_eq b 45)) p.1 in
     record {
-      no_name = (ends b word).no_name;
+      apart = (ends b word).apart;
       no_point = eqb-false b 46 (not-true (nat_eq b 46) p.0);
       no_sign = λ h. elim h [ inl e ↦ eqb-false b 43 (not-true (nat_eq b 43) q.0) e | inr e ↦ eqb-false b 45 (not-true (nat_eq b 45) q.1) e ];
     }
@@ -126,7 +126,7 @@ IsSaid (Gap bytes) source at = Unit {0}
 IsSaid b source at = lexeme (token_of b) source at (at + length (bytes_of b)) ≡ lexeme_of b
 
 pub record Standing (b : Bit) (fresh : Bool) (source : List ℕ) (at : ℕ) : Type 0 where
-  pub stands : StandsAt (piece_of b fresh at) fresh source at
+  pub cuts : StandsAt (piece_of b fresh at) fresh source at
   pub said : IsSaid b source at
 
 module _ (fresh : Bool) (source : List ℕ) (at : ℕ) (inside : at ≤ length source) (rest : List ℕ) where
@@ -178,8 +178,8 @@ module _ (fresh : Bool) (source : List ℕ) (at : ℕ) (inside : at ≤ length s
   nought there stop =
       let zero : nat_eq (slice_index source at) 48 ≡ true = eq-eqb _ _ (stands source at inside (codes "0") rest there).0 in
       let behind = next_is source at (codes "0") rest there in
-      let no_x : nat_eq (slice_index source (at + 1)) 120 ≡ false = ap (λ n. nat_eq n 120) behind ∙ ne_eqb _ _ (λ e. stop.no_name (subst IsNameByte (sym e) (inl (inr (inl (omega arith, omega arith)))))) in
-      let no_X : nat_eq (slice_index source (at + 1)) 88 ≡ false = ap (λ n. nat_eq n 88) behind ∙ ne_eqb _ _ (λ e. stop.no_name (subst IsNameByte (sym e) (inl (inl (omega arith, omega arith))))) in
+      let no_x : nat_eq (slice_index source (at + 1)) 120 ≡ false = ap (λ n. nat_eq n 120) behind ∙ ne_eqb _ _ (λ e. stop.apart (subst IsNameByte (sym e) (inl (inr (inl (omega arith, omega arith)))))) in
+      let no_X : nat_eq (slice_index source (at + 1)) 88 ≡ false = ap (λ n. nat_eq n 88) behind ∙ ne_eqb _ _ (λ e. stop.apart (subst IsNameByte (sym e) (inl (inl (omega arith, omega arith))))) in
       let hexadecimal : is_hexadecimal source at (at + 1) ≡ false = (λ i. zero i && (no_x i || no_X i) && nat_le (at + 2) (at + 1)) in
       let base : base_of source at (at + 1) ≡ 8 = λ i. if hexadecimal i then 16 else (if zero i then 8 else 10) in
       let digits : Have IsDigit (codes "0") = ((omega arith, omega arith), tt) in
@@ -201,35 +201,35 @@ module _ (fresh : Bool) (source : List ℕ) (at : ℕ) (inside : at ≤ length s
   bit_stands (Gap bytes) there c is test low =
       let p = and_parts (nat_lt 0 (length bytes)) _ test in
       let q = and_parts (are_blanks bytes) (not (nat_eq c 0)) p.1 in
-      record { stands = blanks_stand fresh source at inside bytes rest there (ltb-true 0 (length bytes) p.0) q.0 (λ h. eqb-false c 0 (not-true (nat_eq c 0) q.1) (sym is ∙ blank_class _ h)); said = tt }
+      record { cuts = blanks_stand fresh source at inside bytes rest there (ltb-true 0 (length bytes) p.0) q.0 (λ h. eqb-false c 0 (not-true (nat_eq c 0) q.1) (sym is ∙ blank_class _ h)); said = tt }
   bit_stands (Key kind) there c is test low =
       let p = and_parts (is_key kind) _ test in
       let q = and_parts (is_word_text (text kind)) (ends_word c) p.1 in
-      record { stands = word_text (text kind) there q.0 (ends _ (ap ends_word is ∙ q.1)) (kinds.Token kind) (key_kind kind p.0); said = key_says kind p.0 source at _ }
+      record { cuts = word_text (text kind) there q.0 (ends _ (ap ends_word is ∙ q.1)) (kinds.Token kind) (key_kind kind p.0); said = key_says kind p.0 source at _ }
   bit_stands (Sign kind) there c is test low =
       let p = and_parts (is_sign kind) _ test in
       let q = and_parts (is_sign_text (text kind)) _ p.1 in
-      record { stands = sign_text (text kind) there q.0 (size_is (first_size (text kind ++ rest) punctuators) (length (text kind)) q.1) (kinds.Token kind) (kind_signs kind p.0); said = sign_says kind p.0 source at _ }
+      record { cuts = sign_text (text kind) there q.0 (size_is (first_size (text kind ++ rest) punctuators) (length (text kind)) q.1) (kinds.Token kind) (kind_signs kind p.0); said = sign_says kind p.0 source at _ }
   bit_stands (Word bytes) there c is test low =
       let p = and_parts (is_word_text bytes) _ test in
       let q = and_parts (is_name_kind (word_kind bytes)) (ends_word c) p.1 in
-      record { stands = word_text bytes there p.0 (ends _ (ap ends_word is ∙ q.1)) (kinds.Token tokens.Name) (name_kind (word_kind bytes) q.0); said = ap Name (range_is source at inside bytes rest there) }
+      record { cuts = word_text bytes there p.0 (ends _ (ap ends_word is ∙ q.1)) (kinds.Token tokens.Name) (name_kind (word_kind bytes) q.0); said = ap Name (range_is source at inside bytes rest there) }
   bit_stands (Numeral bytes value) there c is test low =
       let p = and_parts (is_numeral_text bytes value) _ test in
       let q = and_parts (ends_word c) (ends_number (slice_index rest 0)) p.1 in
       let n = numeral_text bytes value there p.0 (stops _ (ap ends_word is ∙ q.0) q.1) in
-      record { stands = n.counts; said = n.is }
+      record { cuts = n.counts; said = n.is }
   bit_stands Nought there c is test low =
       let q = and_parts (ends_word c) (ends_number (slice_index rest 0)) test in
       let n = nought there (stops _ (ap ends_word is ∙ q.0) q.1) in
-      record { stands = n.counts; said = n.is }
+      record { cuts = n.counts; said = n.is }
   bit_stands (Own i) there c is test low =
       let d = decimal_is i low.0 low.1 in
-      record { stands = word_text (name i) there (own_word i d) (ends _ (ap ends_word is ∙ test)) (kinds.Token tokens.Name) (own_kind i d); said = ap Name (range_is source at inside (name i) rest there) }
+      record { cuts = word_text (name i) there (own_word i d) (ends _ (ap ends_word is ∙ test)) (kinds.Token tokens.Name) (own_kind i d); said = ap Name (range_is source at inside (name i) rest there) }
   bit_stands (Index i) there c is test low =
       let q = and_parts (ends_word c) (ends_number (slice_index rest 0)) test in
       let d = decimal_is i low.0 low.1 in
       let n = index i d low.1 _ d.is there (stops _ (ap ends_word is ∙ q.0) q.1) in
-      record { stands = n.counts; said = n.is }
+      record { cuts = n.counts; said = n.is }
   bit_stands Bound there c is test low =
-      record { stands = pragma_stands fresh source at inside rest there; said = ap (λ bytes. Pragma tokens.LoopBound bytes) (pragma_says fresh source at inside rest there) }
+      record { cuts = pragma_stands fresh source at inside rest there; said = ap (λ bytes. Pragma tokens.LoopBound bytes) (pragma_says fresh source at inside rest there) }

@@ -33,14 +33,11 @@ have_line (b ∷ bytes) h = let p = or_parts (nat_eq b 10) (has_feed bytes) h in
 
 feed_there : (bytes source : List ℕ) (at : ℕ) → has_feed bytes ≡ true → Stands source at bytes → Each IsOnLine source at (at + length bytes) → ⊥
 feed_there [] source at h stands each = true≢false (sym h)
-feed_there (b ∷ bytes) source at h stands each = here (nat_eq b 10) refl h
+feed_there (b ∷ bytes) source at h stands each = here (λ k. feed_there bytes source (at + 1) k stands.1 (λ i after before. each i (omega (arith, after)) (omega (arith, before)))) (nat_eq b 10) refl h
   where
-    later : has_feed bytes ≡ true → ⊥
-    later k = feed_there bytes source (at + 1) k stands.1 (λ i after before. each i (omega (arith, after)) (omega (arith, before)))
-
-    here : (t : Bool) → nat_eq b 10 ≡ t → (t || has_feed bytes) ≡ true → ⊥
-    here true e k = each at (omega arith) (omega arith) (stands.0 ∙ eqb-true b 10 e)
-    here false e k = later k
+    here : (has_feed bytes ≡ true → ⊥) → (t : Bool) → nat_eq b 10 ≡ t → (t || has_feed bytes) ≡ true → ⊥
+    here later true e k = each at (omega arith) (omega arith) (stands.0 ∙ eqb-true b 10 e)
+    here later false e k = later k
 
 -- a line begins behind blanks with a line feed
 abbrev pub fresh_behind : (bytes : List ℕ) → Bool → Bool

@@ -1,10 +1,12 @@
 -- A text of digits is a number where nothing follows it that goes on with one, and what it says.
 use Rattle.std.proofs.Common.{◌≡◌, ◌≢◌, ◌⊎◌, inl, inr, ℕ, zero, suc, ◌+◌, ◌*◌, ◌-◌, ◌<◌, ◌≤◌, Bool, true, false, ◌&&◌, ◌||◌, nat_eq, nat_le, if◌then◌else◌, List, [], ◌∷◌, ◌++◌, length, drop, refl, sym, ap, subst, ◌∙◌, arith}
 use Rattle.std.specs.Prelude.{slice_index}
+use Rattle.std.proofs.lemmas.Bool.{lt-leb}
 use Rattle.std.proofs.lemmas.Bool.Decides.{nat_tests}
 use Rattle.c_tree.specs.Bytes.{IsDigit, IsNameByte, Each, Stands}
 use Rattle.c_tree.specs.Constants.{IsInteger, base_of, digit, digits_end, digits_start, has_l, has_u, integer, integer_value, is_hexadecimal, is_l, is_u, most, number, one_if, type_of}
 use Rattle.c_tree.specs.declared.token.Constant.{Constant}
+use Rattle.c_tree.specs.declared.token.ConstantType.{ConstantType}
 use Rattle.c_tree.specs.declared.token.ConstantType.TheVariants as types
 use Rattle.c_tree.specs.declared.token.TokenKind.TheVariants as tokens
 use Rattle.c_lexer.specs.declared.pieces.Form.TheVariants as forms
@@ -22,7 +24,7 @@ spelled base n [] = n
 spelled base n (b ∷ bytes) = spelled base (n * base + digit b) bytes
 
 number_from : (base : ℕ) (bytes source : List ℕ) (at count : ℕ) → Stands source (at + count) bytes → number base source at (count + length bytes) ≡ spelled base (number base source at count) bytes
-number_from base [] source at count stands = ap (number base source at) (omega arith)
+number_from base [] source at count stands = let none : count + 0 ≡ count = omega arith in ap (number base source at) none
 number_from base (b ∷ bytes) source at count stands =
     let next : at + count + 1 ≡ at + suc count = omega arith in
     let more : count + length (b ∷ bytes) ≡ suc count + length bytes = omega arith in
@@ -39,8 +41,14 @@ no_l b h = grind (arith, nat_tests)
 no_suffix : (x y z w : Bool) → x ≡ false → y ≡ false → (x || (y && z)) ≡ false
 no_suffix x y z w e f = rw (e, f) refl
 
+abbrev constant : ℕ → ConstantType → Constant
+constant value scalar = record { value = value; scalar = scalar }
+
+abbrev pub int_constant : ℕ → Constant
+int_constant value = constant value types.Int
+
 pub record Stops (b : ℕ) : Type 0 where
-  pub no_name : IsNameByte b → ⊥
+  pub apart : IsNameByte b → ⊥
   pub no_point : b ≢ 46
   pub no_sign : IsSign b → ⊥
 
@@ -67,13 +75,13 @@ module _ (fresh : Bool) (source : List ℕ) (at : ℕ) (inside : at ≤ length s
   l_is = no_suffix (is_l (slice_index source (end - 1))) (is_u (slice_index source (end - 1))) (is_l (slice_index source (end - 2))) true (no_l _ last) (no_u _ last)
 
   end_is : digits_end source end ≡ end
-  end_is = (λ i. end - (one_if (u_is i) + one_if (l_is i))) ∙ omega arith
+  end_is = let none : end - 0 ≡ end = omega arith in (λ i. end - (one_if (u_is i) + one_if (l_is i))) ∙ none
 
   is_number : IsNumber source at end
   is_number = record { first = inl first; goes_on = λ i after before. inl (inr (each i (omega (arith, after)) before)) }
 
   next : GoesOn source end → ⊥
-  next (inl h) = stop.no_name (subst IsNameByte (next_is source at (b ∷ bytes) rest there) h)
+  next (inl h) = stop.apart (subst IsNameByte (next_is source at (b ∷ bytes) rest there) h)
   next (inr (inl h)) = stop.no_point (sym (next_is source at (b ∷ bytes) rest there) ∙ h)
   next (inr (inr h)) = stop.no_sign (subst IsSign (next_is source at (b ∷ bytes) rest there) h.0)
 
@@ -83,9 +91,11 @@ module _ (fresh : Bool) (source : List ℕ) (at : ℕ) (inside : at ≤ length s
 
     number_is : integer_value source at end ≡ value
     number_is =
+        let long : end - at ≡ 0 + length (b ∷ bytes) = omega arith in
+        let here : at ≡ at + 0 = omega arith in
         (λ i. number (base_is i) source (start_is i) (end_is i - start_is i))
-        ∙ ap (number base source at) (omega arith)
-        ∙ number_from base (b ∷ bytes) source at 0 (subst (λ n. Stands source n (b ∷ bytes)) (omega arith) own)
+        ∙ ap (number base source at) long
+        ∙ number_from base (b ∷ bytes) source at 0 (subst (λ n. Stands source n (b ∷ bytes)) here own)
         ∙ value_is
 
     is_integer : IsInteger source at end
@@ -98,10 +108,10 @@ module _ (fresh : Bool) (source : List ℕ) (at : ℕ) (inside : at ≤ length s
     }
 
     int_type : nat_le 2147483648 value ≡ false
-    int_type = grind (arith, nat_tests)
+    int_type = lt-leb 2147483648 value (omega (arith, low))
 
-    pub says : integer source at end ≡ record { value = value; scalar = types.Int }
-    says = (λ i. record { value = number_is i; scalar = type_of (u_is i) (l_is i) (number_is i) }) ∙ ap (λ t. record { value = value; scalar = if false || t then types.Unsigned else (if false then types.Long else types.Int) }) int_type
+    pub says : integer source at end ≡ int_constant value
+    says = (λ i. constant (number_is i) (type_of (u_is i) (l_is i) (number_is i))) ∙ ap (λ t. constant value (if t then types.Unsigned else types.Int)) int_type
 
     pub numeral_stands : StandsAt (record { form = forms.Number; kind = kinds.Token tokens.Number; end = end; fresh = false }) fresh source at
     numeral_stands = record {

@@ -4,7 +4,7 @@ use Rattle.std.specs.Prelude.{slice_index, slice_index_or}
 use Rattle.std.specs.List.{IsAmong}
 use Rattle.std.proofs.lemmas.Bool.{eq-eqb, or_parts, true≢false}
 use Rattle.c_tree.specs.Bytes.{Stands}
-use Rattle.c_tree.specs.Pragmas.{Blanks, IsOperator, before_quote, behind_blanks, from_close, from_open, from_quote, from_string, from_string_end, pragma_text, string_text}
+use Rattle.c_tree.specs.Pragmas.{Blanks, IsOperator, before_quote, behind_blanks, behind_hash, from_close, from_open, from_quote, from_string, from_string_end, pragma_text, string_text, without_return}
 use Rattle.c_tree.specs.declared.token.TokenKind.TheVariants as tokens
 use Rattle.c_lexer.specs.declared.pieces.Form.TheVariants as forms
 use Rattle.c_lexer.specs.declared.pieces.Kind.TheVariants as kinds
@@ -25,14 +25,14 @@ behind_word = codes "(\"loopbound min 10 max 10\")"
 abbrev pub pragma : List ℕ
 pragma = codes "_Pragma(\"loopbound min 10 max 10\")"
 
-none_among : (bytes : List ℕ) → has_feed bytes ≡ false → IsAmong bytes 10 → ⊥
-none_among [] h among = absurd (omega (arith, among.1.0))
-none_among (b ∷ bytes) h (zero, among) = true≢false (sym (eq-eqb b 10 (sym among.1)) ∙ (or_parts (nat_eq b 10) (has_feed bytes) h).0)
-none_among (b ∷ bytes) h (suc i, among) = none_among bytes (or_parts (nat_eq b 10) (has_feed bytes) h).1 (i, (omega (arith, among.0), among.1))
+none_at : (bytes : List ℕ) → has_feed bytes ≡ false → (i : ℕ) → i < length bytes → 10 ≡ slice_index_or bytes i 10 → ⊥
+none_at [] h i lt e = omega (arith, lt)
+none_at (b ∷ bytes) h zero lt e = true≢false (sym (eq-eqb b 10 (sym e)) ∙ (or_parts (nat_eq b 10) (has_feed bytes) h).0)
+none_at (b ∷ bytes) h (suc i) lt e = none_at bytes (or_parts (nat_eq b 10) (has_feed bytes) h).1 i (omega (arith, lt)) e
 
 module _ (fresh : Bool) (source : List ℕ) (at : ℕ) (inside : at ≤ length source) (rest : List ℕ) (there : drop at source ≡ pragma ++ rest) where
   abbrev end : ℕ
-  end = at + 33
+  end = at + 34
 
   own : Stands source at pragma
   own = stands source at inside pragma rest there
@@ -56,14 +56,14 @@ module _ (fresh : Bool) (source : List ℕ) (at : ℕ) (inside : at ≤ length s
   text_is = ap (λ xs. before_quote false (drop 1 xs)) string_is
 
   long : length source ≡ end + length rest
-  long = let e : length (drop at source) ≡ 33 + length rest = ap length there in omega (arith, e, length-drop at source, within)
+  long = let e = ap length there in omega (arith, e, length-drop at source, within)
 
   is_operator : IsOperator source at end
   is_operator = record {
-    word = (own.0, own.1.0, own.1.1.0, own.1.1.1.0, own.1.1.1.1.0, own.1.1.1.1.1.0, own.1.1.1.1.1.1.0, tt);
+    word = stands source at inside (codes "_Pragma") (behind_word ++ rest) there;
     opens = subst (λ xs. Stands (behind_blanks Blanks xs) 0 (codes "(")) (sym open_is) (refl, tt);
     string = subst (λ xs. Stands xs 0 (codes "\"")) (sym string_is) (refl, tt);
-    line = λ among. none_among tens refl (subst (λ xs. IsAmong xs 10) text_is among);
+    line = λ among. let among_tens = subst (λ xs. IsAmong xs 10) text_is among in none_at tens refl among_tens.0 among_tens.1.0 among_tens.1.1;
     string_ends = subst (λ xs. Stands xs 0 (codes "\"")) (sym string_end_is) (refl, tt);
     closes = subst (λ xs. Stands xs 0 (codes ")")) (sym close_is) (refl, tt);
     ends = let e : length (from_close source at) ≡ suc (length rest) = ap length close_is in omega (arith, e, long);
@@ -77,4 +77,4 @@ module _ (fresh : Bool) (source : List ℕ) (at : ℕ) (inside : at ≤ length s
   }
 
   pub pragma_says : pragma_text source at end ≡ tens
-  pragma_says = ap (λ b. if nat_eq b 35 then _ else string_text source at) own.0 ∙ text_is
+  pragma_says = ap (λ b. if nat_eq b 35 then without_return (drop 6 (behind_hash source at end)) else string_text source at) own.0 ∙ text_is

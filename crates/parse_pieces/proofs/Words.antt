@@ -19,16 +19,16 @@ abbrev pub ends_word : (class : ℕ) → Bool
 ends_word c = nat_eq c 0 || nat_eq c 5
 
 pub record Ends (b : ℕ) : Type 0 where
-  pub no_name : IsNameByte b → ⊥
-  pub no_quote : (b ≡ 39) ⊎ (b ≡ 34) → ⊥
+  pub apart : IsNameByte b → ⊥
+  pub unquoted : (b ≡ 39) ⊎ (b ≡ 34) → ⊥
 
 pub ends : (b : ℕ) → ends_word (class b) ≡ true → Ends b
 ends b h = elim (or_cases (nat_eq (class b) 0) (nat_eq (class b) 5) h) [ inl k ↦ of 0 (eqb-true (class b) 0 k) refl refl refl refl | inr k ↦ of 5 (eqb-true (class b) 5 k) refl refl refl refl ]
   where
     of : (n : ℕ) → class b ≡ n → nat_eq n 1 ≡ false → nat_eq n 2 ≡ false → nat_eq n 3 ≡ false → nat_eq n 4 ≡ false → Ends b
     of n e one two three four = record {
-      no_name = λ k. no_name b n e one two k;
-      no_quote = λ k. elim k [ inl q ↦ eqb-false n 3 three (sym e ∙ ap class q) | inr q ↦ eqb-false n 4 four (sym e ∙ ap class q) ];
+      apart = λ k. no_name b n e one two k;
+      unquoted = λ k. elim k [ inl q ↦ eqb-false n 3 three (sym e ∙ ap class q) | inr q ↦ eqb-false n 4 four (sym e ∙ ap class q) ];
     }
 
 pub letter : (b : ℕ) → is_letter b ≡ true → IsLetter b
@@ -42,7 +42,7 @@ module _ (fresh : Bool) (source : List ℕ) (at : ℕ) (inside : at ≤ length s
   is_word first other names stop = record {
     first = subst IsLetter (sym (stands source at inside (b ∷ bytes) rest there).0) first;
     word = names_stand (b ∷ bytes) source at names (stands source at inside (b ∷ bytes) rest there);
-    whole = λ _ h. stop.no_name (subst IsNameByte (next_is source at (b ∷ bytes) rest there) h);
+    whole = λ _ h. stop.apart (subst IsNameByte (next_is source at (b ∷ bytes) rest there) h);
     other = λ spans. eqb-false b 95 other (sym (stands source at inside (b ∷ bytes) rest there).0 ∙ spans.0.0);
   }
 
@@ -50,7 +50,7 @@ module _ (fresh : Bool) (source : List ℕ) (at : ℕ) (inside : at ≤ length s
       → StandsAt (record { form = forms.Word; kind = kind; end = end; fresh = false }) fresh source at
   word_stands first other names stop kind is = record {
     longest = longest_word fresh source at end (omega arith) (ends_inside source at inside (b ∷ bytes) rest there) (is_word first other names stop)
-        (λ _ quote. stop.no_quote (subst (λ n. (n ≡ 39) ⊎ (n ≡ 34)) (next_is source at (b ∷ bytes) rest there) quote));
+        (λ _ quote. stop.unquoted (subst (λ n. (n ≡ 39) ⊎ (n ≡ 34)) (next_is source at (b ∷ bytes) rest there) quote));
     kind = sym (ap word_kind (range_is source at inside (b ∷ bytes) rest there) ∙ is);
     line = refl;
   }
