@@ -1,24 +1,22 @@
 -- A numbered source has facts.
-use Rattle.std.proofs.Common.{◌≡◌, ℕ, zero, suc, ◌+◌, ◌*◌, ◌^◌, ◌<◌, ◌≤◌, Bool, true, false, nat_eq, List, [], ◌∷◌, ◌++◌, length, map, codes, Option, Some, None, Result, Ok, Err, append_assoc, refl, sym, ap, subst, ◌∙◌, arith}
+use Rattle.std.proofs.Common.{◌≡◌, ℕ, zero, suc, ◌+◌, ◌*◌, ◌^◌, ◌≤◌, true, List, [], ◌∷◌, ◌++◌, map, codes, None, Ok, append_assoc, refl, sym, ap, subst, ◌∙◌, arith}
 use Rattle.std.specs.Prelude.{nat_lt}
-use Rattle.std.proofs.Math.ListN.{get_or}
 use Rattle.std.proofs.lemmas.Bool.{lt-ltb}
 use Rattle.std.proofs.lemmas.List.{map-append}
-use Rattle.types_tree.specs.Tree.{Function, function_name}
+use Rattle.types_tree.specs.Tree.{function_name}
 use Rattle.types_calls.specs.declared.ranks.Ranks.{Ranks}
 use Rattle.types_calls.specs.Calls.{graph_of}
 use Rattle.types_calls.specs.Chains.{AreRanks}
-use Rattle.facts_definitions.specs.FlowFacts.{bounds_in, bounds_of, facts_of, first_fault, flow_facts, id_in, index_of, known_of, main_of, most_main, unless_faulty, unless_too_often}
+use Rattle.facts_definitions.specs.FlowFacts.{bounds_in, bounds_of, facts_of, first_fault, flow_facts, id_in, index_of, known_of, main_of, most_main}
 use Rattle.facts_definitions.specs.Most.{most_of, most_within}
 use Rattle.facts_definitions.specs.Sites.{sites_of}
-use Rattle.facts_definitions.specs.declared.facts.FlowFault.{FlowFault}
 use Rattle.command_numbered_tree.proofs.Names.{name, names, own_names}
 use Rattle.command_numbered_tree.proofs.Trees.{Places}
 use Rattle.command_numbered_types.proofs.Numbers.{below, number, number_low, same}
 use Rattle.command_numbered_types.proofs.Programs.{main_function, typed_functions}
 use Rattle.command_numbered_types.proofs.Typed.{program}
 use Rattle.command_numbered_facts.proofs.Ranks as own
-use Rattle.command_numbered_facts.proofs.Sites.{all_fine, all_sites, all_tens, tens}
+use Rattle.command_numbered_facts.proofs.Sites.{all_fine, all_tens, tens}
 use Rattle.command_numbered_facts.proofs.Whole.{most_low, sites_are}
 
 -- the number of `main` behind the functions' names

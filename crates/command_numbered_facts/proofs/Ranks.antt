@@ -1,11 +1,11 @@
 -- The calls of a numbered source, and their ranks: `main` calls each function, and no function calls another.
-use Rattle.std.proofs.Common.{◌≡◌, ◌⊎◌, inl, inr, ℕ, zero, suc, ◌+◌, ◌*◌, ◌<◌, ◌≤◌, Bool, true, false, cond, List, [], ◌∷◌, ◌++◌, length, map, append_assoc, length-append, refl, sym, ap, subst, ◌∙◌, arith}
-use Rattle.std.specs.Prelude.{nat_lt, filter}
+use Rattle.std.proofs.Common.{◌≡◌, ◌⊎◌, inl, inr, ℕ, zero, suc, ◌+◌, ◌*◌, ◌<◌, ◌≤◌, cond, List, [], ◌∷◌, ◌++◌, length, map, append_assoc, length-append, refl, sym, ap, subst, ◌∙◌, arith}
+use Rattle.std.specs.Prelude.{nat_lt}
 use Rattle.std.proofs.Math.ListN.{get_or}
 use Rattle.std.proofs.lemmas.Bool.{lt-ltb}
 use Rattle.std.proofs.lemmas.List.{append-nil, get_or_append_left, get_or_past, get_or_push, map-append}
 use Rattle.std.proofs.lemmas.List.Elements.{filter-append}
-use Rattle.types_tree.specs.Tree.{Function, Items, NoItem, WithStatement}
+use Rattle.types_tree.specs.Tree.{Items, NoItem, WithStatement}
 use Rattle.types_calls.specs.Calls.{Graph, calls_below, function_calls, graph_of, items_calls}
 use Rattle.types_calls.specs.Chains.{Among, AreRanks, IsChain, IsRank, callees}
 use Rattle.command_numbered_tree.proofs.Trees.{Places}

@@ -1,20 +1,16 @@
 -- The flow facts of a numbered source.
-use Rattle.std.proofs.Common.{◌≡◌, ◌⊎◌, inl, inr, ℕ, zero, suc, ◌+◌, ◌*◌, ◌^◌, ◌<◌, ◌≤◌, Bool, true, false, List, [], ◌∷◌, ◌++◌, length, map, Option, Some, None, append_assoc, length-append, refl, sym, ap, ◌∙◌, arith}
-use Rattle.std.specs.Prelude.{slice_get}
-use Rattle.std.proofs.Math.ListN.{get_or}
+use Rattle.std.proofs.Common.{◌≡◌, ℕ, zero, suc, ◌+◌, ◌*◌, List, [], ◌∷◌, ◌++◌, Option, Some, None, append_assoc, refl, ap, ◌∙◌, arith}
 use Rattle.types_tree.specs.declared.variable.Variable.{Variable}
-use Rattle.types_tree.specs.Tree.{External, Function, Items, Program}
-use Rattle.facts_definitions.specs.FlowFacts.{Known, bounds_of, first_fault, or_else, restrictions_of, site_fault, marker_ids}
-use Rattle.facts_definitions.specs.Most.{expr_most, function_most, items_most}
-use Rattle.facts_definitions.specs.Sites.{external_sites, externals_sites, function_sites, items_sites, sites_of}
+use Rattle.types_tree.specs.Tree.{Items}
+use Rattle.facts_definitions.specs.FlowFacts.{Known, bounds_of, first_fault, or_else, restrictions_of, site_fault}
+use Rattle.facts_definitions.specs.Sites.{function_sites, items_sites}
 use Rattle.facts_definitions.specs.declared.facts.Bounds.{Bounds}
 use Rattle.facts_definitions.specs.declared.facts.FlowFault.{FlowFault}
 use Rattle.facts_definitions.specs.declared.site.Site.{Site}
 use Rattle.facts_definitions.specs.declared.site.Site.TheVariants as sites
 use Rattle.command_numbered_tree.proofs.Trees.{Places, bound_at}
 use Rattle.command_numbered_types.proofs.Numbers.{number}
-use Rattle.command_numbered_types.proofs.Programs.{call, calls, function, main_function, typed_functions}
-use Rattle.command_numbered_types.proofs.Typed.{defining, program}
+use Rattle.command_numbered_types.proofs.Programs.{calls, function, main_function}
 
 -- the sites of the first functions: each itself, and its loop
 abbrev pub sites_at : (q : ℕ → ℕ → ℕ) → (m : ℕ) → List Site

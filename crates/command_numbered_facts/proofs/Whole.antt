@@ -1,19 +1,15 @@
 -- The functions of a numbered source by their numbers, its sites, and how many nodes a run executes at most.
-use Rattle.std.proofs.Common.{◌≡◌, ◌⊎◌, inl, inr, ℕ, zero, suc, ◌+◌, ◌-◌, ◌*◌, ◌^◌, ◌<◌, ◌≤◌, Bool, true, false, List, [], ◌∷◌, ◌++◌, length, Option, Some, None, append_assoc, length-append, refl, sym, ap, subst, ◌∙◌, arith}
+use Rattle.std.proofs.Common.{◌≡◌, inl, inr, ℕ, zero, suc, ◌+◌, ◌*◌, ◌^◌, ◌<◌, ◌≤◌, List, [], ◌∷◌, ◌++◌, length, Some, append_assoc, refl, sym, ap, subst, ◌∙◌, arith}
 use Rattle.std.specs.Prelude.{slice_get, slice_index_or}
-use Rattle.types_tree.specs.declared.variable.Variable.{Variable}
-use Rattle.types_tree.specs.Tree.{External, Defining, Function, Items, NoItem, Program, WithStatement}
+use Rattle.types_tree.specs.Tree.{External, Defining, Function, Items, NoItem, WithStatement}
 use Rattle.facts_definitions.specs.Most.{bounds_at, function_most, items_most, most_within}
 use Rattle.facts_definitions.specs.Sites.{externals_sites, external_sites, function_sites, sites_of}
-use Rattle.facts_definitions.specs.declared.facts.Bounds.{Bounds}
-use Rattle.facts_definitions.specs.declared.site.Site.{Site}
-use Rattle.facts_definitions.specs.declared.site.Site.TheVariants as sites
-use Rattle.command_numbered_tree.proofs.Trees.{Places, bound_at}
+use Rattle.command_numbered_tree.proofs.Trees.{Places}
 use Rattle.command_numbered_types.proofs.Numbers.{number}
 use Rattle.command_numbered_types.proofs.Programs.{call, calls, function, give, main_function, put, typed_functions}
 use Rattle.command_numbered_types.proofs.Typed.{defining, program}
 use Rattle.command_numbered_facts.proofs.Ranks.{functions_long, split}
-use Rattle.command_numbered_facts.proofs.Sites.{all_sites, main_sites, one_site, sites_at, tens}
+use Rattle.command_numbered_facts.proofs.Sites.{all_sites, main_sites, sites_at, tens}
 
 get_front : {X : Type 0} (xs ys : List X) (i : ℕ) → i < length xs → slice_get (xs ++ ys) i ≡ slice_get xs i
 get_front [] ys i lt = absurd (omega (arith, lt))

@@ -1,5 +1,5 @@
 -- The text of each number from 1 to 100 is a source, without restrictions, and its run on the empty input is done.
-use Rattle.std.proofs.Common.{◌≡◌, ℕ, suc, ◌+◌, ◌^◌, ◌<◌, ◌≤◌, false, List, [], length, None, ℤ, refl, sym, ap, subst, ◌∙◌, arith}
+use Rattle.std.proofs.Common.{◌≡◌, ℕ, suc, ◌+◌, ◌≤◌, false, List, [], length, ℤ, refl, sym, ap, subst, ◌∙◌, arith}
 use Rattle.c_tree.specs.Names.{name_of, names_of_unit}
 use Rattle.c_tree.specs.Named.{named_unit}
 use Rattle.c_tree.specs.Size.{size_unit}

@@ -1,8 +1,8 @@
 -- Objects of one element: what a read gives and a write leaves.
-use Rattle.std.proofs.Common.{◌≡◌, ◌≢◌, ◌⊎◌, inl, inr, ℕ, zero, suc, ◌+◌, ◌*◌, ◌<◌, ◌≤◌, List, [], ◌∷◌, Option, Some, None, refl, sym, ap, subst, ◌∙◌, arith}
+use Rattle.std.proofs.Common.{◌≡◌, ◌≢◌, ◌⊎◌, inl, inr, ℕ, zero, suc, List, [], ◌∷◌, Option, Some, None, refl, sym, ap, subst, ◌∙◌, arith}
 use Rattle.std.specs.Prelude.{slice_get, slice_set}
 use Rattle.std.proofs.lemmas.Option.{none-some}
-use Rattle.meaning_semantics.specs.State.{State, Outcome, Fine, element, held, read, stored, unwritten, unwritten_in, with_objects, write}
+use Rattle.meaning_semantics.specs.State.{State, Fine, element, held, read, stored, unwritten, unwritten_in, with_objects, write}
 use Rattle.meaning_semantics.specs.declared.outcome.Found.{Found}
 
 abbrev pub found_at : (object at : ℕ) → Found

@@ -1,19 +1,18 @@
 -- A function of a numbered source gives a word below 1000 for one below 1000, and writes its own objects alone.
-use Rattle.std.proofs.Common.{◌≡◌, ◌≢◌, ℕ, zero, suc, ◌+◌, ◌*◌, ◌%◌, ◌<◌, ◌≤◌, Bool, true, false, List, [], ◌∷◌, Option, Some, None, refl, sym, ap, subst, ◌∙◌, arith}
+use Rattle.std.proofs.Common.{◌≡◌, ◌≢◌, ℕ, ◌+◌, ◌<◌, ◌≤◌, true, false, [], ◌∷◌, Option, Some, None, refl, sym, ap, ◌∙◌}
 use Rattle.std.specs.Prelude.{slice_get}
-use Rattle.c_tree.specs.declared.expression.Specifier.TheVariants as words
-use Rattle.types_tree.specs.Tree.{Scalar, Expr, Number, Read, Assign, Single, Absent, Value, Declared, Objects, Items, NoItem, WithDeclaration, WithStatement, Statement, Return as GiveBack}
+use Rattle.types_tree.specs.Tree.{Scalar, Number, Read, Items, NoItem, WithStatement, Return as GiveBack}
 use Rattle.facts_definitions.specs.Most.{bounds_at}
 use Rattle.facts_definitions.specs.declared.facts.Bounds.{Bounds}
 use Rattle.meaning_semantics.specs.Runs.{enter, given_back}
 use Rattle.meaning_semantics.specs.State.{State, Outcome, Fine, bound, counted, then_do, unwritten, write}
-use Rattle.meaning_semantics.specs.Statements.{Loop, Source, all_declared, declared, entered, if_onward, looped, run, run_items, started, turns}
-use Rattle.meaning_semantics.specs.Values.{Calls, value}
+use Rattle.meaning_semantics.specs.Statements.{Source, all_declared, entered, if_onward, looped, run_items, turns}
+use Rattle.meaning_semantics.specs.Values.{Calls}
 use Rattle.meaning_semantics.specs.declared.outcome.Flow.{Flow}
 use Rattle.meaning_semantics.specs.declared.outcome.Flow.TheVariants.{Onward, Return}
 use Rattle.command_numbered_tree.proofs.Trees.{int}
 use Rattle.command_numbered_types.proofs.Programs as typed
-use Rattle.command_numbered_runs.proofs.Cells.{Cell, IsOne, cell_kept, forgets, found_at, one_kept, put, put_one, put_other, put_there, reads, writes}
+use Rattle.command_numbered_runs.proofs.Cells.{Cell, IsOne, cell_kept, forgets, one_kept, put, put_one, put_other, put_there, writes}
 use Rattle.command_numbered_runs.proofs.Loops.{loop, turned}
 use Rattle.command_numbered_runs.proofs.Values.{assign_value, read_value}
 

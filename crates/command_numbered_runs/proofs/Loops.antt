@@ -1,7 +1,7 @@
 -- The loop of a function runs ten times.
-use Rattle.std.proofs.Common.{◌≡◌, ◌≢◌, ℕ, zero, suc, ◌+◌, ◌*◌, ◌-◌, ◌%◌, ◌<◌, ◌≤◌, Bool, true, false, List, Option, Some, None, Ok, refl, sym, ap, subst, ◌∙◌, arith}
+use Rattle.std.proofs.Common.{◌≡◌, ◌≢◌, ℕ, zero, suc, ◌+◌, ◌*◌, ◌-◌, ◌%◌, ◌<◌, ◌≤◌, true, false, Some, refl, sym, ap, ◌∙◌, arith}
 use Rattle.std.specs.Prelude.{nat_lt, slice_get}
-use Rattle.std.proofs.lemmas.Bool.{lt-ltb, ltb-false, le-ltb}
+use Rattle.std.proofs.lemmas.Bool.{lt-ltb, le-ltb}
 use Rattle.wcc_base.specs.Words.{truth_word}
 use Rattle.types_tree.specs.Tree.{Scalar, Expr, Number, Read, Operate, Assign, Step, Statement, Evaluate}
 use Rattle.types_tree.specs.declared.expression.Fix.TheVariants.{Postfix}
@@ -9,8 +9,8 @@ use Rattle.c_tree.specs.declared.expression.PostfixOperator.TheVariants.{Increme
 use Rattle.types_value.specs.declared.kind.Kind.TheVariants.{Int}
 use Rattle.types_value.specs.declared.operator.Operator.TheVariants.{Less}
 use Rattle.meaning_semantics.specs.State.{State, Outcome, Fine, Stopped, choose, then_do}
-use Rattle.meaning_semantics.specs.Statements.{Loop, Source, again, behind, dropped, evaluated, left_with, run, stepped, tested, turns}
-use Rattle.meaning_semantics.specs.Values.{Calls, value}
+use Rattle.meaning_semantics.specs.Statements.{Loop, Source, again, behind, left_with, run, stepped, tested, turns}
+use Rattle.meaning_semantics.specs.Values.{Calls}
 use Rattle.meaning_semantics.specs.declared.outcome.Flow.{Flow}
 use Rattle.meaning_semantics.specs.declared.outcome.Flow.TheVariants.{Onward}
 use Rattle.meaning_semantics.specs.declared.outcome.Stop.TheVariants.{Broken}

@@ -1,15 +1,11 @@
 -- The calls of `main` leave a word below 1000, and `main` puts one byte and gives a word back.
-use Rattle.std.proofs.Common.{◌≡◌, ◌≢◌, ◌⊎◌, inl, inr, ℕ, zero, suc, ◌+◌, ◌*◌, ◌%◌, ◌<◌, ◌≤◌, Bool, true, false, List, [], ◌∷◌, ◌++◌, length, Option, Some, None, refl, sym, ap, subst, ◌∙◌, arith}
-use Rattle.std.specs.Prelude.{slice_get, slice_index_or}
-use Rattle.c_tree.specs.declared.expression.Specifier.TheVariants as words
-use Rattle.types_tree.specs.Tree.{Scalar, Expr, Number, Read, Paren, Call, Operate, Assign, NoExpr, WithExpr, Items, NoItem, WithStatement, Statement, Function, Program}
+use Rattle.std.proofs.Common.{◌≡◌, ◌≢◌, ◌⊎◌, inl, inr, ℕ, zero, suc, ◌+◌, ◌*◌, ◌%◌, ◌<◌, ◌≤◌, true, false, List, [], ◌∷◌, ◌++◌, length, Option, Some, None, refl, sym, ap, subst, ◌∙◌, arith}
+use Rattle.types_tree.specs.Tree.{Scalar, Number, Read, Call, Operate, NoExpr, WithExpr, Items, NoItem, WithStatement, Statement}
 use Rattle.types_tree.specs.declared.expression.Callee.TheVariants.{Putchar, Function as Own}
 use Rattle.types_value.specs.declared.kind.Kind.TheVariants.{Int}
 use Rattle.types_value.specs.declared.operator.Operator.TheVariants.{Remainder, Add}
-use Rattle.facts_definitions.specs.Most.{bounds_at}
 use Rattle.meaning_semantics.specs.Runs.{calls, enter, given_back}
-use Rattle.meaning_semantics.specs.State.{State, Outcome, Fine, counted, needed, then_do, unwritten, with_output, write}
-use Rattle.meaning_semantics.specs.State as semantics
+use Rattle.meaning_semantics.specs.State.{State, Outcome, Fine, counted, needed, then_do, unwritten, with_output}
 use Rattle.meaning_semantics.specs.Statements.{Source, all_declared, entered, if_onward, run, run_items}
 use Rattle.meaning_semantics.specs.Values.{Calls, called, value, values}
 use Rattle.meaning_semantics.specs.declared.outcome.Flow.{Flow}
@@ -20,7 +16,7 @@ use Rattle.command_numbered_types.proofs.Programs as typed
 use Rattle.command_numbered_types.proofs.Typed.{program}
 use Rattle.command_numbered_facts.proofs.Sites.{tens}
 use Rattle.command_numbered_facts.proofs.Whole.{function_there, main_there, ten_there}
-use Rattle.command_numbered_runs.proofs.Cells.{Cell, IsOne, cell_kept, forgets, one_kept, put, put_one, put_other, put_there, same_or_not, writes}
+use Rattle.command_numbered_runs.proofs.Cells.{Cell, IsOne, forgets, one_kept, put, put_one, put_there, same_or_not, writes}
 use Rattle.command_numbered_runs.proofs.Functions.{Called, called_is}
 use Rattle.command_numbered_runs.proofs.Values.{assign_value, operate_value, read_value}
 use Rattle.command_numbered_runs.proofs.Words.{remainder_is, sum_is}

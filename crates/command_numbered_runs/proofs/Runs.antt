@@ -1,19 +1,16 @@
 -- The run of a numbered source on the empty input is done.
-use Rattle.std.proofs.Common.{◌≡◌, ◌⊎◌, inl, inr, ℕ, zero, suc, ◌+◌, ◌*◌, ◌<◌, ◌≤◌, List, [], ◌∷◌, ◌++◌, length, map, replicate, Option, Some, None, ℤ, append_assoc, length-append, refl, sym, ap, subst, ◌∙◌, arith}
+use Rattle.std.proofs.Common.{◌≡◌, ℕ, zero, suc, ◌+◌, ◌<◌, ◌≤◌, List, [], ◌∷◌, ◌++◌, length, map, Some, None, ℤ, append_assoc, length-append, refl, ap, ◌∙◌, arith}
 use Rattle.std.specs.Prelude.{slice_get, slice_index_or}
 use Rattle.wcc_base.specs.Words.{signed_word}
 use Rattle.c_tree.specs.declared.expression.NameId.{NameId}
-use Rattle.types_tree.specs.Tree.{External, Defining, Program}
+use Rattle.types_tree.specs.Tree.{External, Defining}
 use Rattle.types_tree.specs.declared.variable.Variable.{Variable}
-use Rattle.facts_definitions.specs.FlowFacts.{bounds_in, facts_of, main_of, restrictions_of}
-use Rattle.facts_definitions.specs.Sites.{sites_of}
+use Rattle.facts_definitions.specs.FlowFacts.{facts_of, restrictions_of}
 use Rattle.facts_definitions.specs.declared.facts.Facts.{Facts}
-use Rattle.meaning_semantics.specs.Runs.{calls, elements_of, ended, finished, first_violated, initialised_all, main_called, meaning, or_zero, ran, start}
-use Rattle.meaning_semantics.specs.State.{State, Outcome, Fine, then_do}
+use Rattle.meaning_semantics.specs.Runs.{calls, elements_of, ended, finished, first_violated, initialised_all, main_called, meaning, ran, start}
+use Rattle.meaning_semantics.specs.State.{State, then_do}
 use Rattle.meaning_semantics.specs.Statements.{Source}
 use Rattle.meaning_semantics.specs.Values.{Calls}
-use Rattle.meaning_semantics.specs.declared.outcome.Flow.{Flow}
-use Rattle.meaning_semantics.specs.declared.outcome.Flow.TheVariants.{Onward}
 use Rattle.meaning_semantics.specs.declared.source_run.SourceRun.TheVariants.{Done}
 use Rattle.command_numbered_tree.proofs.Names.{names}
 use Rattle.command_numbered_tree.proofs.Trees.{Places}
@@ -22,9 +19,8 @@ use Rattle.command_numbered_types.proofs.Programs.{variables_long}
 use Rattle.command_numbered_types.proofs.Typed.{defining, program}
 use Rattle.command_numbered_facts.proofs.Flows.{main_is, ranks, tens_are}
 use Rattle.command_numbered_facts.proofs.Ranks.{main_rank}
-use Rattle.command_numbered_facts.proofs.Sites.{all_plain, tens}
+use Rattle.command_numbered_facts.proofs.Sites.{all_plain}
 use Rattle.command_numbered_facts.proofs.Whole.{sites_are}
-use Rattle.command_numbered_runs.proofs.Cells.{IsOne}
 use Rattle.command_numbered_runs.proofs.Mains as mains
 use Rattle.command_numbered_runs.proofs.Mains.{Finished, Ready}
 

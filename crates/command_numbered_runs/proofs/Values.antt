@@ -1,5 +1,5 @@
 -- What the expressions of numbered sources give.
-use Rattle.std.proofs.Common.{◌≡◌, ℕ, ◌+◌, ◌*◌, ◌%◌, ◌^◌, ◌<◌, ◌≤◌, Bool, true, false, List, Option, Some, None, Result, Ok, refl, sym, ap, ◌∙◌, arith}
+use Rattle.std.proofs.Common.{◌≡◌, ℕ, ◌+◌, ◌*◌, ◌%◌, ◌<◌, ◌≤◌, Bool, true, List, Some, Ok, refl, ap, ◌∙◌, arith}
 use Rattle.c_tree.specs.declared.expression.PostfixOperator.TheVariants.{Increment}
 use Rattle.types_tree.specs.Tree.{Scalar, Expr, Number, Read, Paren, Step, Operate, Assign}
 use Rattle.types_tree.specs.declared.expression.Fix.TheVariants.{Postfix}
@@ -7,8 +7,7 @@ use Rattle.types_tree.specs.declared.variable.Variable.{Variable}
 use Rattle.types_value.specs.Operators.{computed}
 use Rattle.types_value.specs.declared.kind.Kind.TheVariants.{Int}
 use Rattle.types_value.specs.declared.operator.Operator.{Operator}
-use Rattle.types_value.specs.declared.operator.Operator.TheVariants.{Multiply, Remainder, Add, Less}
-use Rattle.types_value.specs.declared.operator.Undefined.{Undefined as Cause}
+use Rattle.types_value.specs.declared.operator.Operator.TheVariants.{Multiply, Remainder, Add}
 use Rattle.meaning_semantics.specs.State.{State, Outcome, Fine, settled, step_value, then_do, write}
 use Rattle.meaning_semantics.specs.Values.{Calls, value}
 use Rattle.meaning_semantics.specs.declared.outcome.Change.{Change}

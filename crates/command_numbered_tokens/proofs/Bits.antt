@@ -1,9 +1,8 @@
 -- The pieces of a numbered source by what they say, their bytes, and when each may stand before what follows it.
-use Rattle.std.proofs.Common.{◌≡◌, ◌≢◌, ℕ, ◌+◌, ◌<◌, ◌≤◌, Bool, true, false, ◌&&◌, ◌||◌, not, nat_eq, nat_le, nat_lt, List, [], ◌∷◌, ◌++◌, length, codes, Option, Some, None}
+use Rattle.std.proofs.Common.{ℕ, ◌+◌, ◌<◌, ◌≤◌, Bool, true, false, ◌&&◌, not, nat_eq, nat_le, nat_lt, List, [], ◌∷◌, ◌++◌, length, codes, Option, Some, None}
 use Rattle.std.specs.Prelude.{slice_index}
 use Rattle.std.specs.Fmt.{decimal}
 use Rattle.c_tree.specs.Bytes.{is_letter}
-use Rattle.c_tree.specs.Constants.{digit}
 use Rattle.c_tree.specs.Said.{Lexeme, Plain, Name, Integer, Pragma}
 use Rattle.c_tree.specs.Spelling.{Spoken}
 use Rattle.c_tree.specs.Words.{text}

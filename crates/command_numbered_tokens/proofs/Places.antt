@@ -1,13 +1,13 @@
 -- The places of a numbered source's tokens, and that they are its tree's spelling.
-use Rattle.std.proofs.Common.{◌≡◌, ℕ, zero, suc, ◌+◌, ◌<◌, ◌≤◌, Bool, true, false, List, [], ◌∷◌, ◌++◌, length, codes, Option, Some, None, append_assoc, refl, sym, ap, subst, ◌∙◌, arith}
+use Rattle.std.proofs.Common.{◌≡◌, ℕ, zero, suc, ◌+◌, List, [], ◌∷◌, ◌++◌, length, codes, Some, append_assoc, refl, sym, ap, subst, ◌∙◌}
 use Rattle.std.proofs.lemmas.List.{append-nil}
 use Rattle.c_tree.specs.Said as lexemes
 use Rattle.c_tree.specs.declared.token.TokenKind.TheVariants as kinds
 use Rattle.c_tree.specs.declared.expression.BinaryOperator.TheVariants as binary
 use Rattle.c_tree.specs.Spelling.{Agree, Fits, Free, Kept, Mark, Spoken, free, kept, mark_said, spell_external, spell_externals, spell_items, spell_statement, spell_unit}
-use Rattle.c_tree.specs.Tree.{Items, NoItem, Statement, Evaluate, Call, AndExpr, NoExpr, Binary, Number, Name, Return}
+use Rattle.c_tree.specs.Tree.{Items, Statement, Evaluate, Call, AndExpr, NoExpr, Binary, Number, Name, Return}
 use Rattle.command_numbered_tree.proofs.Names.{name}
-use Rattle.command_numbered_tree.proofs.Trees.{Given, Places, call, calls, end, externals, function, functions, int, main_of, start, unit}
+use Rattle.command_numbered_tree.proofs.Trees.{Places, call, calls, function, functions, int, main_of, start, unit}
 use Rattle.command_numbered_types.proofs.Named.{words}
 use Rattle.command_numbered_tokens.proofs.Bits.{Bit, spoken_of, written}
 use Rattle.command_numbered_tokens.proofs.Cuts.{spoken_append}

@@ -1,19 +1,17 @@
 -- A piece that is fine before what follows it stands where its bytes stand, and says what it says.
-use Rattle.std.proofs.Common.{◌≡◌, ◌≢◌, ◌⊎◌, inl, inr, ℕ, ◌+◌, ◌<◌, ◌≤◌, Bool, true, false, ◌&&◌, ◌||◌, not, nat_eq, nat_le, nat_lt, if◌then◌else◌, List, [], ◌∷◌, ◌++◌, length, drop, codes, Option, Some, None, refl, sym, ap, subst, ◌∙◌, arith}
-use Rattle.std.specs.Prelude.{slice_index, slice_range}
-use Rattle.std.proofs.lemmas.Bool.{and_left, and_parts, eqb-false, eqb-true, leb-true, ltb-true, ne_eqb, not-true, true≢false, eq-eqb}
+use Rattle.std.proofs.Common.{◌≡◌, inl, inr, ℕ, ◌+◌, ◌<◌, ◌≤◌, Bool, true, false, ◌&&◌, ◌||◌, not, nat_eq, nat_le, nat_lt, if◌then◌else◌, List, [], ◌∷◌, ◌++◌, length, drop, codes, Option, Some, None, refl, sym, ap, subst, ◌∙◌, arith}
+use Rattle.std.specs.Prelude.{slice_index}
+use Rattle.std.proofs.lemmas.Bool.{and_parts, eqb-false, eqb-true, leb-true, ltb-true, ne_eqb, not-true, true≢false, eq-eqb}
 use Rattle.std.proofs.lemmas.Bool.Decides.{nat_tests}
-use Rattle.c_tree.specs.Bytes.{IsBlankByte, IsDigit, IsNameByte}
-use Rattle.c_tree.specs.Constants.{base_of, digit, is_hexadecimal, most}
-use Rattle.c_tree.specs.Said.{Lexeme, Plain, Name, Integer, Pragma, lexeme}
+use Rattle.c_tree.specs.Bytes.{IsDigit, IsNameByte}
+use Rattle.c_tree.specs.Constants.{base_of, digit, is_hexadecimal}
+use Rattle.c_tree.specs.Said.{Plain, Name, Integer, Pragma, lexeme}
 use Rattle.c_tree.specs.Words.{text}
-use Rattle.c_tree.specs.declared.token.Constant.{Constant}
 use Rattle.c_tree.specs.declared.token.TokenKind.{TokenKind}
 use Rattle.c_tree.specs.declared.token.TokenKind.TheVariants as tokens
 use Rattle.c_lexer.specs.declared.pieces.Form.TheVariants as forms
 use Rattle.c_lexer.specs.declared.pieces.Kind.{Kind}
 use Rattle.c_lexer.specs.declared.pieces.Kind.TheVariants as kinds
-use Rattle.c_lexer.specs.declared.pieces.Piece.{Piece}
 use Rattle.c_lexer.specs.Cut.{StandsAt}
 use Rattle.c_lexer.specs.Forms.{first_size, punctuators}
 use Rattle.c_lexer.specs.Kinds.{sign_kind, word_kind}
@@ -26,7 +24,7 @@ use Rattle.parse_pieces.proofs.Standing.{Have, next_is, range_is, stands}
 use Rattle.parse_pieces.proofs.Words.{Ends, ends, ends_word, letter, word_stands}
 use Rattle.command_numbered_tree.proofs.Names.{name}
 use Rattle.command_numbered_tree.proofs.Trees.{int}
-use Rattle.command_numbered_tokens.proofs.Bits.{Bit, Gap, Key, Sign, Word, Numeral, Nought, Own, Index, Bound, IsLow, are_digits, bytes_of, ends_number, fine, fresh_of, has_size, is_key, is_name_kind, is_name_token, is_numeral_text, is_sign, is_sign_text, is_word_text, kind_of, lexeme_of, piece_of, token_of}
+use Rattle.command_numbered_tokens.proofs.Bits.{Bit, Gap, Key, Sign, Word, Numeral, Nought, Own, Index, Bound, IsLow, are_digits, bytes_of, ends_number, fine, has_size, is_key, is_name_kind, is_name_token, is_numeral_text, is_sign, is_sign_text, is_word_text, lexeme_of, piece_of, token_of}
 use Rattle.command_numbered_tokens.proofs.Decimals.{IsDecimal, decimal_is}
 
 -- what the tests say

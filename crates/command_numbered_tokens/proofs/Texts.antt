@@ -1,9 +1,7 @@
 -- The pieces of a numbered source, and that they write it.
-use Rattle.std.proofs.Common.{◌≡◌, ℕ, zero, suc, ◌+◌, ◌<◌, ◌≤◌, Bool, true, List, [], ◌∷◌, ◌++◌, length, codes, append_assoc, append-nil, refl, sym, ap, subst, ◌∙◌, arith}
-use Rattle.std.specs.Prelude.{slice_index}
+use Rattle.std.proofs.Common.{◌≡◌, ℕ, zero, suc, ◌≤◌, true, List, [], ◌∷◌, ◌++◌, codes, append_assoc, refl, sym, ap, subst, ◌∙◌, arith}
 use Rattle.std.specs.Fmt.{decimal}
 use Rattle.c_tree.specs.declared.token.TokenKind.TheVariants as tokens
-use Rattle.c_lexer.proofs.FirstBytes.{class}
 use Rattle.command_numbered.specs.Text.{between, call_text, function_text, loop_end, loop_head, main_end, main_head, numbered_text, texts}
 use Rattle.command_numbered_tokens.proofs.Bits.{Bit, Gap, Key, Sign, Word, Numeral, Nought, Own, Index, Bound, AreLow, all_fine, class_behind, written}
 use Rattle.command_numbered_tokens.proofs.Cuts.{class_append, fine_append, low_append, written_append}

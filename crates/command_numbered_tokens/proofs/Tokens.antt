@@ -1,5 +1,5 @@
 -- The tokens of a numbered source, and its tree.
-use Rattle.std.proofs.Common.{◌≡◌, ℕ, zero, suc, ◌+◌, ◌≤◌, true, List, [], ◌++◌, length, map, drop, append-nil, refl, sym, ap, subst, ◌∙◌, arith}
+use Rattle.std.proofs.Common.{ℕ, ◌+◌, ◌≤◌, true, [], length, append-nil, refl, sym, ap, subst, ◌∙◌, arith}
 use Rattle.c_tree.specs.Said.{TokenList}
 use Rattle.c_tree.specs.Spelling.{Agree, spell_unit, spoken}
 use Rattle.c_lexer.specs.Cut.{HasTokens, tokens_of}
@@ -7,7 +7,7 @@ use Rattle.command_numbered.specs.Text.{numbered_text}
 use Rattle.command_numbered_tree.proofs.Names.{name}
 use Rattle.command_numbered_tree.proofs.Trees.{unit}
 use Rattle.command_numbered_types.proofs.Named.{words}
-use Rattle.command_numbered_tokens.proofs.Bits.{pieces_of, spoken_of, written}
+use Rattle.command_numbered_tokens.proofs.Bits.{pieces_of, written}
 use Rattle.command_numbered_tokens.proofs.Cuts.{Cut, cut_from}
 use Rattle.command_numbered_tokens.proofs.Places.{numbered_agrees, places}
 use Rattle.command_numbered_tokens.proofs.Texts.{numbered_bits, numbered_fine, numbered_low, numbered_written}

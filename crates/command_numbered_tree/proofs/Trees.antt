@@ -1,5 +1,5 @@
 -- The trees of numbered sources, over any kind of name, with the places of their tokens by number.
-use Rattle.std.proofs.Common.{ℕ, zero, suc, List, [], ◌∷◌, Option, Some, None, codes}
+use Rattle.std.proofs.Common.{ℕ, zero, suc, [], ◌∷◌, Option, Some, None, codes}
 use Rattle.c_tree.specs.declared.token.Constant.{Constant}
 use Rattle.c_tree.specs.declared.token.ConstantType.TheVariants as types
 use Rattle.c_tree.specs.declared.pragma.Pragma.{Pragma}

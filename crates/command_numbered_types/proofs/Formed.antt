@@ -1,5 +1,5 @@
 -- The tree of a numbered source is well formed.
-use Rattle.std.proofs.Common.{◌≡◌, ℕ, zero, suc, ◌+◌, ◌<◌, ◌≤◌, false, refl, arith}
+use Rattle.std.proofs.Common.{ℕ, zero, suc, false, refl, arith}
 use Rattle.c_tree.specs.Formed.{AreFormedItems, EachOf, IsFirstPlace, IsFormedExternal, IsFormedUnit}
 use Rattle.command_numbered_tree.proofs.Trees.{Given, Places, calls, functions, function, main_of, start, unit, externals}
 

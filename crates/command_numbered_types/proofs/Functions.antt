@@ -1,5 +1,5 @@
 -- A function of a numbered source breaks no rule, and what it leaves visible.
-use Rattle.std.proofs.Common.{◌≡◌, ℕ, ◌+◌, Bool, true, false, nat_eq, List, [], ◌∷◌, ◌++◌, length, Option, Some, None, refl}
+use Rattle.std.proofs.Common.{◌≡◌, ℕ, ◌+◌, false, nat_eq, List, [], ◌∷◌, ◌++◌, None, refl}
 use Rattle.std.specs.Map.{lookup}
 use Rattle.types_tree.specs.declared.variable.Variable.{Variable}
 use Rattle.types_rules.specs.Scope.{Outline, Scope, bound, is_among}

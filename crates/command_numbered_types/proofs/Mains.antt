@@ -1,13 +1,12 @@
 -- The function `main` of a numbered source breaks no rule.
-use Rattle.std.proofs.Common.{◌≡◌, ℕ, zero, suc, ◌+◌, ◌<◌, ◌≤◌, Bool, true, false, nat_eq, List, [], ◌∷◌, ◌++◌, length, Option, Some, None, refl, sym, ap, subst, ◌∙◌, arith}
+use Rattle.std.proofs.Common.{◌≡◌, ℕ, zero, suc, ◌<◌, ◌≤◌, true, false, nat_eq, List, [], ◌∷◌, ◌++◌, length, Some, None, refl, ap, ◌∙◌, arith}
 use Rattle.std.specs.Map.{lookup}
 use Rattle.c_tree.specs.declared.expression.BinaryOperator.TheVariants as binary
-use Rattle.c_tree.specs.Tree.{Statement, Evaluate, Call, Binary, Number, Name, Return, NoExpr, AndExpr, AndStatement, Items}
+use Rattle.c_tree.specs.Tree.{Statement, Evaluate, Call, Binary, Number, Name, Return, NoExpr, AndExpr, AndStatement}
 use Rattle.types_tree.specs.declared.variable.Variable.{Variable}
 use Rattle.types_value.specs.declared.kind.Kind.TheVariants.{Int}
-use Rattle.types_rules.specs.DeclarationRules.{within_function}
 use Rattle.types_rules.specs.Scope.{Around, Outline, Scope, bound, is_among, putchar_type}
-use Rattle.types_rules.specs.Sights.{after_external, body_around, external_nodes, first_fault, items_nodes, statement_nodes}
+use Rattle.types_rules.specs.Sights.{external_nodes, first_fault, items_nodes, statement_nodes}
 use Rattle.types_rules.specs.StatementRules.{after_items, in_function}
 use Rattle.types_rules.specs.Types.{has_definition}
 use Rattle.types_rules.specs.declared.scope.Binding.TheVariants.{Function as Called, Object}
@@ -79,8 +78,8 @@ module _ (main putchar : ℕ) where
           let b = before o scope routines defined variables loops in
           none_both (items_nodes (AndStatement items (put t)) b (in_function Int)) (statement_nodes (give t) (after_items (AndStatement items (put t)) b) (in_function Int))
           (none_both (items_nodes items b (in_function Int)) (statement_nodes (put t) (after_items items b) (in_function Int))
-            (calls_pass q p n (omega arith))
-            (ap (λ a. first_fault (statement_nodes (put t) a (in_function Int))) (calls_after q p n) ∙ put_passes t other put_there put_typed put_known))
+          (calls_pass q p n (omega arith))
+          (ap (λ a. first_fault (statement_nodes (put t) a (in_function Int))) (calls_after q p n) ∙ put_passes t other put_there put_typed put_known))
           (ap (λ a. first_fault (statement_nodes (give t) a (in_function Int))) (calls_after q p n))
 
   -- `main` itself

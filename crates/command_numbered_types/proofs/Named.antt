@@ -1,11 +1,10 @@
 -- The tree of a numbered source with the names in place of their numbers.
-use Rattle.std.proofs.Common.{◌≡◌, ◌⊎◌, inl, inr, ℕ, zero, suc, ◌+◌, ◌<◌, ◌≤◌, List, [], ◌∷◌, ◌++◌, length, codes, append_assoc, length-append, refl, sym, ap, subst, ◌∙◌, arith}
+use Rattle.std.proofs.Common.{◌≡◌, ◌⊎◌, inl, inr, ℕ, zero, suc, ◌+◌, ◌<◌, ◌≤◌, List, [], ◌∷◌, ◌++◌, length, codes, length-append, refl, sym, ap, subst, ◌∙◌, arith}
 use Rattle.std.specs.Prelude.{slice_index_or}
 use Rattle.c_tree.specs.Names.{name_of}
 use Rattle.c_tree.specs.Named.{map_row, named_external, named_items, named_unit}
-use Rattle.c_tree.specs.Tree.{External, Items, Row, Then, TranslationUnit, Whole}
 use Rattle.command_numbered_tree.proofs.Names.{name, names, own_names}
-use Rattle.command_numbered_tree.proofs.Trees.{Given, Places, call, calls, end, function, functions, main_of, start, unit}
+use Rattle.command_numbered_tree.proofs.Trees.{Given, Places, calls, functions, start, unit}
 use Rattle.command_numbered_types.proofs.Functions.{numbers}
 use Rattle.command_numbered_types.proofs.Numbers.{number}
 

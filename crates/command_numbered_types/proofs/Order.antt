@@ -1,5 +1,5 @@
 -- The names of a numbered source in the order in which they first stand, and that its tree is well formed.
-use Rattle.std.proofs.Common.{◌≡◌, ◌≢◌, ◌⊎◌, inl, inr, ℕ, zero, suc, ◌+◌, ◌^◌, ◌<◌, ◌≤◌, ◌||◌, Bool, true, false, nat_eq, List, [], ◌∷◌, ◌++◌, map, codes, Option, Some, append_assoc, append-nil, refl, sym, ap, subst, ◌∙◌, arith}
+use Rattle.std.proofs.Common.{◌≡◌, ◌≢◌, inl, inr, ℕ, zero, suc, ◌^◌, ◌<◌, ◌≤◌, ◌||◌, Bool, true, false, nat_eq, List, [], ◌∷◌, ◌++◌, map, codes, Some, append_assoc, append-nil, refl, sym, ap, subst, ◌∙◌, arith}
 use Rattle.std.specs.Prelude.{if◌then◌else◌}
 use Rattle.std.specs.Fmt.{decimal}
 use Rattle.std.specs.List.{list_any}
@@ -8,7 +8,6 @@ use Rattle.std.proofs.lemmas.Bool.{or_right}
 use Rattle.std.proofs.lemmas.Fmt.{decimal_injective}
 use Rattle.std.proofs.lemmas.List.{map-append}
 use Rattle.std.proofs.lemmas.Slice.Eq.{bytes_eq-Decides}
-use Rattle.c_tree.specs.Formed.{AreFormedItems, EachOf, IsFirstPlace, IsFormedExternal, IsFormedUnit}
 use Rattle.c_tree.specs.Names.{names_among, names_of_unit, names_said, with_name, with_names}
 use Rattle.c_tree.specs.Said.{Lexeme}
 use Rattle.c_tree.specs.declared.token.TokenKind.TheVariants as kinds
@@ -16,7 +15,7 @@ use Rattle.c_tree.specs.declared.expression.BinaryOperator.TheVariants as binary
 use Rattle.c_tree.specs.Tree.{Statement, Evaluate, Call, Binary, Number, Name, Return, NoExpr, AndExpr}
 use Rattle.c_tree.specs.Spelling.{Mark, free, mark_said, spell_external, spell_externals, spell_items, spell_statement}
 use Rattle.command_numbered_tree.proofs.Names.{name, names, own_names}
-use Rattle.command_numbered_tree.proofs.Trees.{Given, Places, call, calls, externals, function, functions, int, main_of, start, unit}
+use Rattle.command_numbered_tree.proofs.Trees.{Places, call, calls, function, functions, int, main_of, start, unit}
 use Rattle.command_numbered_types.proofs.Named.{split, words}
 
 abbrev among : List ℕ → List (List ℕ) → Bool

@@ -1,15 +1,14 @@
 -- What is known of a numbered source as a whole, and that no rule or limit is broken.
-use Rattle.std.proofs.Common.{◌≡◌, ℕ, zero, suc, ◌+◌, ◌<◌, ◌≤◌, Bool, true, false, nat_eq, List, [], ◌∷◌, ◌++◌, Option, Some, None, append_assoc, codes, refl, sym, ap, ◌∙◌, arith}
+use Rattle.std.proofs.Common.{◌≡◌, ℕ, zero, suc, ◌+◌, ◌≤◌, false, nat_eq, List, [], ◌∷◌, ◌++◌, None, append_assoc, codes, refl, ap, ◌∙◌, arith}
 use Rattle.std.specs.Prelude.{if◌then◌else◌}
-use Rattle.c_tree.specs.Tree.{AndStatement}
-use Rattle.types_rules.specs.Limits.{broken, limits_before, limits_behind, unit_fault, variables_of}
-use Rattle.types_rules.specs.Scope.{Around, Outline, is_among, or_else, with_number}
+use Rattle.types_rules.specs.Limits.{limits_behind, unit_fault, variables_of}
+use Rattle.types_rules.specs.Scope.{Around, Outline, is_among, with_number}
 use Rattle.types_rules.specs.Sights.{after_external, definitions, number_of, outline_of}
 use Rattle.types_rules.specs.StatementRules.{after_items}
 use Rattle.command_numbered_tree.proofs.Names.{name, names, own_names}
 use Rattle.command_numbered_tree.proofs.Trees.{Places, calls, externals, functions, main_of, start, unit}
 use Rattle.command_numbered_types.proofs.Functions.{numbers}
-use Rattle.command_numbered_types.proofs.Numbers.{around, around_at, definitions_at, definitions_none, number, number_new, outline, variable, variables_at}
+use Rattle.command_numbered_types.proofs.Numbers.{definitions_at, definitions_none, number, number_new, outline, variable, variables_at}
 use Rattle.command_numbered_types.proofs.Rows.{functions_after}
 use Rattle.command_numbered_types.proofs.Sizes.{bytes_kept, limits_kept}
 use Rattle.command_numbered_types.proofs.Units.{high, unit_fine}

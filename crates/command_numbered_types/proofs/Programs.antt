@@ -1,17 +1,16 @@
 -- The typed form of a numbered source.
-use Rattle.std.proofs.Common.{◌≡◌, ℕ, zero, suc, ◌+◌, ◌*◌, ◌<◌, ◌≤◌, Bool, true, false, nat_eq, cond, List, [], ◌∷◌, ◌++◌, length, Option, Some, None, append_assoc, length-append, refl, sym, ap, ◌∙◌, arith}
-use Rattle.std.specs.Prelude.{position}
+use Rattle.std.proofs.Common.{◌≡◌, ℕ, zero, suc, ◌+◌, ◌*◌, ◌<◌, ◌≤◌, true, false, nat_eq, List, [], ◌∷◌, ◌++◌, length, Some, None, append_assoc, length-append, refl, sym, ap, ◌∙◌, arith}
 use Rattle.std.specs.Map.{lookup}
 use Rattle.c_tree.specs.Tree as parsed
 use Rattle.c_tree.specs.declared.expression.Specifier.TheVariants as words
 use Rattle.c_tree.specs.declared.expression.PostfixOperator.TheVariants.{Increment}
-use Rattle.types_tree.specs.Tree.{Place, Scalar, Expr, Number, Read, Paren, Call, Step, Operate, Assign, NoExpr, WithExpr, Single, Absent, Value, Declared, Parameter, Objects, StartValue, Statement, Evaluate, For, Return, Items, NoItem, WithDeclaration, WithStatement, Function, Defined, External, Defining, Program}
+use Rattle.types_tree.specs.Tree.{Scalar, Expr, Number, Read, Paren, Call, Step, Operate, Assign, NoExpr, WithExpr, Single, Absent, Value, Declared, Parameter, Objects, StartValue, Statement, Evaluate, For, Return, Items, NoItem, WithDeclaration, WithStatement, Function, Defined}
 use Rattle.types_tree.specs.declared.expression.Callee.TheVariants.{Putchar, Function as Own}
 use Rattle.types_tree.specs.declared.expression.Fix.TheVariants.{Postfix}
 use Rattle.types_tree.specs.declared.variable.Variable.{Variable}
 use Rattle.types_value.specs.declared.kind.Kind.TheVariants.{Int}
 use Rattle.types_value.specs.declared.operator.Operator.TheVariants.{Multiply, Remainder, Add, Less}
-use Rattle.types_rules.specs.Scope.{Around, Outline, Scope, index_of, is_among, putchar_type, started}
+use Rattle.types_rules.specs.Scope.{Outline, Scope, index_of, is_among, putchar_type, started}
 use Rattle.types_rules.specs.Sights.{after_external}
 use Rattle.types_rules.specs.StatementRules.{after_items}
 use Rattle.types_rules.specs.Typing.{typed_function, typed_items, typed_row, typed_statement}

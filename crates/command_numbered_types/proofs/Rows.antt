@@ -1,11 +1,11 @@
 -- The functions of a numbered source break no rule.
-use Rattle.std.proofs.Common.{◌≡◌, ℕ, zero, suc, ◌+◌, ◌<◌, ◌≤◌, nat_eq, List, [], ◌∷◌, ◌++◌, Option, Some, None, refl, sym, ap, ◌∙◌, arith}
-use Rattle.types_rules.specs.Scope.{Around, or_else, started, after_row}
+use Rattle.std.proofs.Common.{◌≡◌, ℕ, zero, suc, ◌+◌, ◌<◌, ◌≤◌, List, [], ◌∷◌, ◌++◌, Option, Some, None, refl, ap, ◌∙◌, arith}
+use Rattle.types_rules.specs.Scope.{or_else, started, after_row}
 use Rattle.types_rules.specs.Sights.{Node, after_external, external_nodes, externals_nodes, first_fault, node_fault}
 use Rattle.types_rules.specs.declared.fault.Fault.{Fault}
 use Rattle.command_numbered_tree.proofs.Trees.{function, functions}
 use Rattle.command_numbered_types.proofs.Functions.{function_after, function_passes, numbers}
-use Rattle.command_numbered_types.proofs.Numbers.{above, around, around_at, definitions_at, definitions_none, loops_at, number, number_new, number_no_getchar, number_no_putchar, outline, routines_at, routines_none, scope_at, scope_none, variables_at}
+use Rattle.command_numbered_types.proofs.Numbers.{above, around_at, definitions_at, definitions_none, loops_at, number, number_new, number_no_getchar, number_no_putchar, outline, routines_at, routines_none, scope_at, scope_none, variables_at}
 
 pub fault_append : (xs ys : List Node) → first_fault (xs ++ ys) ≡ or_else (first_fault xs) (first_fault ys)
 fault_append [] ys = refl
@@ -30,7 +30,7 @@ module _ (n : ℕ) (q : ℕ → ℕ → ℕ) where
       let p = number_no_putchar n m lt in
       ap (after_external (function (numbers (n + 3) (n + 4)) (number (suc m)) (suc m) (q (suc m)))) (functions_after m (omega (arith, le)))
       ∙ function_after (n + 3) (n + 4) (outline n) (scope_at n m) (routines_at n m) (definitions_at m) (variables_at m) (loops_at m) (number (suc m)) (suc m) (q (suc m))
-        (scope_none n (number (suc m)) g p m (number_new m)) (routines_none n (number (suc m)) g p m (number_new m)) (definitions_none (number (suc m)) m (number_new m))
+      (scope_none n (number (suc m)) g p m (number_new m)) (routines_none n (number (suc m)) g p m (number_new m)) (definitions_none (number (suc m)) m (number_new m))
 
   pub functions_pass : (m : ℕ) → m ≤ n → first_fault (externals_nodes (functions (numbers (n + 3) (n + 4)) number q m) (started (outline n))) ≡ None
   functions_pass zero le = refl
@@ -42,4 +42,4 @@ module _ (n : ℕ) (q : ℕ → ℕ → ℕ) where
       (functions_pass m (omega (arith, le)))
       (ap (λ a. first_fault (external_nodes (function (numbers (n + 3) (n + 4)) (number (suc m)) (suc m) (q (suc m))) a)) (functions_after m (omega (arith, le)))
       ∙ function_passes (n + 3) (n + 4) (outline n) (scope_at n m) (routines_at n m) (definitions_at m) (variables_at m) (loops_at m) (number (suc m)) (suc m) (q (suc m))
-        (scope_none n (number (suc m)) g p m (number_new m)) (routines_none n (number (suc m)) g p m (number_new m)) (definitions_none (number (suc m)) m (number_new m)) g p)
+      (scope_none n (number (suc m)) g p m (number_new m)) (routines_none n (number (suc m)) g p m (number_new m)) (definitions_none (number (suc m)) m (number_new m)) g p)

@@ -1,12 +1,11 @@
 -- A numbered source is within the limits of a unit.
-use Rattle.std.proofs.Common.{◌≡◌, ℕ, zero, suc, ◌+◌, ◌*◌, ◌<◌, ◌≤◌, max, Bool, true, false, List, [], ◌∷◌, ◌++◌, Option, Some, None, refl, sym, ap, subst, ◌∙◌, arith}
-use Rattle.std.specs.Prelude.{nat_lt, if◌then◌else◌}
+use Rattle.std.proofs.Common.{◌≡◌, ℕ, zero, suc, ◌+◌, ◌*◌, ◌≤◌, Bool, true, false, List, [], ◌∷◌, ◌++◌, None, refl, ap, ◌∙◌, arith}
+use Rattle.std.specs.Prelude.{nat_lt}
 use Rattle.std.proofs.lemmas.Bool.{ltb-true}
 use Rattle.c_tree.specs.Size.{size_external, size_items, size_row, size_unit}
-use Rattle.c_tree.specs.Tree.{Items}
 use Rattle.types_tree.specs.declared.variable.Variable.{Variable}
 use Rattle.types_rules.specs.Limits.{Tally, global_bytes, global_bytes_of, joined, limits_before, limits_behind, local_bytes, local_bytes_of, nothing_counted, object_bytes, one_function, tally_externals, tally_items, tally_unit}
-use Rattle.command_numbered_tree.proofs.Trees.{Given, Places, call, calls, function, functions, main_of, start, unit}
+use Rattle.command_numbered_tree.proofs.Trees.{Given, Places, calls, functions, start, unit}
 use Rattle.command_numbered_types.proofs.Numbers.{variable, variables_at}
 
 module _ {N : Type 0} (g : Given N) (f : ℕ → N) where

@@ -1,6 +1,5 @@
 -- The typed program of a numbered source.
-use Rattle.std.proofs.Common.{◌≡◌, ℕ, zero, suc, ◌+◌, ◌-◌, ◌*◌, ◌<◌, ◌≤◌, ◌||◌, not, Bool, true, false, nat_eq, cond, List, [], ◌∷◌, ◌++◌, length, Option, Some, None, append_assoc, length-append, refl, sym, ap, ◌∙◌, arith}
-use Rattle.std.specs.Prelude.{position, nat_lt}
+use Rattle.std.proofs.Common.{◌≡◌, ℕ, zero, suc, ◌+◌, ◌-◌, ◌*◌, ◌<◌, ◌≤◌, ◌||◌, not, Bool, true, false, nat_eq, cond, List, [], ◌∷◌, ◌++◌, length, Some, None, append_assoc, length-append, refl, sym, ap, ◌∙◌, arith}
 use Rattle.std.specs.List.{position_or_len}
 use Rattle.std.proofs.lemmas.Bool.{lt-ltb}
 use Rattle.std.specs.Map.{lookup}
@@ -8,19 +7,17 @@ use Rattle.c_tree.specs.declared.expression.Specifier.TheVariants as words
 use Rattle.types_tree.specs.Tree.{External, Defining, Defined, Function, Items, NoItem, Parameter, Program, Single}
 use Rattle.types_tree.specs.declared.variable.Variable.{Variable}
 use Rattle.types_value.specs.declared.kind.Kind.TheVariants.{Int}
-use Rattle.types_rules.specs.Limits.{variables_of}
-use Rattle.types_rules.specs.Scope.{Outline, Scope, bound, index_of, is_among, or_zero, putchar_type, started}
-use Rattle.types_rules.specs.Sights.{after_external, outline_of}
+use Rattle.types_rules.specs.Scope.{Outline, Scope, bound, index_of, is_among, or_zero, started}
+use Rattle.types_rules.specs.Sights.{after_external}
 use Rattle.types_rules.specs.Typing.{and_external, typed_function, typed_items, typed_row, typed_unit}
 use Rattle.types_rules.specs.declared.scope.Binding.TheVariants.{Function as Called}
 use Rattle.types_rules.specs.declared.scope.Routine.{Routine}
-use Rattle.command_numbered_tree.proofs.Names.{names}
 use Rattle.command_numbered_tree.proofs.Trees as trees
 use Rattle.command_numbered_tree.proofs.Trees.{Places}
 use Rattle.command_numbered_types.proofs.Functions.{numbers}
 use Rattle.command_numbered_types.proofs.Mains.{before, main_type}
-use Rattle.command_numbered_types.proofs.Numbers.{above, among_more, around, around_at, below, definitions_at, definitions_none, definitions_some, lookup_bound, lookup_push, loops_at, number, number_low, number_new, number_no_getchar, number_no_putchar, numbers_differ, outline, routines_at, routines_none, routines_some, same, scope_at, scope_some, variable, variables_at}
-use Rattle.command_numbered_types.proofs.Outlines.{outline_is, variables_are}
+use Rattle.command_numbered_types.proofs.Numbers.{above, among_more, around, around_at, below, definitions_at, definitions_none, definitions_some, lookup_bound, lookup_push, loops_at, number, number_low, number_new, number_no_getchar, number_no_putchar, outline, routines_at, routines_none, routines_some, same, scope_at, scope_some, variable, variables_at}
+use Rattle.command_numbered_types.proofs.Outlines.{variables_are}
 use Rattle.command_numbered_types.proofs.Programs.{body_typed, definitions_long, functions_typed, main_body, main_function, typed_functions, variables_long}
 use Rattle.command_numbered_types.proofs.Rows.{functions_after}
 use Rattle.command_numbered_types.proofs.Units.{high, putchar_routine, putchar_scope}
@@ -53,7 +50,7 @@ pub place_of : (n j : ℕ) → j < n → index_of (number (suc j)) (outline n).d
 place_of n j lt =
     let parts = split_at j (n - suc j) ((n + 3) ∷ []) n (omega (arith, lt)) in
     let at : position_or_len (nat_eq (number (suc j))) (definitions_at n ++ (n + 3) ∷ []) ≡ j =
-        ap (position_or_len (nat_eq (number (suc j)))) parts.1 ∙ place_first (number (suc j)) (definitions_at j) parts.0 (definitions_none (number (suc j)) j (number_new j)) ∙ definitions_long j in
+    ap (position_or_len (nat_eq (number (suc j)))) parts.1 ∙ place_first (number (suc j)) (definitions_at j) parts.0 (definitions_none (number (suc j)) j (number_new j)) ∙ definitions_long j in
     let long = length-append (definitions_at n) ((n + 3) ∷ []) in
     let own = definitions_long n in
     found_at (number (suc j)) j (definitions_at n ++ (n + 3) ∷ []) at (omega (arith, lt, long, own))
@@ -84,13 +81,13 @@ module _ (n : ℕ) (p : Places) where
       let no_p : nat_eq (n + 3) (n + 4) ≡ false = above (n + 3) (n + 4) (omega arith) in
       let none = high n n (n + 3) (omega arith) (omega arith) in
       let body = body_typed (n + 3) (n + 4) (outline n) _ (routines_at n n ++ (n + 3, main_type) ∷ []) (definitions_at n ++ (n + 3) ∷ []) (variables_at n) (loops_at n) n
-        (λ j lt. lookup_bound (number (suc j)) (n + 3) Called (scope_at n n) (above (number (suc j)) (n + 3) (number_low j n lt)) ∙ scope_some n j n lt)
-        (λ j lt. lookup_push (number (suc j)) (routines_at n n) (n + 3) main_type (above (number (suc j)) (n + 3) (number_low j n lt)) ∙ routines_some n j n lt (omega arith))
-        (λ j lt. among_more (number (suc j)) (n + 3) (definitions_at n) (definitions_some j n lt))
-        (number_no_getchar n) (number_no_putchar n) (place_of n) p (below (n + 4) 3 (omega arith))
-        (lookup_bound (n + 4) (n + 3) Called (scope_at n n) other ∙ putchar_scope n n (omega arith))
-        (lookup_push (n + 4) (routines_at n n) (n + 3) main_type other ∙ putchar_routine n n (omega arith))
-        (above (n + 4) (n + 5) (omega arith)) (same (n + 4)) in
+      (λ j lt. lookup_bound (number (suc j)) (n + 3) Called (scope_at n n) (above (number (suc j)) (n + 3) (number_low j n lt)) ∙ scope_some n j n lt)
+      (λ j lt. lookup_push (number (suc j)) (routines_at n n) (n + 3) main_type (above (number (suc j)) (n + 3) (number_low j n lt)) ∙ routines_some n j n lt (omega arith))
+      (λ j lt. among_more (number (suc j)) (n + 3) (definitions_at n) (definitions_some j n lt))
+      (number_no_getchar n) (number_no_putchar n) (place_of n) p (below (n + 4) 3 (omega arith))
+      (lookup_bound (n + 4) (n + 3) Called (scope_at n n) other ∙ putchar_scope n n (omega arith))
+      (lookup_push (n + 4) (routines_at n n) (n + 3) main_type other ∙ putchar_routine n n (omega arith))
+      (above (n + 4) (n + 5) (omega arith)) (same (n + 4)) in
       main_shape (n + 3) (n + 4) (outline n) (scope_at n n) (routines_at n n) (definitions_at n) (variables_at n) (loops_at n) n p rest (main_body (length (variables_at n)) p n)
       (routines_none n (n + 3) no_g no_p n none) (definitions_none (n + 3) n none) body
       ∙ ap (λ s. before_others (main_function s (n + 3) p n) rest) (variables_long n)

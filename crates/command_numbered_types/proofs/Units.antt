@@ -1,16 +1,15 @@
 -- A numbered source as a whole breaks no rule.
-use Rattle.std.proofs.Common.{◌≡◌, ℕ, zero, suc, ◌+◌, ◌<◌, ◌≤◌, ◌||◌, Bool, true, false, nat_eq, List, [], ◌∷◌, ◌++◌, length, Option, Some, None, refl, sym, ap, subst, ◌∙◌, arith}
+use Rattle.std.proofs.Common.{◌≡◌, ℕ, zero, suc, ◌+◌, ◌<◌, ◌≤◌, ◌||◌, true, false, nat_eq, [], ◌∷◌, ◌++◌, Some, None, refl, ap, ◌∙◌, arith}
 use Rattle.std.specs.Map.{lookup}
 use Rattle.std.proofs.lemmas.Bool.{or_left, or_right}
-use Rattle.types_value.specs.declared.kind.Kind.TheVariants.{Int}
-use Rattle.types_rules.specs.Scope.{Around, after_row, bound, is_among, putchar_type, started}
+use Rattle.types_rules.specs.Scope.{after_row, bound, is_among, putchar_type, started}
 use Rattle.types_rules.specs.Sights.{after_external, external_nodes, externals_nodes, first_fault, has_main, unit_nodes}
 use Rattle.types_rules.specs.Types.{has_definition}
 use Rattle.types_rules.specs.declared.scope.Binding.TheVariants.{Function as Called}
 use Rattle.command_numbered_tree.proofs.Trees.{Places, externals, functions, main_of, unit}
 use Rattle.command_numbered_types.proofs.Functions.{numbers}
 use Rattle.command_numbered_types.proofs.Mains.{body_passes, main_passes, main_type}
-use Rattle.command_numbered_types.proofs.Numbers.{above, among_last, among_more, around_at, below, definitions_at, definitions_none, definitions_some, lookup_bound, lookup_push, loops_at, number, number_low, outline, own_type, routines_at, routines_none, routines_some, same, scope_at, scope_none, scope_some, variables_at, IsNone}
+use Rattle.command_numbered_types.proofs.Numbers.{above, among_more, around_at, below, definitions_at, definitions_none, definitions_some, lookup_bound, lookup_push, loops_at, number, number_low, outline, own_type, routines_at, routines_none, routines_some, same, scope_at, scope_none, scope_some, variables_at, IsNone}
 use Rattle.command_numbered_types.proofs.Rows.{functions_after, functions_pass, none_both}
 
 -- the number of `main` and that of `putchar` are those of no function
@@ -41,12 +40,12 @@ module _ (n : ℕ) (p : Places) where
       main_passes (n + 3) (n + 4) (outline n) (scope_at n n) (routines_at n n) (definitions_at n) (variables_at n) (loops_at n)
       (scope_none n (n + 3) no_g no_p n none) (routines_none n (n + 3) no_g no_p n none) (definitions_none (n + 3) n none) p n no_g no_p
       (body_passes (n + 3) (n + 4) (outline n) (bound (scope_at n n) (n + 3) Called) (routines_at n n ++ (n + 3, main_type) ∷ []) (definitions_at n ++ (n + 3) ∷ []) (variables_at n) (loops_at n) n
-        (λ j lt. lookup_bound (number (suc j)) (n + 3) Called (scope_at n n) (above (number (suc j)) (n + 3) (number_low j n lt)) ∙ scope_some n j n lt)
-        (λ j lt. lookup_push (number (suc j)) (routines_at n n) (n + 3) main_type (above (number (suc j)) (n + 3) (number_low j n lt)) ∙ routines_some n j n lt (omega arith))
-        (known_function n) p.head p.tail p.call (below (n + 4) 3 (omega arith))
-        (lookup_bound (n + 4) (n + 3) Called (scope_at n n) other ∙ putchar_scope n n (omega arith))
-        (lookup_push (n + 4) (routines_at n n) (n + 3) main_type other ∙ putchar_routine n n (omega arith))
-        (known_putchar n))
+      (λ j lt. lookup_bound (number (suc j)) (n + 3) Called (scope_at n n) (above (number (suc j)) (n + 3) (number_low j n lt)) ∙ scope_some n j n lt)
+      (λ j lt. lookup_push (number (suc j)) (routines_at n n) (n + 3) main_type (above (number (suc j)) (n + 3) (number_low j n lt)) ∙ routines_some n j n lt (omega arith))
+      (known_function n) p.head p.tail p.call (below (n + 4) 3 (omega arith))
+      (lookup_bound (n + 4) (n + 3) Called (scope_at n n) other ∙ putchar_scope n n (omega arith))
+      (lookup_push (n + 4) (routines_at n n) (n + 3) main_type other ∙ putchar_routine n n (omega arith))
+      (known_putchar n))
 
   externals_fine : first_fault (externals_nodes (externals (numbers (n + 3) (n + 4)) number p n) (started (outline n))) ≡ None
   externals_fine =

@@ -1,14 +1,13 @@
 -- The pragma operator with a loop bound is a piece.
-use Rattle.std.proofs.Common.{◌≡◌, ◌⊎◌, inl, inr, ℕ, zero, suc, ◌+◌, ◌<◌, ◌≤◌, Bool, true, false, ◌||◌, nat_eq, if◌then◌else◌, List, [], ◌∷◌, ◌++◌, length, drop, codes, length-append, length-drop, refl, sym, ap, subst, ◌∙◌, arith}
-use Rattle.std.specs.Prelude.{slice_index, slice_index_or}
+use Rattle.std.proofs.Common.{◌≡◌, ℕ, zero, suc, ◌+◌, ◌<◌, ◌≤◌, Bool, false, nat_eq, if◌then◌else◌, List, [], ◌∷◌, ◌++◌, length, drop, codes, length-drop, refl, sym, ap, subst, ◌∙◌, arith}
+use Rattle.std.specs.Prelude.{slice_index_or}
 use Rattle.std.specs.List.{IsAmong}
 use Rattle.std.proofs.lemmas.Bool.{eq-eqb, or_parts, true≢false}
 use Rattle.c_tree.specs.Bytes.{Stands}
-use Rattle.c_tree.specs.Pragmas.{Blanks, IsOperator, before_quote, behind_blanks, behind_hash, from_close, from_open, from_quote, from_string, from_string_end, pragma_text, string_text, without_return}
+use Rattle.c_tree.specs.Pragmas.{Blanks, IsOperator, before_quote, behind_blanks, behind_hash, from_close, from_quote, from_string, from_string_end, pragma_text, string_text, without_return}
 use Rattle.c_tree.specs.declared.token.TokenKind.TheVariants as tokens
 use Rattle.c_lexer.specs.declared.pieces.Form.TheVariants as forms
 use Rattle.c_lexer.specs.declared.pieces.Kind.TheVariants as kinds
-use Rattle.c_lexer.specs.declared.pieces.Piece.{Piece}
 use Rattle.c_lexer.specs.Cut.{StandsAt}
 use Rattle.c_lexer.specs.Kinds.{pragma_kind}
 use Rattle.c_lexer.proofs.Longest.{longest_operator}

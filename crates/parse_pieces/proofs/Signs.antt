@@ -1,20 +1,17 @@
 -- The longest punctuator with which a text begins is a piece, where no comment, directive or number begins.
-use Rattle.std.proofs.Common.{◌≡◌, ◌≢◌, ◌⊎◌, inl, inr, ℕ, ◌+◌, ◌-◌, ◌<◌, ◌≤◌, Bool, true, false, nat_eq, List, [], ◌∷◌, ◌++◌, length, drop, take, codes, Option, Some, length-drop, refl, sym, ap, subst, ◌∙◌, arith}
-use Rattle.std.specs.Prelude.{slice_index, slice_range}
+use Rattle.std.proofs.Common.{◌≡◌, inl, inr, ℕ, ◌+◌, ◌-◌, ◌≤◌, Bool, false, nat_eq, List, ◌∷◌, ◌++◌, length, drop, take, Some, length-drop, refl, sym, ap, ◌∙◌, arith}
+use Rattle.std.specs.Prelude.{slice_index}
 use Rattle.std.proofs.lemmas.Bool.{eqb-false}
 use Rattle.std.proofs.lemmas.List.{take_all}
-use Rattle.c_tree.specs.Bytes.{IsDigit}
 use Rattle.c_lexer.specs.declared.pieces.Form.TheVariants as forms
 use Rattle.c_lexer.specs.declared.pieces.Kind.{Kind}
-use Rattle.c_lexer.specs.declared.pieces.Piece.{Piece}
-use Rattle.c_lexer.specs.Comments.{IsComment}
 use Rattle.c_lexer.specs.Cut.{StandsAt}
 use Rattle.c_lexer.specs.Forms.{BeginsNumber, IsPunctuator, first_size, punctuators}
 use Rattle.c_lexer.specs.Kinds.{sign_kind}
 use Rattle.c_lexer.proofs.Comments.{comment_first}
 use Rattle.c_lexer.proofs.FirstBytes.{class, digit_class, punctuator_class}
 use Rattle.c_lexer.proofs.Longest.{longest_punctuator}
-use Rattle.c_lexer.proofs.TextLemmas.{punctuator_longest, punctuator_some, punctuator_spans}
+use Rattle.c_lexer.proofs.TextLemmas.{punctuator_longest, punctuator_spans}
 use Rattle.parse_pieces.proofs.Standing.{ends_inside, range_is, stands}
 
 module _ (fresh : Bool) (source : List ℕ) (at : ℕ) (inside : at ≤ length source) (b : ℕ) (bytes rest : List ℕ) (there : drop at source ≡ (b ∷ bytes) ++ rest) (size : first_size ((b ∷ bytes) ++ rest) punctuators ≡ Some (length (b ∷ bytes)))

@@ -1,17 +1,9 @@
 -- A text that stands within a source is a piece where it has the form of one and what follows doesn't go on with it.
-use Rattle.std.proofs.Common.{◌≡◌, ◌≢◌, ◌⊎◌, inl, inr, ℕ, zero, suc, ◌+◌, ◌-◌, ◌<◌, ◌≤◌, Bool, true, false, ◌&&◌, ◌||◌, nat_eq, nat_le, not, List, [], ◌∷◌, ◌++◌, length, take, drop, codes, Option, Some, None, length-append, length-drop, refl, sym, ap, subst, ◌∙◌, arith}
+use Rattle.std.proofs.Common.{◌≡◌, ◌⊎◌, inl, inr, ℕ, zero, suc, ◌+◌, ◌≤◌, List, [], ◌∷◌, ◌++◌, length, take, drop, refl, sym, ap, subst, ◌∙◌, arith}
 use Rattle.std.specs.Prelude.{slice_index, slice_range}
 use Rattle.std.proofs.lemmas.List.{get_or-drop}
-use Rattle.std.proofs.lemmas.Bool.{true≢false}
-use Rattle.c_tree.specs.Bytes.{IsLetter, IsDigit, IsNameByte, IsBlankByte, Each, Stands, Spans, SpansOne}
-use Rattle.c_lexer.specs.declared.pieces.Form.TheVariants as forms
-use Rattle.c_lexer.specs.Bytes.{EndsBefore}
-use Rattle.c_lexer.specs.Comments.{IsComment}
-use Rattle.c_lexer.specs.Forms.{BeginsNumber, GoesOn, IsLongest, IsNumber, IsPunctuator, IsWord, first_size, prefixes, punctuators}
-use Rattle.c_lexer.proofs.Comments.{comment_first}
-use Rattle.c_lexer.proofs.FirstBytes.{are_names, names_stand}
-use Rattle.c_lexer.proofs.Longest.{longest_blank, longest_number, longest_punctuator, longest_word}
-use Rattle.c_lexer.proofs.TextLemmas.{size_longest, size_spans, text_spans, text_taken}
+use Rattle.c_tree.specs.Bytes.{Each, Stands}
+use Rattle.c_lexer.proofs.TextLemmas.{text_spans, text_taken}
 
 take_front : (xs ys : List ℕ) → take (length xs) (xs ++ ys) ≡ xs
 take_front [] ys = refl
