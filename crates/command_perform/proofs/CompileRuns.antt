@@ -22,6 +22,7 @@ use Rattle.rv_core.specs.Images.{Image}
 use Rattle.promise_compiler.specs.declared.refusal.Refusal.{Refusal}
 use Rattle.promise_compiler.specs.declared.refusal.Refusal.TheVariants.{Front, Form, Memory}
 use Rattle.promise_compiler.specs.Refusals.{Fails, IsRestricted}
+use Rattle.promise_compiler.specs.Lengths.{AreShort}
 use Rattle.facts_laws.proofs.Sources as laws
 use Rattle.promise_report.specs.Compiled.{IsCompiled}
 use Rattle.command_words.specs.Requests.{CompileRequest}
@@ -80,12 +81,13 @@ refuses_compile derive source Memory s e r = inl e
 
 -- what is built, as bytes
 pub compiles : (derive : Bool) (costs : Table) (source : List ℕ) (image : Image) (report : Report) (t : Texts) → t.image ≡ text_of image → t.report ≡ report_text report → t.line ≡ cycles_line report.cert.cycles report.kind
-    → IsCompiled derive costs source (text_of image) (report_text report) report → (IsRestricted derive source → ⊥) → report.cert.cycles ≤ 2 ^ 62 → Compiles derive costs source t
-compiles derive costs source image report t i r l c u b = record {
+    → IsCompiled derive costs source (text_of image) (report_text report) report → (IsRestricted derive source → ⊥) → report.cert.cycles ≤ 2 ^ 62 → (length source ≤ 1048576 → AreShort (text_of image) (report_text report)) → Compiles derive costs source t
+compiles derive costs source image report t i r l c u b s = record {
   report = report;
   compiled = subst (λ (k : List ℕ). IsCompiled derive costs source t.image k report) (sym r) (subst (λ (k : List ℕ). IsCompiled derive costs source k (report_text report) report) (sym i) c);
   unrestricted = u;
   small = b;
+  short = λ k. subst (λ (x : List ℕ). AreShort t.image x) (sym r) (subst (λ (x : List ℕ). AreShort x (report_text report)) (sym i) (s k));
   line_is = l;
 }
 

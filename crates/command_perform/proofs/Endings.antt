@@ -10,7 +10,7 @@ use Rattle.command_perform.specs.Outputs.{Outputs, outputs_of}
 use Rattle.command_perform.specs.StatusLines.{line_of}
 use Rattle.command_perform.specs.Gathering.{NotRead, OnlyRead}
 use Rattle.command_perform.specs.Finishing.{all_put, Partly, NoneFailed, WriteFailed, IsCut, status_after_fault, Reported, Finished}
-use Rattle.command_perform.specs.Ends.{OverlongIn, RefusesIn, MakesIn, IsRefusal, IsEnd, Ending, read_fault, too_long, refused, whole, in_part, memory_in_part, memory, ReadFailed, IsIdle, EndsWith, Fails}
+use Rattle.command_perform.specs.Ends.{ReadsFiles, OverlongIn, RefusesIn, MakesIn, IsRefusal, IsEnd, Ending, read_fault, too_long, refused, whole, in_part, memory_in_part, memory, ReadFailed, IsIdle, EndsWith, Fails}
 use Rattle.command_perform.specs.Promises.{HasMade, IsDone, HasFailed, IsStoreFault, IsUntold, Answers}
 use Rattle.command_perform.proofs.Counts.{unchanged, none_more, write_failed, all_read, fault_read, none_read, refusal_counts}
 
@@ -24,11 +24,11 @@ made_ends c old mid new out out' made result e n i m f =
     b)
     f
 
-not_read : {T : Type 0} (c : Asked) (old new : StoreState) (s : Status) → OnlyRead {T = T} old new (Err s) → NotRead (OverlongIn c old.files) s → Ending c old new s (line_of s)
-not_read c old new status.ReadFault o n = read_fault (fault_read old new o)
+not_read : {T : Type 0} (c : Asked) (old new : StoreState) (s : Status) → OnlyRead {T = T} old new (Err s) → NotRead (ReadsFiles c) (OverlongIn c old.files) s → Ending c old new s (line_of s)
+not_read c old new status.ReadFault o n = read_fault n (fault_read old new o)
 not_read c old new status.Memory o n = memory (none_read old new status.Memory refl o)
 not_read c old new (status.Limit which found) o n =
-    subst (λ (k : ℕ). Ending c old new (status.Limit which k) (line_of (status.Limit which k))) (sym n.0) (too_long which (none_read old new (status.Limit which found) refl o) n.1)
+    subst (λ (k : ℕ). Ending c old new (status.Limit which k) (line_of (status.Limit which k))) (sym n.0) (too_long which n.2 (none_read old new (status.Limit which found) refl o) n.1)
 not_read c old new s o n = absurd n
 
 memory_ending : {T : Type 0} (c : Asked) (old new : StoreState) (s : Status) → s ≡ status.Memory → OnlyRead {T = T} old new (Err s) → Ending c old new s (line_of s)
@@ -68,8 +68,8 @@ whole_answers c old new out out' made s q i m e n = absurd i
 
 -- what an ending answers, where its lines are printed, and where the sink failed
 ending_answers : (c : Asked) (old new : StoreState) (out out' : SinkState) (s : Status) (lines : List ℕ) → Ending c old new s lines → ((out'.written ≡ told_append lines out.written) × (out'.faults ≡ out.faults) → Answers (Some c) old new out out' s) × (Rose out.faults out'.faults → Answers (Some c) old new out out' (status_after_fault s))
-ending_answers c old new out out' s lines (read_fault r) = (λ p. r, λ f. r)
-ending_answers c old new out out' s lines (too_long which e o) = (λ p. (inl (refl, o), e), λ f. (inl (refl, o), e))
+ending_answers c old new out out' s lines (read_fault a r) = (λ p. r, λ f. r)
+ending_answers c old new out out' s lines (too_long which a e o) = (λ p. (inl (refl, o), e), λ f. (inl (refl, o), e))
 ending_answers c old new out out' s lines (refused t e i r) = let a = refusal_answers c old new out out' t i r e in (λ p. a.0, λ f. a.1)
 ending_answers c old new out out' s lines (whole made i m e n) = whole_answers c old new out out' made made.status refl i m e n
 ending_answers c old new out out' s lines (in_part made m p w) =
@@ -80,8 +80,8 @@ ending_answers c old new out out' s lines (memory e) = let n = unchanged old new
 
 -- what is known where memory ran out in printing the lines of an ending
 cut_answers : (c : Asked) (old new : StoreState) (out out' : SinkState) (s : Status) (lines : List ℕ) → Ending c old new s lines → IsCut lines out out' → out'.faults ≡ out.faults → NoneFailed old new ⊎ IsUntold old new out out'
-cut_answers c old new out out' s lines (read_fault r) k e = inr (record { fault = status.ReadFault; failed = r; cut = k; counts = e })
-cut_answers c old new out out' s lines (too_long which u o) k e = inl (unchanged old new u)
+cut_answers c old new out out' s lines (read_fault a r) k e = inr (record { fault = status.ReadFault; failed = r; cut = k; counts = e })
+cut_answers c old new out out' s lines (too_long which a u o) k e = inl (unchanged old new u)
 cut_answers c old new out out' s lines (refused t u i r) k e = inl (unchanged old new u)
 cut_answers c old new out out' s lines (whole made i m f n) k e = inl n
 cut_answers c old new out out' s lines (in_part made m p w) k e = inr (record { fault = status.WriteFault; failed = w; cut = k; counts = e })

@@ -70,7 +70,7 @@ kept_exits source t c k =
       in_cycles = omega (arith, r.1.cycles, c.small);
       in_output = k.fits;
     } in
-    (f, subst (λ (m : Image). ExitsWithin (setup m default_table []) (limits (2 ^ 62) 16_777_216) f) (sym i.loads) w)
+    (f, subst (λ (m : Image). ExitsWithin (setup m default_table []) (limits (2 ^ 62) 16_777_216) f) (sym i.written.loads) w)
 
 made_done : (asked : MakeRequest) (made : Outputs) → IsKept (numbered_text asked.number) [] → MakesNumbered asked made → made.status ≡ status.Done
 made_done asked made k m =
@@ -78,7 +78,7 @@ made_done asked made k m =
     let x = m.simulates.finishes w.0 w.1 in
     status_of made _ m.made_is ∙ ap (λ (e : Ending). (numbered_outputs asked m.texts m.last e).status) x.exits
 
-numbered_only : (asked : MakeRequest) → asked.number ≤ 100 → IsKept (numbered_text asked.number) [] → CanOnly (Make asked) [] status.Done
+pub numbered_only : (asked : MakeRequest) → asked.number ≤ 100 → IsKept (numbered_text asked.number) [] → CanOnly (Make asked) [] status.Done
 numbered_only asked few k = record {
   refuses = λ t r. absurd (unrestricted_passes false (numbered_text asked.number) t (omega (arith, short asked.number few)) k.plain r);
   makes = λ made m. made_done asked made k m;

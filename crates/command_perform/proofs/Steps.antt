@@ -1,5 +1,5 @@
 -- Files gathered and written one by one.
-use Rattle.std.proofs.Common.{◌≡◌, ℕ, ◌+◌, ◌<◌, ◌≤◌, List, [], ◌∷◌, ◌++◌, length, map, drop, get_or, Option, Some, None, refl, sym, ap, subst, ◌∙◌, inl, inr, ⊎_elim, arith, append_assoc, append-nil, drop-cons, add-one}
+use Rattle.std.proofs.Common.{◌≡◌, ℕ, zero, suc, ◌+◌, ◌<◌, ◌≤◌, List, [], ◌∷◌, ◌++◌, length, map, drop, get_or, Option, Some, None, refl, sym, ap, subst, ◌∙◌, inl, inr, ⊎_elim, arith, append_assoc, append-nil, drop-cons, add-one}
 use Rattle.std.proofs.lemmas.List.{length-append}
 use Rattle.std.specs.Prelude.{IfSome}
 use Rattle.wcc_base.specs.Outside.{Files, bytes_of, told_put}
@@ -7,7 +7,7 @@ use Rattle.wcc_base.specs.Limits.{greatest_of}
 use Rattle.wcc_base.specs.declared.limits.Bound.{Bound}
 use Rattle.wcc_base.specs.declared.status.Status.{Status}
 use Rattle.wcc_base.specs.declared.status.Status.TheVariants as status
-use Rattle.command_perform.specs.Gathering.{Wants, contents_of, Overlong, Gathered, NotGathered}
+use Rattle.command_perform.specs.Gathering.{Wants, AreSome, contents_of, Overlong, Gathered, NotGathered}
 use Rattle.command_perform.specs.Finishing.{all_put, IsPart, Partly}
 use Rattle.command_perform.specs.Files.{HasGathered, HasPutFiles}
 
@@ -38,13 +38,22 @@ limited (Some fs) ws left w rest contents which l h o =
 pub count_more : {A : Type 0} (xs ys : List A) (x : A) (i : ℕ) → ys ≡ xs ++ x ∷ [] → length xs ≡ i → length ys ≡ i + 1
 count_more xs ys x i e c = omega (arith, ap length e, length-append xs (x ∷ []), c)
 
+-- a further file is there
+one_there : (ws left : Wants) (w : List ℕ × Bound) (rest : Wants) → left ≡ w ∷ rest → (AreSome left → AreSome ws) → AreSome ws
+one_there ws left w rest l a = a (subst AreSome (sym l) tt)
+
+pub one_left : {A : Type 0} (f : A → List ℕ × Bound) (xs : List A) (i : ℕ) → i < length xs → AreSome (map f (drop i xs))
+one_left f [] i lt = absurd (omega (arith, lt))
+one_left f (x ∷ xs) zero lt = tt
+one_left f (x ∷ xs) (suc i) lt = one_left f xs i (omega (arith, lt))
+
 -- a further file wasn't read
-pub gather_fails : (old mid : Option Files) (ws left : Wants) (w : List ℕ × Bound) (rest : Wants) (contents : List (List ℕ)) (s : Status) → mid ≡ old → left ≡ w ∷ rest → IfSome old (λ fs. HasGathered ws left fs contents) → NotGathered (w ∷ []) mid s → NotGathered ws old s
-gather_fails old mid ws left w rest contents status.ReadFault e l h n = tt
-gather_fails old mid ws left w rest contents status.Memory e l h n = tt
-gather_fails old mid ws left w rest contents (status.Limit which found) e l h n =
-    (n.0, limited old ws left w rest contents which l h (subst (λ (k : Option Files). IfSome k (λ fs. Overlong (w ∷ []) fs which)) e n.1))
-gather_fails old mid ws left w rest contents s e l h n = absurd n
+pub gather_fails : (old mid : Option Files) (ws left : Wants) (w : List ℕ × Bound) (rest : Wants) (contents : List (List ℕ)) (s : Status) → mid ≡ old → left ≡ w ∷ rest → IfSome old (λ fs. HasGathered ws left fs contents) → (AreSome left → AreSome ws) → NotGathered (w ∷ []) mid s → NotGathered ws old s
+gather_fails old mid ws left w rest contents status.ReadFault e l h a n = one_there ws left w rest l a
+gather_fails old mid ws left w rest contents status.Memory e l h a n = tt
+gather_fails old mid ws left w rest contents (status.Limit which found) e l h a n =
+    (n.0, limited old ws left w rest contents which l h (subst (λ (k : Option Files). IfSome k (λ fs. Overlong (w ∷ []) fs which)) e n.1), one_there ws left w rest l a)
+gather_fails old mid ws left w rest contents s e l h a n = absurd n
 
 pub gather_none : (old : Option Files) (ws : Wants) → IfSome old (λ fs. HasGathered ws ws fs [])
 gather_none None ws = tt

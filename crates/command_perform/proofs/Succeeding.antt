@@ -60,8 +60,8 @@ only_made (Respond asked) None old wanted made e p m = absurd (rw e at p)
 only_made (Respond asked) (Some fs) old wanted made e p m = let k : CanOnlyRespond asked fs wanted = rw e at p in k.makes made m
 
 by_ending : (c : Asked) (old new : StoreState) (out out' : SinkState) (result s wanted : Status) (lines : List ℕ) → Ending c old new s lines → Reported s lines out out' result → CanEnd (Some c) old wanted → NoFault old new out out' → Succeeds wanted result
-by_ending c old new out out' result s wanted lines (read_fault r) q p f = absurd (f.reads r.reads)
-by_ending c old new out out' result s wanted lines (too_long which e o) q p f = absurd (never_long c old wanted which p o)
+by_ending c old new out out' result s wanted lines (read_fault a r) q p f = absurd (f.reads r.reads)
+by_ending c old new out out' result s wanted lines (too_long which a e o) q p f = absurd (never_long c old wanted which p o)
 by_ending c old new out out' result s wanted lines (refused t e i r) q p f =
     end_reported wanted t lines out out' result (only_refused c old.files old wanted t refl p r) f.puts q
 by_ending c old new out out' result s wanted lines (whole made i m e n) q p f =

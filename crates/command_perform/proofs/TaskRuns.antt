@@ -38,14 +38,14 @@ use Rattle.command_perform.proofs.Counts.{gathered_on, refusal_counts}
 
 -- ---- why a step fails
 
-not_read_on : (P Q : Bound → Type 0) → ((which : Bound) → P which → Q which) → (s : Status) → NotRead P s → NotRead Q s
+not_read_on : (P Q : Bound → Type 0) → ((which : Bound) → P which → Q which) → (s : Status) → NotRead (Unit {0}) P s → NotRead (Unit {0}) Q s
 not_read_on P Q f status.ReadFault n = tt
 not_read_on P Q f status.Memory n = tt
-not_read_on P Q f (status.Limit which found) n = (n.0, f which n.1)
+not_read_on P Q f (status.Limit which found) n = (n.0, f which n.1, tt)
 not_read_on P Q f s n = absurd n
 
 -- what fails for one cause fails for a wider one
-fails_on : (P Q : Bound → Type 0) (R T : Status → Type 0) → ((which : Bound) → P which → Q which) → ((s : Status) → R s → T s) → (s : Status) → FailsBy P R s → FailsBy Q T s
+fails_on : (P Q : Bound → Type 0) (R T : Status → Type 0) → ((which : Bound) → P which → Q which) → ((s : Status) → R s → T s) → (s : Status) → FailsBy (Unit {0}) P R s → FailsBy (Unit {0}) Q T s
 fails_on P Q R T f g s (inl n) = inl (not_read_on P Q f s n)
 fails_on P Q R T f g s (inr (inl m)) = inr (inl m)
 fails_on P Q R T f g s (inr (inr x)) = inr (inr (x.0, g s x.1))

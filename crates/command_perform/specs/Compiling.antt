@@ -1,5 +1,5 @@
 -- What `compile` makes of a source: an image that does what the source does, and a report whose cycles bound its runs.
-use Rattle.std.specs.Prelude.{◌≡◌, ◌≤◌, ◌^◌, ℕ, Bool, List, [], ◌∷◌}
+use Rattle.std.specs.Prelude.{◌≡◌, ◌≤◌, ◌^◌, ℕ, Bool, List, [], ◌∷◌, length}
 use Rattle.wcc_base.specs.declared.status.Status.{Status}
 use Rattle.wcc_base.specs.declared.status.Status.TheVariants as status
 use Rattle.rv_core.specs.Table.{Table}
@@ -10,6 +10,7 @@ use Rattle.report_text.specs.Reports.{Report}
 use Rattle.promise_compiler.specs.declared.refusal.Refusal.{Refusal}
 use Rattle.promise_compiler.specs.declared.refusal.Refusal.TheVariants.{Front, Form, Memory}
 use Rattle.promise_compiler.specs.Refusals.{IsRestricted}
+use Rattle.promise_compiler.specs.Lengths.{AreShort}
 use Rattle.promise_report.specs.Compiled.{IsCompiled}
 use Rattle.command_words.specs.Requests.{CompileRequest}
 use Rattle.command_perform.specs.declared.compile.Texts.{Texts}
@@ -34,6 +35,8 @@ pub record Compiles (derive : Bool) (costs : Table) (source : List ℕ) (t : Tex
   pub unrestricted : ¬ IsRestricted derive source
   -- no run that keeps within the bound ends at a limit of cycles
   pub small : report.cert.cycles ≤ 2 ^ 62
+  -- of a source within its limit, both texts are within theirs
+  pub short : length source ≤ 1048576 → AreShort t.image t.report
   pub line_is : t.line ≡ cycles_line report.cert.cycles report.kind
 
 -- the image, then the report

@@ -10,8 +10,13 @@ use Rattle.command_perform.specs.Outputs.{Outputs}
 use Rattle.command_perform.specs.StatusLines.{line_of}
 use Rattle.command_perform.specs.Commands.{wanted_of, Refuses, Makes}
 use Rattle.command_perform.specs.Responding.{OverlongTasks, RefusesTasks, MakesResponses}
-use Rattle.command_perform.specs.Gathering.{Overlong, Gathered, NotRead}
+use Rattle.command_perform.specs.Gathering.{AreSome, Overlong, Gathered, NotRead}
 use Rattle.command_perform.specs.Finishing.{all_put, Partly, NoneFailed, WriteFailed, Reported}
+
+-- a file is read: each command but `make` reads one
+abbrev pub ReadsFiles : Asked → Type 0
+ReadsFiles (Named c) = AreSome (wanted_of c)
+ReadsFiles (Respond asked) = Unit {0}
 
 -- a file that is read passes this limit, and those before it are within theirs, where the store tells them
 abbrev pub OverlongIn : Asked → Option Files → Bound → Type 0
@@ -50,8 +55,8 @@ pub record ReadFailed (old new : StoreState) : Type 0 where
 
 -- how a command ends, with the status and the lines that are printed, one row for each kind of ending. Of the counts of faults one rose where a fault is told, and else none
 pub data Ending (c : Asked) (old new : StoreState) : Status → List ℕ → Type 0 where
-  read_fault : ReadFailed old new → Ending c old new status.ReadFault (line_of status.ReadFault)
-  too_long : (which : Bound) → new ≡ old → OverlongIn c old.files which → Ending c old new (status.Limit which (greatest_of which + 1)) (line_of (status.Limit which (greatest_of which + 1)))
+  read_fault : ReadsFiles c → ReadFailed old new → Ending c old new status.ReadFault (line_of status.ReadFault)
+  too_long : (which : Bound) → ReadsFiles c → new ≡ old → OverlongIn c old.files which → Ending c old new (status.Limit which (greatest_of which + 1)) (line_of (status.Limit which (greatest_of which + 1)))
   refused : (s : Status) → new ≡ old → IsRefusal s → RefusesIn c old.files s → Ending c old new s (line_of s)
   whole : (made : Outputs) → IsEnd made.status → MakesIn c old.files made → new.files ≡ all_put made.files old.files → NoneFailed old new → Ending c old new made.status made.lines
   in_part : (made : Outputs) → MakesIn c old.files made → Partly made.files old.files new.files → WriteFailed old new → Ending c old new status.WriteFault (line_of status.WriteFault)
@@ -70,8 +75,8 @@ EndsWith None old new out out' result = (s : Status) × IsIdle s × (new ≡ old
 EndsWith (Some c) old new out out' result = (s : Status) × (lines : List ℕ) × Ending c old new s lines × Reported s lines out out' result
 
 -- why nothing is made: a file wasn't read, or memory ran out, or what was read is refused
-abbrev pub FailsBy : (Bound → Type 0) → (Status → Type 0) → Status → Type 0
-FailsBy Passes Refused s = NotRead Passes s ⊎ ((s ≡ status.Memory) ⊎ (IsRefusal s × Refused s))
+abbrev pub FailsBy : Type 0 → (Bound → Type 0) → (Status → Type 0) → Status → Type 0
+FailsBy Reads Passes Refused s = NotRead Reads Passes s ⊎ ((s ≡ status.Memory) ⊎ (IsRefusal s × Refused s))
 
 abbrev pub Fails : Asked → Option Files → Status → Type 0
-Fails c files s = FailsBy (OverlongIn c files) (RefusesIn c files) s
+Fails c files s = FailsBy (ReadsFiles c) (OverlongIn c files) (RefusesIn c files) s

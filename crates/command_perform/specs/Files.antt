@@ -4,7 +4,7 @@ use Rattle.wcc_base.specs.Outside.{Files, StoreState, SinkState, bytes_of, told_
 use Rattle.wcc_base.specs.declared.limits.Bound.{Bound}
 use Rattle.command_perform.specs.declared.files.Reading.{Reading}
 use Rattle.command_perform.specs.declared.files.Reading.TheVariants.{Whole, TooLong}
-use Rattle.command_perform.specs.Gathering.{Wants, contents_of, Fit, Overlong}
+use Rattle.command_perform.specs.Gathering.{Wants, AreSome, contents_of, Fit, Overlong}
 use Rattle.command_perform.specs.Finishing.{all_put, Partly, NoneFailed}
 
 -- what is read of these bytes
@@ -34,6 +34,7 @@ pub record HasGathered (ws rest : Wants) (fs : Files) (contents : List (List ℕ
 -- what stands between two files that are read
 pub record Gathering (ws rest : Wants) (old now : StoreState) (contents : List (List ℕ)) (index : ℕ) : Type 0 where
   pub gathered : IfSome old.files (λ fs. HasGathered ws rest fs contents)
+  pub some : AreSome rest → AreSome ws
   pub count : length contents ≡ index
   pub same : now.files ≡ old.files
   pub counts : NoneFailed old now

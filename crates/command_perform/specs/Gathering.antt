@@ -34,15 +34,20 @@ Overlong (w ∷ ws) fs which =
 abbrev pub Gathered : Wants → Option Files → List (List ℕ) → Type 0
 Gathered ws files contents = IfSome files (λ fs. (contents ≡ contents_of ws fs) × Fit ws fs)
 
--- why a file wasn't read: a fault, a limit that it passes, of which one more is found, or want of memory
-abbrev pub NotRead : (Bound → Type 0) → Status → Type 0
-NotRead Passes status.ReadFault = Unit {0}
-NotRead Passes (status.Limit which found) = (found ≡ greatest_of which + 1) × Passes which
-NotRead Passes status.Memory = Unit {0}
-NotRead Passes s = ⊥
+-- a file is read
+abbrev pub AreSome : Wants → Type 0
+AreSome [] = ⊥
+AreSome (w ∷ ws) = Unit {0}
+
+-- why a file wasn't read: where one is read, a fault, or a limit that it passes, of which one more is found; or want of memory
+abbrev pub NotRead : Type 0 → (Bound → Type 0) → Status → Type 0
+NotRead Reads Passes status.ReadFault = Reads
+NotRead Reads Passes (status.Limit which found) = (found ≡ greatest_of which + 1) × Passes which × Reads
+NotRead Reads Passes status.Memory = Unit {0}
+NotRead Reads Passes s = ⊥
 
 abbrev pub NotGathered : Wants → Option Files → Status → Type 0
-NotGathered ws files s = NotRead (λ which. IfSome files (λ fs. Overlong ws fs which)) s
+NotGathered ws files s = NotRead (AreSome ws) (λ which. IfSome files (λ fs. Overlong ws fs which)) s
 
 -- the count of faults in reading behind a step: raised exactly where such a fault is its status
 abbrev pub reads_counted : {T : Type 0} → ℕ → Result T Status → ℕ

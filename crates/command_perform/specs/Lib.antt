@@ -16,6 +16,8 @@ pub mod Responding
 pub mod Finishing
 pub mod Ends
 pub mod Promises
+pub mod Checkable
+pub mod Making
 pub mod Asked
 pub mod Files
 pub mod Tasks

@@ -13,15 +13,15 @@ use Rattle.command_perform.specs.Ends.{FailsBy}
 
 -- why a task isn't taken
 abbrev pub FailsTask : Table → Option Files → Entry → Status → Type 0
-FailsTask costs files e s = FailsBy (λ which. IfSome files (λ fs. Overlong (wanted_task e) fs which)) (RefusesTask costs files e) s
+FailsTask costs files e s = FailsBy (Unit {0}) (λ which. IfSome files (λ fs. Overlong (wanted_task e) fs which)) (RefusesTask costs files e) s
 
 -- why not all are taken
 abbrev pub FailsFirst : Table → Option Files → List Entry → Status → Type 0
-FailsFirst costs files es s = FailsBy (λ which. IfSome files (λ fs. OverlongFirst costs fs es which)) (RefusesFirst costs files es) s
+FailsFirst costs files es s = FailsBy (Unit {0}) (λ which. IfSome files (λ fs. OverlongFirst costs fs es which)) (RefusesFirst costs files es) s
 
 -- why nothing is made of a list
 abbrev pub FailsListed : List (List ℕ) → Option Files → Status → Type 0
-FailsListed contents files s = FailsBy (λ which. IfSome files (λ fs. OverlongListed contents fs which)) (RefusesListed contents files) s
+FailsListed contents files s = FailsBy (Unit {0}) (λ which. IfSome files (λ fs. OverlongListed contents fs which)) (RefusesListed contents files) s
 
 -- the first tasks were taken, and the rest is left
 pub record Taking (costs : Table) (es rest : List Entry) (old now : StoreState) (ts : List Task) : Type 0 where

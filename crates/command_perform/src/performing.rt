@@ -1,6 +1,7 @@
 // A command from its words to its status.
-ghost use Rattle.std.specs.Prelude.{◌≡◌, map, string_bytes, MatchResult};
-ghost use Rattle.command_perform.specs.Words.{asked_by, Named};
+ghost use Rattle.std.specs.Prelude.{◌≡◌, ◌⊎◌, map, string_bytes, MatchResult};
+ghost use Rattle.wcc_base.specs.declared.status.Status.TheVariants as status;
+ghost use Rattle.command_perform.specs.Words.{asked_by, IsInRange, Named};
 ghost use Rattle.command_perform.specs.Asked.{command_of, asked_of};
 ghost use Rattle.command_perform.specs.Outputs.{outputs_of};
 ghost use Rattle.command_perform.specs.Gathering.{OnlyRead};
@@ -61,7 +62,8 @@ pub fn perform<C: Compiler, S: Store, O: Sink>(
     store: &mut S,
     out: &mut O,
 ) -> Status
-    ensures { EndsWith (asked_by (map string_bytes words.now)) (S.state store.old) (S.state store.new) (O.state out.old) (O.state out.new) result }
+    ensures ends { EndsWith (asked_by (map string_bytes words.now)) (S.state store.old) (S.state store.new) (O.state out.old) (O.state out.new) result }
+    ensures range { (result ≡ status.Memory) ⊎ IsInRange (asked_by (map string_bytes words.now)) }
 {
     match read_command(alloc, words) {
         Ok(Some(asked)) => {

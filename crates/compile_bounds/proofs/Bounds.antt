@@ -1,9 +1,10 @@
 -- The flow system of what is made of a source, and the search for its greatest flow.
-use Rattle.std.proofs.Common.{◌≡◌, ℕ, List, sym, subst}
+use Rattle.std.proofs.Common.{◌≡◌, ℕ, false, List, None, refl, sym, subst, All}
 use Rattle.rv_core.specs.declared.costs.Costs.{Costs}
 use Rattle.rv_core.specs.Images.{Image}
 use Rattle.rv_core.specs.Table.{table_of}
-use Rattle.code_flow_system.specs.Claims.{Claims}
+use Rattle.code_flow_system.specs.Claims.{Claims, never_flaws}
+use Rattle.code_flow_system.specs.declared.claims.Never.{Never}
 use Rattle.code_flow_system.specs.Systems.{IsSystemOf, System}
 use Rattle.code_flow.specs.CodeFaults.{IsFault}
 use Rattle.code_flow.specs.declared.finding.CodeFault.{CodeFault}
@@ -29,12 +30,14 @@ use Rattle.compile_claims.proofs.Systems.{system_same}
 use Rattle.compile_made.specs.declared.made.Made.{Made}
 use Rattle.compile_made.specs.Made.{IsInMemory, IsMade, copies_of, high_of}
 use Rattle.compile_kept.specs.Limits.{nothing}
+use Rattle.compile_handed.specs.Handed.{AreHandedOn}
+use Rattle.compile_handed.proofs.Standing.{nevers_fine}
 use Rattle.compile_turns.proofs.Light.{source_light}
 use Rattle.compile_turns.proofs.Whole.{all_kept}
 use Rattle.compile_bounds.proofs.Faults.{only_memory}
 
--- of a program in memory, whatever its loops are called
-module _ (code : LowReg) (y : lays.Laid) (h : IsInMemory code y) (es : List LoopEntry) where
+-- of a program in memory, under the claims that are handed on
+module _ (code : LowReg) (y : lays.Laid) (h : IsInMemory code y) (es : List LoopEntry) (ns : List Never) where
   abbrev low : Low
   low = low_of code.low
 
@@ -47,16 +50,16 @@ module _ (code : LowReg) (y : lays.Laid) (h : IsInMemory code y) (es : List Loop
   has_claims : HasClaims laid y.image
   has_claims = subst (λ (i : Image). HasClaims laid i) (sym h.laid.image) h.keeps_low.claims
 
-  pub has_system : (fault : CodeFault) → IsFault y.image (named es y.claimed.claims) fault → fault ≡ Memory
-  has_system fault is = only_memory laid y.image has_claims es fault (subst (λ (c : Claims). IsFault y.image (named es c) fault) h.laid.claimed.claims is)
+  has_system : All (λ flaw. flaw ≡ false) (never_flaws None ns) → (fault : CodeFault) → IsFault y.image (named es ns y.claimed.claims) fault → fault ≡ Memory
+  has_system own fault is = only_memory laid y.image has_claims es ns own fault (subst (λ (c : Claims). IsFault y.image (named es ns c) fault) h.laid.claimed.claims is)
 
-  can_bound : IsLight low → (c : Costs) (s : System) → IsSystemOf y.image (named es y.claimed.claims) s → CanBound (table_of c) s y.claimed.shapes.items y.lists.spans.items
+  can_bound : IsLight low → (c : Costs) (s : System) → IsSystemOf y.image (named es ns y.claimed.claims) s → CanBound (table_of c) s y.claimed.shapes.items y.lists.spans.items
   can_bound light c s is =
       let shapes = y.claimed.shapes.items in
-      let own = subst (λ (k : Claims). IsSystemOf y.image (named es k) s) h.laid.claimed.claims is in
-      let plain = subst (λ (i : Image). IsSystemOf i claims (under claims s)) h.laid.image (system_same es y.image claims s own) in
+      let own = subst (λ (k : Claims). IsSystemOf y.image (named es ns k) s) h.laid.claimed.claims is in
+      let plain = subst (λ (i : Image). IsSystemOf i claims (under claims s)) h.laid.image (system_same es ns y.image claims s refl own) in
       let can = h.keeps_low.bounded c (under claims s) shapes plain h.laid.claimed.shapes light in
-      bound_same es (table_of c) claims s shapes y.lists.spans.items own.same_claims (subst (λ ps. CanBound (table_of c) (under claims s) shapes ps) (sym h.laid.lists.spans) can)
+      bound_same es ns (table_of c) claims s shapes y.lists.spans.items own.same_claims (subst (λ ps. CanBound (table_of c) (under claims s) shapes ps) (sym h.laid.lists.spans) can)
 
 module _ (source : List ℕ) (names : List (List ℕ)) (program : c.Program) (facts : Facts) (m : Made) (is : IsSource source names program facts) (made : IsMade names program facts m) where
   light : IsLight (low_of m.code.low)
@@ -70,5 +73,13 @@ module _ (source : List ℕ) (names : List (List ℕ)) (program : c.Program) (fa
         light = source_light program names facts (high_of m) low are carried.weight keeps;
       }
 
-  pub made_bounded : (c : Costs) (s : System) → IsSystemOf m.laid.image (named (copies_of m).loops m.laid.claimed.claims) s → CanBound (table_of c) s m.laid.claimed.shapes.items m.laid.lists.spans.items
-  made_bounded c s h = can_bound m.code m.laid made.in_memory (copies_of m).loops light c s h
+  -- whatever is handed on
+  module _ (told : Claims) (handed : AreHandedOn m told) where
+    abbrev es : List LoopEntry
+    es = (copies_of m).loops
+
+    pub made_only_memory : (fault : CodeFault) → IsFault m.laid.image told fault → fault ≡ Memory
+    made_only_memory fault h = has_system m.code m.laid made.in_memory es told.nevers (nevers_fine names program facts m made told handed) fault (subst (λ (c : Claims). IsFault m.laid.image c fault) handed.claims h)
+
+    pub made_bounded : (c : Costs) (s : System) → IsSystemOf m.laid.image told s → CanBound (table_of c) s m.laid.claimed.shapes.items m.laid.lists.spans.items
+    made_bounded c s h = can_bound m.code m.laid made.in_memory es told.nevers light c s (subst (λ (k : Claims). IsSystemOf m.laid.image k s) handed.claims h)

@@ -11,10 +11,13 @@ use Rattle.high_ir.specs.Formed.{IsHigh}
 use Rattle.high_ir.specs.Standing.{Bounded, loops_in}
 use Rattle.high_ir.specs.Tree.{Program}
 use Rattle.high_ir.specs.declared.copies.LoopCopies.{LoopCopies}
+use Rattle.high_ir.specs.declared.copies.NeverMark.{NeverMark}
+use Rattle.high_pass.specs.Carries.{StartsFewer, bounds_of}
 use Rattle.high_pass.specs.Listing.{Listing, LoopEntry, listed_loops, loop_entry as entry_of}
 use Rattle.high_pass.proofs.Continuing.{each_loop, loops_below}
 use Rattle.high_pass.proofs.Counting.{all_below}
 use Rattle.high_pass.proofs.Elements.{All-map_back, at_or}
+use Rattle.high_pass.proofs.Origins.{StartsFewer-there}
 use Rattle.low_ir.specs.Code.{Loop}
 use Rattle.low_ir.specs.declared.places.LowReg.{LowReg}
 use Rattle.low_ir.specs.Placings.{assignment_of, placed_of}
@@ -67,12 +70,22 @@ module _ (source : List ℕ) (names : List (List ℕ)) (program : c.Program) (fa
   abbrev listing : Listing
   listing = copies_of m
 
+  abbrev loops : List Bounded
+  loops = (source_behaviour program names facts).loops
+
+  few : All (λ x. x < 2 ^ 26) (map number_of loops)
+  few = All-map (λ x. x < 2 ^ 26) number_of loops (source_loops_few source names program facts is)
+
   -- copies are listed by the loops of the source
   old_small : All (λ (e : LoopCopies). e.old < 2 ^ 26) m.stages.last.copies.loops.items
   old_small =
-      let few = All-map (λ x. x < 2 ^ 26) number_of (source_behaviour program names facts).loops (source_loops_few source names program facts is) in
-      let olds = All-same (λ x. x < 2 ^ 26) (map (λ (e : LoopEntry). e.old) listing.loops) (map number_of (source_behaviour program names facts).loops) made.carried.carries.loops few in
+      let olds = All-same (λ x. x < 2 ^ 26) (map (λ (e : LoopEntry). e.old) listing.loops) (map number_of loops) made.carried.carries.loops few in
       All-map_back (λ (e : LoopEntry). e.old < 2 ^ 26) entry_of m.stages.last.copies.loops.items (All-map_back (λ x. x < 2 ^ 26) (λ (e : LoopEntry). e.old) listing.loops olds)
+
+  -- a loop that makes fewer starts is one of the source
+  nevers_small : All (λ (v : NeverMark). v.old < 2 ^ 26) m.stages.last.copies.nevers.items
+  nevers_small = All-weaker (λ (v : NeverMark). StartsFewer (bounds_of loops v.old) v.factor) (λ (v : NeverMark). v.old < 2 ^ 26)
+      (λ v fewer. StartsFewer-there loops (2 ^ 26) v.factor v.old few fewer) m.stages.last.copies.nevers.items made.carried.carries.nevers
 
   pub can_be_named : CanBeNamed m
   can_be_named =
@@ -80,5 +93,7 @@ module _ (source : List ℕ) (names : List (List ℕ)) (program : c.Program) (fa
         there = memory_there p m.code m.laid made.carried.is_high made.lowered made.in_memory;
         listed = each_loop (λ x. x < p.loops) listing (all_below p.loops (listed_loops listing) made.carried.carries.lists.loops);
         old = old_small;
+        nevers = nevers_small;
+        plain = ap (λ (c : Claims). c.nevers) made.in_memory.laid.claimed.claims;
         facts = ap (λ (c : Claims). c.facts) made.in_memory.laid.claimed.claims;
       }

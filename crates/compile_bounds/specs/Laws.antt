@@ -2,6 +2,7 @@
 use Rattle.std.specs.Prelude.{◌≡◌, ℕ, ◌^◌, ◌<◌, List, [], All}
 use Rattle.rv_core.specs.declared.costs.Costs.{Costs}
 use Rattle.rv_core.specs.Table.{table_of}
+use Rattle.code_flow_system.specs.Claims.{Claims}
 use Rattle.code_flow_system.specs.Systems.{System, IsSystemOf}
 use Rattle.code_flow.specs.CodeFaults.{IsFault}
 use Rattle.code_flow.specs.declared.finding.CodeFault.{CodeFault}
@@ -10,17 +11,20 @@ use Rattle.facts_definitions.specs.declared.facts.Facts.{Facts}
 use Rattle.facts_front.specs.Fronts.{IsSource}
 use Rattle.types_tree.specs.Tree.{Program}
 use Rattle.high_ir.specs.declared.copies.LoopCopies.{LoopCopies}
+use Rattle.high_ir.specs.declared.copies.NeverMark.{NeverMark}
 use Rattle.path_search.specs.Conditions.{CanBound}
-use Rattle.compile_claims.specs.Named.{named}
+use Rattle.compile_handed.specs.Handed.{AreHandedOn}
 use Rattle.compile_made.specs.declared.made.Made.{Made}
 use Rattle.compile_made.specs.Made.{IsMade, copies_of, high_of}
 
 -- loops have numbers below how many there are, in the claims and in their copies; those of the source have small ones; there are no
--- restrictions
+-- claims on never marks yet, and no restrictions
 pub record CanBeNamed (m : Made) : Type 0 where
   pub there : All (λ c. c.source < (high_of m).loops) m.laid.claimed.claims.loops
   pub listed : All (λ e. All (λ l. l.id < (high_of m).loops) e.new) (copies_of m).loops
   pub old : All (λ (e : LoopCopies). e.old < 2 ^ 26) m.stages.last.copies.loops.items
+  pub nevers : All (λ (v : NeverMark). v.old < 2 ^ 26) m.stages.last.copies.nevers.items
+  pub plain : m.laid.claimed.claims.nevers ≡ []
   pub facts : m.laid.claimed.claims.facts ≡ []
 
 -- claims can be named by the loops of the source
@@ -30,10 +34,10 @@ MadeCanBeNamed = (source : List ℕ) (names : List (List ℕ)) (program : Progra
 -- nothing but memory can be wanting for the flow system: no claim is bad, and what is reached is code
 abbrev pub MadeHaveSystems : Type 0
 MadeHaveSystems =
-    (source : List ℕ) (names : List (List ℕ)) (program : Program) (facts : Facts) (m : Made) (fault : CodeFault) → IsSource source names program facts → IsMade names program facts m → IsFault m.laid.image (named (copies_of m).loops m.laid.claimed.claims) fault → fault ≡ Memory
+    (source : List ℕ) (names : List (List ℕ)) (program : Program) (facts : Facts) (m : Made) (claims : Claims) (fault : CodeFault) → IsSource source names program facts → IsMade names program facts m → AreHandedOn m claims → IsFault m.laid.image claims fault → fault ≡ Memory
 
 -- the search can be made
 abbrev pub MadeCanBeBounded : Type 0
 MadeCanBeBounded =
-    (source : List ℕ) (names : List (List ℕ)) (program : Program) (facts : Facts) (m : Made) (c : Costs) (s : System) → IsSource source names program facts → IsMade names program facts m → IsSystemOf m.laid.image (named (copies_of m).loops m.laid.claimed.claims) s
+    (source : List ℕ) (names : List (List ℕ)) (program : Program) (facts : Facts) (m : Made) (claims : Claims) (c : Costs) (s : System) → IsSource source names program facts → IsMade names program facts m → AreHandedOn m claims → IsSystemOf m.laid.image claims s
     → CanBound (table_of c) s m.laid.claimed.shapes.items m.laid.lists.spans.items

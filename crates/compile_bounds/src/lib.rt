@@ -1,8 +1,9 @@
 //! The claims on what is made of a source, its flow system, and the search for its greatest flow.
 //!
-//! Proved, by calls with empty bodies: [`made_can_be_named`], that the loops of its claims can be named by those of the source;
-//! [`made_have_systems`], that under such claims nothing but memory can be wanting for its flow system: no claim is bad, and what
-//! is reached is code; and [`made_can_be_bounded`], that the greatest flow of that system can be searched for.
+//! Proved, by calls with empty bodies: [`made_can_be_named`], that the loops of its claims and of its never marks can be named by
+//! those of the source; [`made_have_systems`], that under the claims that are handed on nothing but memory can be wanting for its
+//! flow system: no claim is bad, and what is reached is code; and [`made_can_be_bounded`], that the greatest flow of that system
+//! can be searched for.
 //!
 //! The crate knows no reports, and not how an image is made.
 #![tactic(auto)]

@@ -1,3 +1,2 @@
 pub mod Systems
 pub mod Bounds
-pub mod Certificates

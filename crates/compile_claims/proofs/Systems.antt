@@ -1,63 +1,90 @@
--- The system of an image is the same, whatever loops are called.
-use Rattle.std.proofs.Common.{◌≡◌, ℕ, ⊎_elim, inl, inr, true, false, List, [], ◌∷◌, ◌++◌, Option, Some, None, map, refl, sym, ap, subst}
+-- The system of an image is the same under the claims that are handed on.
+use Rattle.std.proofs.Common.{◌≡◌, ℕ, zero, suc, ⊎_elim, inl, inr, Bool, true, false, List, [], ◌∷◌, ◌++◌, Option, Some, None, map, refl, sym, ap, ◌∙◌, subst, All}
 use Rattle.std.specs.Prelude.{◌&&◌, not, slice_index_or}
+use Rattle.std.proofs.lemmas.Bool.{false≢true}
+use Rattle.std.proofs.lemmas.List.Elements.{All-append, All-cons, All-nil}
 use Rattle.rv_core.specs.Images.{Image}
 use Rattle.code_flow_system.specs.declared.claims.LoopClaim.{LoopClaim}
-use Rattle.code_flow_system.specs.Claims.{Claims, exit_flaws, fact_flaws, flaws, is_above, is_aligned, loop_flaws, never_flaws, region_flaws}
-use Rattle.code_flow_system.specs.Systems.{IsBad, IsFalseExit, IsFirstBad, IsFirstNoCode, IsNoCode, IsSystemOf, System}
+use Rattle.code_flow_system.specs.declared.claims.Never.{Never}
+use Rattle.code_flow_system.specs.Claims.{AreSound, Claims, exit_flaws, fact_flaws, flaws, is_above, is_aligned, loop_flaws, never_flaws, region_flaws}
+use Rattle.code_flow_system.specs.Systems.{IsBad, IsFalseExit, IsFirstNoCode, IsNoCode, IsSystemOf, System}
 use Rattle.high_pass.specs.Listing.{LoopEntry}
+use Rattle.high_pass.proofs.Elements.{All-append_back, All-append_front, at_or}
 use Rattle.compile_claims.specs.Laws.{under}
 use Rattle.compile_claims.specs.Named.{by_entries, named}
 
-module _ (es : List LoopEntry) where
+abbrev Fine : Bool → Type 0
+Fine flaw = flaw ≡ false
+
+no_flaw : (xs : List Bool) → All Fine xs → (n : ℕ) → slice_index_or xs n false ≡ true → ⊥
+no_flaw xs fine n flaw = false≢true (sym (at_or Fine xs n false fine refl) ∙ flaw)
+
+all_fine : (xs : List Bool) → ((n : ℕ) → slice_index_or xs n false ≡ true → ⊥) → All Fine xs
+all_fine [] h = All-nil Fine
+all_fine (x ∷ xs) h = All-cons Fine x xs (is_false x (h zero)) (all_fine xs (λ n. h (suc n)))
+  where
+    is_false : (x : Bool) → (x ≡ true → ⊥) → x ≡ false
+    is_false true h = absurd (h refl)
+    is_false false h = refl
+
+module _ (es : List LoopEntry) (ns : List Never) where
   loops_same : (before : Option ℕ) (cs : List LoopClaim) → loop_flaws before (map (by_entries es) cs) ≡ loop_flaws before cs
   loops_same before [] = refl
   loops_same before (c ∷ cs) = ap (λ rest. not (is_aligned c.header && (is_aligned c.back && is_above before c.header)) ∷ rest) (loops_same (Some c.header) cs)
 
-  flaws_same : (c : Claims) → flaws (named es c) ≡ flaws c
-  flaws_same c = ap (λ own. exit_flaws None c.exits ++ (never_flaws None c.nevers ++ (region_flaws None c.regions ++ (own ++ fact_flaws c.facts)))) (loops_same None c.loops)
-
   module _ (image : Image) (c : Claims) where
-    exit_named : (n : ℕ) → IsFalseExit image c n → IsFalseExit image (named es c) n
+    abbrev exits_of : List Bool
+    exits_of = exit_flaws None c.exits
+
+    abbrev behind : List Bool
+    behind = region_flaws None c.regions ++ (loop_flaws None c.loops ++ fact_flaws c.facts)
+
+    -- the flaws are those of the claims, and those of the addresses that are never visited
+    flaws_named : flaws (named es ns c) ≡ exits_of ++ (never_flaws None ns ++ behind)
+    flaws_named = ap (λ own. exits_of ++ (never_flaws None ns ++ (region_flaws None c.regions ++ (own ++ fact_flaws c.facts)))) (loops_same None c.loops)
+
+    flaws_plain : c.nevers ≡ [] → flaws c ≡ exits_of ++ behind
+    flaws_plain none = ap (λ (vs : List Never). exits_of ++ (never_flaws None vs ++ behind)) none
+
+    sound_plain : c.nevers ≡ [] → AreSound (named es ns c) → AreSound c
+    sound_plain none sound =
+        let all = subst (All Fine) flaws_named sound in
+        let front = All-append_front Fine exits_of (never_flaws None ns ++ behind) all in
+        let back = All-append_back Fine (never_flaws None ns) behind (All-append_back Fine exits_of (never_flaws None ns ++ behind) all) in
+        subst (All Fine) (sym (flaws_plain none)) (All-append Fine exits_of behind front back)
+
+    pub sound_named : c.nevers ≡ [] → AreSound c → All Fine (never_flaws None ns) → AreSound (named es ns c)
+    sound_named none sound own =
+        let all = subst (All Fine) (flaws_plain none) sound in
+        let front = All-append_front Fine exits_of behind all in
+        let back = All-append_back Fine exits_of behind all in
+        subst (All Fine) (sym flaws_named) (All-append Fine exits_of (never_flaws None ns ++ behind) front (All-append Fine (never_flaws None ns) behind own back))
+
+    exit_named : (n : ℕ) → IsFalseExit image c n → IsFalseExit image (named es ns c) n
     exit_named n h = record { listed = h.listed; reached = h.reached; other = h.other }
 
-    exit_plain : (n : ℕ) → IsFalseExit image (named es c) n → IsFalseExit image c n
+    exit_plain : (n : ℕ) → IsFalseExit image (named es ns c) n → IsFalseExit image c n
     exit_plain n h = record { listed = h.listed; reached = h.reached; other = h.other }
 
-    bad_named : (n : ℕ) → IsBad image c n → IsBad image (named es c) n
-    bad_named n h = ⊎_elim
-        (λ (flaw : slice_index_or (flaws c) n false ≡ true). inl (subst (λ fs. slice_index_or fs n false ≡ true) (sym (flaws_same c)) flaw))
-        (λ (exit : IsFalseExit image c n). inr (exit_named n exit))
-        h
+    pub none_bad : c.nevers ≡ [] → AreSound c → ((n : ℕ) → IsFalseExit image c n → ⊥) → All Fine (never_flaws None ns) → (n : ℕ) → IsBad image (named es ns c) n → ⊥
+    none_bad none sound exits own n bad = ⊎_elim
+        (λ (flaw : slice_index_or (flaws (named es ns c)) n false ≡ true). no_flaw (flaws (named es ns c)) (sound_named none sound own) n flaw)
+        (λ (exit : IsFalseExit image (named es ns c) n). exits n (exit_plain n exit))
+        bad
 
-    bad_plain : (n : ℕ) → IsBad image (named es c) n → IsBad image c n
-    bad_plain n h = ⊎_elim
-        (λ (flaw : slice_index_or (flaws (named es c)) n false ≡ true). inl (subst (λ fs. slice_index_or fs n false ≡ true) (flaws_same c) flaw))
-        (λ (exit : IsFalseExit image (named es c) n). inr (exit_plain n exit))
-        h
-
-    pub system_same : (s : System) → IsSystemOf image (named es c) s → IsSystemOf image c (under c s)
-    system_same s h = record {
+    pub system_same : (s : System) → c.nevers ≡ [] → IsSystemOf image (named es ns c) s → IsSystemOf image c (under c s)
+    system_same s none h = record {
       same_entry = h.same_entry;
       same_claims = refl;
-      no_bad = λ n bad. h.no_bad n (bad_named n bad);
+      no_bad = λ n bad. ⊎_elim
+          (λ (flaw : slice_index_or (flaws c) n false ≡ true). no_flaw (flaws c) (sound_plain none (all_fine (flaws (named es ns c)) (λ k own. h.no_bad k (inl own)))) n flaw)
+          (λ (exit : IsFalseExit image c n). h.no_bad n (inr (exit_named n exit)))
+          bad;
       code = h.code;
       ascending = h.ascending;
       reached = h.reached;
       own = h.own;
     }
 
-    pub bad_same : (n : ℕ) → IsFirstBad image (named es c) n → IsFirstBad image c n
-    bad_same n h = record { holds = bad_plain n h.holds; before = λ k less bad. h.before k less (bad_named k bad) }
-
-    no_code_named : (a : ℕ) → IsNoCode image c a → IsNoCode image (named es c) a
-    no_code_named a h = record { reached = h.reached; no_code = h.no_code }
-
-    no_code_plain : (a : ℕ) → IsNoCode image (named es c) a → IsNoCode image c a
-    no_code_plain a h = record { reached = h.reached; no_code = h.no_code }
-
-    pub no_code_same : (a : ℕ) → IsFirstNoCode image (named es c) a → IsFirstNoCode image c a
-    no_code_same a h = record {
-      no_bad = λ n bad. h.no_bad n (bad_named n bad);
-      least = record { holds = no_code_plain a h.least.holds; before = λ k less none. h.least.before k less (no_code_named k none) };
-    }
+    pub no_code_same : (a : ℕ) → IsFirstNoCode image (named es ns c) a → IsNoCode image c a
+    no_code_same a h = record { reached = h.least.holds.reached; no_code = h.least.holds.no_code }

@@ -1,27 +1,27 @@
-// The laws of names.
-ghost use Rattle.compile_claims.specs.Laws.{BoundsAreSame, CertificatesAreSame, FaultsAreSame, RunsKeepSame, SystemsAreSame};
+// The laws of claims that are handed on.
+ghost use Rattle.compile_claims.specs.Laws.{BoundsAreSame, NoCodeIsSame, NoneIsBad, RunsKeepSame, SystemsAreSame};
 
-/// An image has the same system under claims by the loops of the source.
+/// An image has the same system under the claims that are handed on.
 pub fn systems_are_same()
     ensures { SystemsAreSame }
 {}
 
-/// Where it has none, it is for the same reason.
-pub fn faults_are_same()
-    ensures { FaultsAreSame }
+/// None of these claims is bad where none was and the addresses that are never visited ascend.
+pub fn none_is_bad()
+    ensures { NoneIsBad }
 {}
 
-/// A search can be made in it as well.
+/// What is reached and no code under them is so without them.
+pub fn no_code_is_same()
+    ensures { NoCodeIsSame }
+{}
+
+/// A search can be made in the system as well.
 pub fn bounds_are_same()
     ensures { BoundsAreSame }
 {}
 
-/// A certificate is accepted as well.
-pub fn certificates_are_same()
-    ensures { CertificatesAreSame }
-{}
-
-/// A run keeps the claims as well.
+/// A run keeps the claims as well where it visits no address that is never visited.
 pub fn runs_keep_same()
     ensures { RunsKeepSame }
 {}

@@ -11,9 +11,8 @@ use Rattle.rv_core.specs.Runs.{setup}
 use Rattle.rv_core.specs.Table.{Table}
 use Rattle.rv_core.proofs.Constancy.{mrun-fetched}
 use Rattle.code_flow_system.specs.declared.cert.Cert.{Cert}
-use Rattle.code_flow_system.specs.Claims.{Claims}
 use Rattle.code_flow_system.specs.KeptRuns.{KeepsClaims, RunsAreFlows}
-use Rattle.code_flow_system.specs.Systems.{System, IsSystemOf}
+use Rattle.code_flow_system.specs.Systems.{System}
 use Rattle.code_flow_system.proofs.DualityLemmas.{bounds_runs}
 use Rattle.code_flow_system.proofs.RunLemmas.{runs_are_flows}
 use Rattle.high_ir.specs.Runs.{Run, count_of, hrun}
@@ -25,7 +24,7 @@ use Rattle.low_ir.specs.Places.{Assignment, Placed, Placing, assignment, placed}
 use Rattle.image_frames.specs.Memories.{Placement}
 use Rattle.image_definition.specs.Images.{image_in}
 use Rattle.lower_program.specs.Kept.{IsKept, Keeps}
-use Rattle.simulation_kept.specs.Laws.{claims_on, run_of}
+use Rattle.simulation_kept.specs.Laws.{run_of}
 use Rattle.layout_kept.specs.Kept.{KeepsRun}
 use Rattle.compile_image_law.specs.Laws.{EndsWithin, IsCompiled, passed}
 
@@ -38,7 +37,7 @@ sum_counted f g same (k ∷ ks) =
     ∙ pos-+ℤ-pos (g k) (sum_by g ks)
     ∙ ap pos (sym (sum_by-cons g k ks))
 
-module _ (made : Listing) (shown : Shown) (p : Program) (q : Low) (pl : Placement) (ps : List Placing) (s : System) (t : Table) (c : Cert) (compiled : IsCompiled p q pl ps s t c) (input : List ℕ) (bytes : All (λ b. b < 256) input) where
+module _ (made : Listing) (shown : Shown) (p : Program) (q : Low) (pl : Placement) (ps : List Placing) (s : System) (t : Table) (c : Cert) (compiled : IsCompiled p made q pl ps s t c) (input : List ℕ) (bytes : All (λ b. b < 256) input) where
   abbrev a : Assignment
   a = assignment ps
 
@@ -48,36 +47,36 @@ module _ (made : Listing) (shown : Shown) (p : Program) (q : Low) (pl : Placemen
   -- the flow system says of the image's runs what it says of all
   flows : RunsAreFlows (image_in pl over) t s
   flows =
-      let system = compiled.system in
-      runs_are_flows (image_in pl over) t s (subst (λ claims. IsSystemOf (image_in pl over) claims s) (sym system.same_claims) system)
+      runs_are_flows (image_in pl over) t s compiled.system
       (λ table given m at. ap decoded (mrun-fetched (setup (image_in pl over) table given) m at compiled.keeps_low.loadable))
 
-  in_time : (n : ℕ) → KeepsClaims (claims_on pl over) (run_of pl over t input n) → (run_of pl over t input n).state.cycles ≤ c.cycles
-  in_time n keeps = bounds_runs (image_in pl over) t s c compiled.scale compiled.accepted flows input n (subst (λ (claims : Claims). KeepsClaims claims (run_of pl over t input n)) (sym compiled.system.same_claims) keeps)
+  in_time : (n : ℕ) → KeepsClaims s.claims (run_of pl over t input n) → (run_of pl over t input n).state.cycles ≤ c.cycles
+  in_time n keeps = bounds_runs (image_in pl over) t s c compiled.scale compiled.accepted flows input n keeps
 
   -- a run of the machine that ends as one of the low program
-  of_run : (r : Run) → ShowsAlike made shown r → (kept : Keeps q input r) → (n : ℕ) → KeepsRun pl ps q t input r.value kept.world n → EndsWithin made shown pl over t input c.cycles n
+  of_run : (r : Run) → ShowsAlike made shown r → (kept : Keeps q input r) → (n : ℕ) → KeepsRun pl ps q t input r.value kept.world n → EndsWithin made shown pl over s.claims t input c.cycles n
   of_run r alike kept n ran =
       let ends = ran.ends in
-      let keeps = ran.claims s compiled.system in
       let mark : (k : ℕ) → passed pl over (run_of pl over t input n) k ≡ pos (count_of k r.trace) = λ k.
       ran.passes k ∙ ap pos (ap (count_by (λ x. x == k)) kept.marks) in
+      let nevers : All (λ v. passed pl over (run_of pl over t input n) v.mark ≡ pos 0) made.nevers = λ k d lt. mark _ ∙ ap pos (alike.nevers k d lt) in
+      let keeps = compiled.kept (run_of pl over t input n) nevers (ran.claims compiled.own compiled.has_own) in
       record {
         shows = record {
           ending = ends.ending ∙ ap (λ v. Exited (signed v)) alike.value;
           output = ends.output ∙ kept.output ∙ alike.output;
           counts = λ k d lt. sum_counted (passed pl over (run_of pl over t input n)) (λ m. count_of m r.trace) mark _ ∙ ap pos (sym (alike.counts k d lt));
-          nevers = λ k d lt. mark _ ∙ ap pos (alike.nevers k d lt);
+          nevers = nevers;
         };
         keeps = keeps;
         within = in_time n keeps;
       }
 
-  by_run : (o : Option Run) → RunsAlike made (Some shown) o → IsKept q input o → (n : ℕ) × EndsWithin made shown pl over t input c.cycles n
+  by_run : (o : Option Run) → RunsAlike made (Some shown) o → IsKept q input o → (n : ℕ) × EndsWithin made shown pl over s.claims t input c.cycles n
   by_run None alike kept = absurd alike
   by_run (Some r) alike kept =
       let ran = compiled.keeps_low.runs t input bytes kept.steps r.value kept.world kept.good in
       (ran.0, of_run r alike kept ran.0 ran.1)
 
-  pub image_shows : (old : Behaviour) → Carries old p made → old.runs input ≡ Some shown → (n : ℕ) × EndsWithin made shown pl over t input c.cycles n
+  pub image_shows : (old : Behaviour) → Carries old p made → old.runs input ≡ Some shown → (n : ℕ) × EndsWithin made shown pl over s.claims t input c.cycles n
   image_shows old carries is = by_run (hrun p input) (subst (λ o. RunsAlike made o (hrun p input)) is (carries.runs input)) (compiled.keeps_program.runs compiled.whole input bytes)

@@ -7,7 +7,8 @@ use Rattle.rv_core.specs.Runs.{Run}
 use Rattle.rv_core.specs.Table.{Table}
 use Rattle.code_flow_system.specs.declared.cert.Cert.{Cert}
 use Rattle.code_flow_system.specs.Certificates.{Accepts}
-use Rattle.code_flow_system.specs.Systems.{System}
+use Rattle.code_flow_system.specs.Claims.{Claims}
+use Rattle.code_flow_system.specs.Systems.{IsSystemOf, System}
 use Rattle.code_flow_system.specs.KeptRuns.{visit_count, KeepsClaims}
 use Rattle.facts_definitions.specs.declared.facts.Facts.{Facts}
 use Rattle.meaning_semantics.specs.Runs.{meaning}
@@ -22,6 +23,7 @@ use Rattle.low_ir.specs.Code.{Low}
 use Rattle.low_ir.specs.Places.{Placed, Placing, assignment, placed}
 use Rattle.image_frames.specs.Memories.{Placement}
 use Rattle.claims_definition.specs.Listed.{places_of}
+use Rattle.image_definition.specs.Images.{image_in}
 use Rattle.claims_image.specs.Images.{laid_of}
 use Rattle.lower_law.specs.Programs.{KeepsProgram}
 use Rattle.simulation_kept.specs.Laws.{claims_on, run_of, HasSystem}
@@ -39,38 +41,47 @@ pub record ShowsIt (c : Listing) (shown : Shown) (pl : Placement) (p : Placed) (
   pub counts : All (λ e. int_sum_by (passed pl p r) e.new ≡ pos (shown.counts e.old)) c.marks
   pub nevers : All (λ v. passed pl p r v.mark ≡ pos 0) c.nevers
 
--- it keeps the claims on the image, and takes no more than so many cycles
-pub record EndsWithin (c : Listing) (shown : Shown) (pl : Placement) (p : Placed) (t : Table) (input : List ℕ) (cycles n : ℕ) : Type 0 where
+-- it keeps these claims on the image, and takes no more than so many cycles
+pub record EndsWithin (c : Listing) (shown : Shown) (pl : Placement) (p : Placed) (claims : Claims) (t : Table) (input : List ℕ) (cycles n : ℕ) : Type 0 where
   pub shows : ShowsIt c shown pl p (run_of pl p t input n)
-  pub keeps : KeepsClaims (claims_on pl p) (run_of pl p t input n)
+  pub keeps : KeepsClaims claims (run_of pl p t input n)
   pub within : (run_of pl p t input n).state.cycles ≤ cycles
 
--- a program in the high form and its low program, whose image keeps it, and a flow system of that with an accepted certificate
-pub record IsCompiled (p : Program) (q : Low) (pl : Placement) (ps : List Placing) (s : System) (t : Table) (c : Cert) : Type 0 where
+-- a run that keeps the claims on the image, and passes no never mark, keeps these claims as well
+abbrev pub AreKept : Listing → Placement → Placed → Claims → Type 0
+AreKept made pl p claims = (r : Run) → All (λ v. passed pl p r v.mark ≡ pos 0) made.nevers → KeepsClaims (claims_on pl p) r → KeepsClaims claims r
+
+-- a program in the high form and its low program, whose image keeps it, and the flow system of that under other claims, with an accepted certificate
+pub record IsCompiled (p : Program) (made : Listing) (q : Low) (pl : Placement) (ps : List Placing) (s : System) (t : Table) (c : Cert) : Type 0 where
   pub whole : IsWhole p
   pub keeps_program : KeepsProgram p q
   pub keeps_low : KeepsLow pl ps q
-  pub system : HasSystem pl (placed (assignment ps) q) s
+  -- the image has a system under the claims on it
+  pub own : System
+  pub has_own : HasSystem pl (placed (assignment ps) q) own
+  -- and one under those
+  pub system : IsSystemOf (image_in pl (placed (assignment ps) q)) s.claims s
+  pub kept : AreKept made pl (placed (assignment ps) q) s.claims
   pub scale : 0 < c.scale
   pub accepted : Accepts t s c
 
 -- whatever is shown on an input of bytes
 abbrev pub ImagesShow : Type 0
 ImagesShow =
-    (old : Behaviour) (p : Program) (made : Listing) (q : Low) (pl : Placement) (ps : List Placing) (s : System) (t : Table) (c : Cert) → Carries old p made → IsCompiled p q pl ps s t c
-    → (input : List ℕ) → All (λ b. b < 256) input → (shown : Shown) → old.runs input ≡ Some shown → (n : ℕ) × EndsWithin made shown pl (placed (assignment ps) q) t input c.cycles n
+    (old : Behaviour) (p : Program) (made : Listing) (q : Low) (pl : Placement) (ps : List Placing) (s : System) (t : Table) (c : Cert) → Carries old p made → IsCompiled p made q pl ps s t c
+    → (input : List ℕ) → All (λ b. b < 256) input → (shown : Shown) → old.runs input ≡ Some shown → (n : ℕ) × EndsWithin made shown pl (placed (assignment ps) q) s.claims t input c.cycles n
 
 -- a run of the machine ends as main does, with its value and its output, passed the copies of each function and marker together as
--- often as the source counts it, keeps the claims on the image, and takes no more than so many cycles
-pub record EndsAsMain (made : Listing) (output : List ℕ) (value : ℤ) (counts : List ℕ) (pl : Placement) (p : Placed) (t : Table) (input : List ℕ) (cycles n : ℕ) : Type 0 where
+-- often as the source counts it, keeps these claims on the image, and takes no more than so many cycles
+pub record EndsAsMain (made : Listing) (output : List ℕ) (value : ℤ) (counts : List ℕ) (pl : Placement) (p : Placed) (claims : Claims) (t : Table) (input : List ℕ) (cycles n : ℕ) : Type 0 where
   pub ending : (run_of pl p t input n).state.ending ≡ Exited value
   pub written : (run_of pl p t input n).state.world.output ≡ output
   pub counted : All (λ e. int_sum_by (passed pl p (run_of pl p t input n)) e.new ≡ pos (slice_index_or counts e.old 0)) made.marks
-  pub keeps : KeepsClaims (claims_on pl p) (run_of pl p t input n)
+  pub keeps : KeepsClaims claims (run_of pl p t input n)
   pub within : (run_of pl p t input n).state.cycles ≤ cycles
 
 -- whatever a source means on an input of bytes
 abbrev pub SourcesShow : Type 0
 SourcesShow =
-    (source : typed.Program) (names : List (List ℕ)) (facts : Facts) (p : Program) (made : Listing) (q : Low) (pl : Placement) (ps : List Placing) (s : System) (t : Table) (cert : Cert) → Carries (source_behaviour source names facts) p made → IsCompiled p q pl ps s t cert
-    → (input : List ℕ) → All (λ b. b < 256) input → (output : List ℕ) (value : ℤ) (counts : List ℕ) → meaning source names facts input ≡ Done output value counts → (n : ℕ) × EndsAsMain made output value counts pl (placed (assignment ps) q) t input cert.cycles n
+    (source : typed.Program) (names : List (List ℕ)) (facts : Facts) (p : Program) (made : Listing) (q : Low) (pl : Placement) (ps : List Placing) (s : System) (t : Table) (cert : Cert) → Carries (source_behaviour source names facts) p made → IsCompiled p made q pl ps s t cert
+    → (input : List ℕ) → All (λ b. b < 256) input → (output : List ℕ) (value : ℤ) (counts : List ℕ) → meaning source names facts input ≡ Done output value counts → (n : ℕ) × EndsAsMain made output value counts pl (placed (assignment ps) q) s.claims t input cert.cycles n

@@ -2,8 +2,9 @@
 //!
 //! Proved, by calls with empty bodies: [`images_show`] and [`sources_show`]. Where a program in the high form carries on another one, or a source, and an
 //! image keeps its low program, each run that is kept of what it carries on is one of the machine on the same input of bytes: it exits
-//! with the same value and output, passes the copies of each mark together as often as was counted, keeps all claims on the image,
-//! and takes no more cycles than an accepted certificate says. So the forward simulations from the source to the machine are one:
+//! with the same value and output, passes the copies of each mark together as often as was counted and no never mark, keeps the claims
+//! of the certificate's flow system, and takes no more cycles than the accepted certificate says. These claims are any that a run
+//! keeps which keeps those on the image and passes no never mark. So the forward simulations from the source to the machine are one:
 //! where main ends, the machine ends as it does.
 //!
 //! The crate knows not how any of them is proved.

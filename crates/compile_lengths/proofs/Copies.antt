@@ -1,15 +1,20 @@
 -- How long the copy lines of a source are.
-use Rattle.std.proofs.Common.{◌≡◌, ℕ, zero, suc, ◌+◌, ◌*◌, ◌≤◌, List, [], ◌∷◌, ◌++◌, length, map, length-append, refl, sym, ap, ◌∙◌, subst, arith, All}
+use Rattle.std.proofs.Common.{◌≡◌, ℕ, zero, suc, ◌+◌, ◌*◌, ◌≤◌, List, [], ◌∷◌, ◌++◌, length, map, length-append, refl, ap, ◌∙◌, subst, arith, All}
 use Rattle.std.specs.Prelude.{slice_index_or, sum_by}
 use Rattle.std.specs.List.{flat_map, range_with_len}
+use Rattle.std.proofs.lemmas.List.{length-map}
 use Rattle.std.proofs.lemmas.List.Concat.{flat_map-cons}
 use Rattle.std.proofs.lemmas.List.Elements.{All-head, All-tail}
 use Rattle.std.proofs.lemmas.List.Sorted.{length_permutation}
 use Rattle.std.proofs.lemmas.List.Sums.{sum_by-append, sum_by-cons}
 use Rattle.c_tree.specs.declared.expression.NameId.{NameId}
+use Rattle.code_flow_system.specs.declared.claims.Never.{Never}
+use Rattle.high_ir.specs.declared.copies.NeverMark.{NeverMark}
 use Rattle.high_pass.specs.Listing.{HasEachBelow, Listing, MarkEntry, listed_marks}
 use Rattle.high_pass.proofs.Counting.{sum_by-HasEachBelow, sum_by-flat_map}
-use Rattle.compile_lines.specs.CopyLines.{AreLinesOf, places_at}
+use Rattle.compile_claims.specs.Named.{never_at, nevers_at}
+use Rattle.compile_claims.specs.Places.{places_at}
+use Rattle.compile_lines.specs.CopyLines.{AreLinesOf}
 use Rattle.compile_names.specs.Laws.{IsNamed}
 use Rattle.report_sizes.specs.Room.{copies_room}
 use Rattle.report_text.specs.declared.entries.CopyLine.{CopyLine}
@@ -111,3 +116,25 @@ module _ (names : List (List ℕ)) (places : List (List ℕ)) where
       let few = places_few ids c.marks cs h in
       let all = marks_few c n each in
       omega (arith, split, own, many, few, all)
+
+  -- one for each address of a never mark
+  all_nevers : (vs : List NeverMark) → length (flat_map (nevers_at places) vs) ≡ sum_by places_of (map (λ (v : NeverMark). v.mark) vs)
+  all_nevers [] = refl
+  all_nevers (v ∷ vs) =
+      let parts : length (flat_map (nevers_at places) (v ∷ vs)) ≡ length (nevers_at places v ++ flat_map (nevers_at places) vs) = ap (λ (l : List Never). length l) (flat_map-cons (nevers_at places) v vs) in
+      let both = length-append (nevers_at places v) (flat_map (nevers_at places) vs) in
+      let own = length-map (places_at places v.mark) (never_at v) in
+      let rest = all_nevers vs in
+      let all = sum_by-cons places_of v.mark (map (λ (x : NeverMark). x.mark) vs) in
+      omega (arith, parts, both, own, rest, all)
+
+  pub nevers_few : (c : Listing) (n : ℕ) → HasEachBelow n (listed_marks c) → length (flat_map (nevers_at places) c.nevers) ≤ sum_by (λ (l : List ℕ). length l) places
+  nevers_few c n each =
+      let copies = flat_map (λ (e : MarkEntry). e.new) c.marks in
+      let nevers = map (λ (v : NeverMark). v.mark) c.nevers in
+      let same = all_nevers c.nevers in
+      let both = sum_by-append places_of copies nevers in
+      let once = sum_by-HasEachBelow places_of n (listed_marks c) each in
+      let row = ranged places_of 0 n in
+      let all : summed places_of (upto 0 n) ≤ sum_by (λ (l : List ℕ). length l) places = first_numbers (λ (l : List ℕ). length l) [] refl n places in
+      omega (arith, same, both, once, row, all)

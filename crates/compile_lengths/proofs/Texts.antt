@@ -1,11 +1,13 @@
 -- The texts of what a source becomes are short.
-use Rattle.std.proofs.Common.{◌≡◌, ℕ, ◌≤◌, List, ◌++◌, length, sym, ap, ◌∙◌, subst, arith}
+use Rattle.std.proofs.Common.{◌≡◌, ℕ, ◌+◌, ◌^◌, ◌<◌, ◌≤◌, List, ◌++◌, length, sym, ap, ◌∙◌, subst, arith}
 use Rattle.std.specs.Prelude.{sum_by}
+use Rattle.std.specs.List.{flat_map}
 use Rattle.std.proofs.lemmas.List.{length-map}
+use Rattle.std.proofs.lemmas.List.Sorted.{length_permutation}
 use Rattle.rv_core.specs.Images.{AreLoadable, Image}
 use Rattle.rv_core.specs.Table.{Table}
 use Rattle.elf_image.specs.Text.{text_of}
-use Rattle.code_flow_system.specs.Claims.{Claims}
+use Rattle.code_flow_system.specs.Claims.{Claims, claim_count}
 use Rattle.code_flow_sizes.specs.Laws.{HasFew}
 use Rattle.code_flow_sizes.proofs.Few.{has_few}
 use Rattle.facts_definitions.specs.declared.facts.Facts.{Facts}
@@ -23,7 +25,7 @@ use Rattle.report_sizes.proofs.Lengths.{short as text_short}
 use Rattle.report_text.specs.Lines.{report_text}
 use Rattle.report_text.specs.Reports.{Report}
 use Rattle.promise_compiler.specs.Lengths.{AreShort}
-use Rattle.compile_claims.specs.Named.{by_entries, named}
+use Rattle.compile_claims.specs.Named.{by_entries, named, nevers_at}
 use Rattle.compile_made.specs.declared.made.Made.{Made}
 use Rattle.compile_made.specs.Made.{IsMade, copies_of, high_of}
 use Rattle.compile_names.proofs.Counted.{counted_named}
@@ -31,10 +33,30 @@ use Rattle.compile_reports.specs.Reported.{IsReported}
 use Rattle.compile_reports.proofs.Openings.{functions_counted}
 use Rattle.compile_reports.proofs.Reports.{is_report}
 use Rattle.compile_kept.specs.Limits.{IsLimited, nothing}
-use Rattle.compile_lengths.proofs.Copies.{copies_few}
+use Rattle.compile_lengths.proofs.Copies.{copies_few, nevers_few}
 use Rattle.compile_lengths.proofs.Counts.{claims_loops, exits_few, image_short, low_functions, places_few, regions_few}
 use Rattle.compile_lengths.proofs.Names.{functions_short, ids_append, ids_length, markers_short}
 use Rattle.compile_lengths.proofs.Shares.{shares_few}
+
+-- how many claims there are
+
+module _ (names : List (List ℕ)) (program : Program) (facts : Facts) (m : Made) (made : IsMade names program facts m) where
+  -- one for each address of a never mark
+  pub nevers_counted : length (flat_map (nevers_at m.laid.lists.places.items) (copies_of m).nevers) ≤ 98304
+  nevers_counted =
+      let places = m.laid.lists.places.items in
+      let few = nevers_few names places (copies_of m) (high_of m).marks made.carried.carries.lists.marks in
+      let standing = places_few (high_of m) made.carried.is_high made.carried.limited m.code made.lowered m.laid made.in_memory m.code.low.marks in
+      let same : sum_by (λ (l : List ℕ). length l) places ≡ sum_by (λ (l : List ℕ). length l) (places_below (laid_of nothing (placed_of m.code)) m.code.low.marks) = ap (λ ls. sum_by (λ (l : List ℕ). length l) ls) made.in_memory.laid.lists.places in
+      omega (arith, few, standing, same)
+
+  pub claims_counted : claim_count m.laid.claimed.claims + length (flat_map (nevers_at m.laid.lists.places.items) (copies_of m).nevers) < 2 ^ 32
+  claims_counted =
+      let nevers = nevers_counted in
+      let exits = exits_few (high_of m) made.carried.is_high made.carried.limited m.code made.lowered m.laid made.in_memory in
+      let regions = regions_few (high_of m) made.carried.is_high made.carried.limited m.code made.lowered m.laid made.in_memory in
+      let loops = claims_loops (high_of m) made.carried.is_high made.carried.limited m.code made.lowered m.laid made.in_memory in
+      subst (λ (c : Claims). claim_count c + length (flat_map (nevers_at m.laid.lists.places.items) (copies_of m).nevers) < 2 ^ 32) (sym made.in_memory.laid.claimed.claims) (omega (arith, nevers, exits, regions, loops))
 
 module _ (source : List ℕ) (names : List (List ℕ)) (program : Program) (facts : Facts) (m : Made) (t : Table) (r : Report) (small : length source ≤ 1048576) (is : IsSource source names program facts) (made : IsMade names program facts m) (reported : IsReported t names facts m r) (typed : IsTyped r) where
   abbrev own : Laid
@@ -46,8 +68,15 @@ module _ (source : List ℕ) (names : List (List ℕ)) (program : Program) (fact
   limited : IsLimited (high_of m)
   limited = made.carried.limited
 
-  claims_are : r.claims ≡ named es (claims_of own)
-  claims_are = reported.claims ∙ ap (named es) made.in_memory.laid.claimed.claims
+  claims_are : r.claims ≡ named es r.claims.nevers (claims_of own)
+  claims_are = reported.claims.claims ∙ ap (named es r.claims.nevers) made.in_memory.laid.claimed.claims
+
+  nevers : length r.claims.nevers ≤ 98304
+  nevers =
+      let places = m.laid.lists.places.items in
+      let few = nevers_counted names program facts m made in
+      let same = length_permutation (flat_map (nevers_at places) (copies_of m).nevers) r.claims.nevers reported.claims.nevers.all in
+      omega (arith, few, same)
 
   exits : length r.claims.exits ≤ 1589248
   exits = subst (λ (c : Claims). length c.exits ≤ 1589248) (sym claims_are) (exits_few (high_of m) made.carried.is_high limited m.code made.lowered m.laid made.in_memory)
@@ -95,7 +124,6 @@ module _ (source : List ℕ) (names : List (List ℕ)) (program : Program) (fact
       let image = image_short (high_of m) made.carried.is_high limited m.code made.lowered m.laid made.in_memory in
       let same = ap (λ i. length (text_of i)) made.in_memory.laid.image in
       let report = is_report source names program facts m t r is made reported in
-      let nevers = ap (λ (c : Claims). length c.nevers) claims_are in
       let facts_none = ap (λ (c : Claims). facts_room c.facts) claims_are in
       let columns = ap columns_room reported.columns in
       let text = text_short r report typed in

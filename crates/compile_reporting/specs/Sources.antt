@@ -1,7 +1,6 @@
 -- A source that was read, and what was made of it.
 use Rattle.std.specs.Prelude.{ℕ, Bool, List, map}
 use Rattle.rv_core.specs.Table.{Table}
-use Rattle.code_flow_system.specs.Claims.{Claims}
 use Rattle.facts_front.specs.declared.reading.Source.{Source}
 use Rattle.facts_front.specs.Fronts.{IsSource, IsSourceBy}
 use Rattle.types_tree.specs.Tree.{Program}
@@ -9,9 +8,8 @@ use Rattle.types_tree.specs.View.{program_of}
 use Rattle.compile_lines.specs.Shares.{share_of}
 use Rattle.report_text.specs.declared.entries.Share.{Share}
 use Rattle.report_text.specs.Reports.{Report}
-use Rattle.compile_claims.specs.Named.{named}
 use Rattle.compile_made.specs.declared.made.Made.{Made}
-use Rattle.compile_made.specs.Made.{IsMade, copies_of}
+use Rattle.compile_made.specs.Made.{IsMade}
 use Rattle.compile_reports.specs.Reported.{IsReported}
 
 abbrev pub names_of : Source → List (List ℕ)
@@ -32,10 +30,6 @@ pub record IsMadeOf (s : Source) (m : Made) : Type 0 where
   pub text : List ℕ
   pub is_source : IsOf text s
   pub is_made : IsMade (names_of s) (tree_of s) s.facts m
-
--- the claims on its image, by the loops of the source
-abbrev pub claims_of : Made → Claims
-claims_of m = named (copies_of m).loops m.laid.claimed.claims
 
 -- its ranges of code, before their parts are known
 abbrev pub ranges_of : Source → Made → List Share

@@ -7,8 +7,9 @@ ghost use Rattle.code_flow_system.specs.Systems.{IsSystemOf};
 ghost use Rattle.path_search.specs.Kinds.{IsMarked};
 ghost use Rattle.report_shares.specs.Shares.{with_sum};
 ghost use Rattle.rv_core.specs.Table.{table_of};
+ghost use Rattle.compile_handed.specs.Handed.{AreHandedOn};
 ghost use Rattle.compile_reports.specs.Reported.{AreShared};
-ghost use Rattle.compile_reporting.specs.Sources.{IsMadeOf, claims_of, ranges_of};
+ghost use Rattle.compile_reporting.specs.Sources.{IsMadeOf, ranges_of};
 ghost use Rattle.compile_reporting.specs.Found.{HasBound, IsBound};
 
 use code_flow::{CodeFault, system};
@@ -34,7 +35,7 @@ pub struct Found {
 /// The flow system of the image. Nothing but memory can be wanting.
 fn system_of(alloc: Global, source: &Source, made: &Made, claims: &Claims) -> Result<System, Memory>
     requires made { IsMadeOf source.now made.now }
-    requires claims { claims.now ≡ claims_of made.now }
+    requires claims { AreHandedOn made.now claims.now }
     ensures { IfOk result (IsSystemOf made.now.laid.image claims.now) }
 {
     made_have_systems();
@@ -55,7 +56,8 @@ fn bounded_of(
     costs: &Costs,
 ) -> Result<Bounded, Memory>
     requires made { IsMadeOf source.now made.now }
-    requires system { IsSystemOf made.now.laid.image (claims_of made.now) system.now }
+    requires claims { AreHandedOn made.now system.now.claims }
+    requires system { IsSystemOf made.now.laid.image system.now.claims system.now }
     ensures form { IfOk result (λ b. IsInForm system.now.claims b.cert) }
     ensures accepted { IfOk result (λ b. Accepts (table_of costs.now) system.now b.cert) }
     ensures kind { IfOk result (λ b. IsMarked b.kind b.cert.mark) }
@@ -122,7 +124,8 @@ fn find_in(
     costs: &Costs,
 ) -> Result<Found, Memory>
     requires made { IsMadeOf source.now made.now }
-    requires system { IsSystemOf made.now.laid.image (claims_of made.now) system.now }
+    requires claims { AreHandedOn made.now system.now.claims }
+    requires system { IsSystemOf made.now.laid.image system.now.claims system.now }
     ensures { IfOk result (IsBound (table_of costs.now) source.now made.now system.now) }
 {
     let ranges = ranges_of(alloc, source, made)?;
@@ -147,8 +150,8 @@ pub fn find(
     costs: &Costs,
 ) -> Result<Found, Memory>
     requires made { IsMadeOf source.now made.now }
-    requires claims { claims.now ≡ claims_of made.now }
-    ensures { IfOk result (HasBound (table_of costs.now) source.now made.now) }
+    requires claims { AreHandedOn made.now claims.now }
+    ensures { IfOk result (HasBound (table_of costs.now) source.now made.now claims.now) }
 {
     let system = system_of(alloc, source, made, claims)?;
     match find_in(alloc, source, made, &system, costs) {

@@ -1,6 +1,6 @@
 //! The report on the image of a source: what is told of the source, the bound of the image's flow system, and both together.
 //!
-//! Proved: [`tell`] gives the copy lines of functions and markers and the claims by the loops of the source; [`find`] the bound
+//! Proved: [`tell`] gives the copy lines of functions and markers and the claims that are handed on; [`find`] the bound
 //! of the image's flow system under these claims, with a certificate that is accepted, and its shares; [`joined`] the report
 //! of both, whose numbers have the ranges of their types.
 //!

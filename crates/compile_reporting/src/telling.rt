@@ -1,13 +1,15 @@
 // What a report tells of the image of a source.
-ghost use Rattle.std.specs.Prelude.{◌≡◌, ◌++◌, IfOk};
+ghost use Rattle.std.specs.Prelude.{◌++◌, IfOk};
+ghost use Rattle.compile_handed.specs.Handed.{AreHandedOn};
 ghost use Rattle.compile_lines.specs.CopyLines.{AreLinesOf};
-ghost use Rattle.compile_reporting.specs.Sources.{IsMadeOf, claims_of, names_of};
+ghost use Rattle.compile_reporting.specs.Sources.{IsMadeOf, names_of};
 ghost use Rattle.compile_reporting.specs.Found.{IsTold};
 ghost use Rattle.compile_made.specs.Made.{copies_of};
 
 use code_flow_system::Claims;
 use compile_bounds::made_can_be_named;
 use compile_claims::by_source;
+use compile_lengths::claims_are_few;
 use compile_lines::copy_lines;
 use compile_made::Made;
 use facts_front::Source;
@@ -25,14 +27,16 @@ pub struct Told {
 /// The claims on the image, by the loops of the source.
 fn claims_of(alloc: Global, source: &Source, made: &Made) -> Result<Claims, Memory>
     requires { IsMadeOf source.now made.now }
-    ensures { IfOk result (λ c. c ≡ claims_of made.now) }
+    ensures { IfOk result (AreHandedOn made.now) }
 {
     made_can_be_named();
+    claims_are_few();
     by_source(
         alloc,
         &made.laid.claimed.claims,
-        &made.stages.last.copies.loops,
+        &made.stages.last.copies,
         made.stages.last.program.loops,
+        &made.laid.lists.places,
     )
 }
 

@@ -1,5 +1,4 @@
 pub mod Names
-pub mod Places
 pub mod Copies
 pub mod Orders
 pub mod Values

@@ -1,11 +1,7 @@
 -- What is reported of a source is a report.
-use Rattle.std.proofs.Common.{◌≡◌, ⊎_elim, ℕ, ◌+◌, ◌^◌, ◌<◌, ◌≤◌, List, [], ◌++◌, length, map, sym, ap, subst, inr, All, arith}
-use Rattle.std.specs.Prelude.{get_or, slice_index_or}
-use Rattle.std.specs.List.{range_with_len}
-use Rattle.std.proofs.lemmas.Bool.{cases_lt}
-use Rattle.std.proofs.lemmas.List.{get_or_past}
-use Rattle.std.proofs.lemmas.List.Elements.{All-map, All-nil}
-use Rattle.std.proofs.lemmas.List.FromFn.{get_or-map-range_with_len, length-map-range_with_len}
+use Rattle.std.proofs.Common.{◌≡◌, ℕ, ◌+◌, ◌^◌, ◌<◌, List, [], ◌++◌, length, map, sym, ap, subst, inr, All, arith}
+use Rattle.std.specs.Prelude.{get_or}
+use Rattle.std.proofs.lemmas.List.Elements.{All-nil}
 use Rattle.rv_core.specs.Table.{Table}
 use Rattle.code_flow_system.specs.Claims.{Claims}
 use Rattle.code_flow_system.specs.declared.cert.Mark.{Mark}
@@ -16,28 +12,30 @@ use Rattle.path_search.specs.Kinds.{IsMarked}
 use Rattle.report_text.specs.Forms.{AreInOrder, Ascend, IsColumn, IsCopyLine, IsReport, IsShare, MayShare, SharesAscend, mark_of}
 use Rattle.report_text.specs.Reports.{Report}
 use Rattle.report_text.specs.declared.entries.Share.{Share}
-use Rattle.compile_lines.specs.CopyLines.{places_at}
+use Rattle.compile_claims.specs.Places.{places_at}
 use Rattle.report_shares.specs.Shares.{share_sum}
 use Rattle.report_shares.proofs.FillLemmas.{sum_small}
 use Rattle.facts_definitions.specs.declared.facts.Facts.{Facts}
 use Rattle.facts_front.specs.Fronts.{IsSource}
 use Rattle.types_tree.specs.Tree.{Program}
 use Rattle.high_pass.specs.Listing.{Listing}
-use Rattle.high_pass.proofs.Elements.{All-append_front, at_or}
+use Rattle.high_pass.proofs.Elements.{All-append_front}
+use Rattle.low_ir.specs.Placings.{placed_of}
 use Rattle.claims_definition.specs.Laws.{IsPlaceOf, RangesAscend}
-use Rattle.claims_definition.specs.Listed.{Laid, places_of}
+use Rattle.claims_image.specs.Images.{laid_of}
 use Rattle.claims_lists.specs.Lists.{range_of}
-use Rattle.claims_places.specs.Places.{places_below}
+use Rattle.compile_kept.specs.Limits.{nothing}
 use Rattle.compile_names.specs.Laws.{IsNamed}
 use Rattle.compile_names.proofs.Counted.{counted_named}
 use Rattle.compile_made.specs.Made.{IsMade, copies_of, high_of}
 use Rattle.compile_made.specs.declared.made.Made.{Made}
 use Rattle.compile_reports.specs.Reported.{AreShared, IsReported}
 use Rattle.compile_reports.proofs.Copies.{AreOnce, copy_lines}
-use Rattle.compile_reports.proofs.Laid.{claims_named, laid, system_sound}
+use Rattle.compile_reports.proofs.Laid.{claims_named, system_sound}
 use Rattle.compile_reports.proofs.Orders.{sound_in_order}
-use Rattle.compile_reports.proofs.Places.{copies_once, rise_ascends, together_once}
+use Rattle.compile_handed.proofs.Places.{copies_once, together_once}
 use Rattle.compile_reports.proofs.Ranges.{each_share, shares, shares_ascend}
+use Rattle.compile_handed.proofs.Standing.{own_places, rising}
 use Rattle.compile_reports.proofs.Values.{value_small}
 
 same_kind : (kind : Kind) (mark : Mark) → IsMarked kind mark → mark ≡ mark_of kind
@@ -66,35 +64,8 @@ module _ (source : List ℕ) (names : List (List ℕ)) (program : Program) (fact
   named : All (IsNamed names) (facts.functions ++ facts.markers)
   named = counted_named source names program facts is
 
-  abbrev l : Laid
-  l = laid names program facts m t r made reported
-
   abbrev places : List (List ℕ)
   places = m.laid.lists.places.items
-
-  -- how many marks the program has
-  abbrev n : ℕ
-  n = m.code.low.marks
-
-  -- the addresses of each mark ascend
-  rising : (mark : ℕ) → Ascend (places_at places mark)
-  rising mark =
-      let each : All (λ k. Ascend (places_of l k)) (range_with_len 0 n) = λ k d lt.
-      let x = slice_index_or (range_with_len 0 n) k d in rise_ascends 0 (places_of l x) (made.in_memory.keeps_low.marks x).rise in
-      subst (λ lists. Ascend (places_at lists mark)) (sym made.in_memory.laid.lists.places) (at_or Ascend (places_below l n) mark [] (All-map Ascend (places_of l) (range_with_len 0 n) each) tt)
-
-  -- and are places of it
-  own_places : (mark : ℕ) → All (IsPlaceOf l mark) (places_at places mark)
-  own_places mark =
-      subst (λ lists. All (IsPlaceOf l mark) (places_at lists mark)) (sym made.in_memory.laid.lists.places)
-      (⊎_elim
-      (λ (low : mark < n). subst (All (IsPlaceOf l mark)) (sym (get_or-map-range_with_len (places_of l) 0 n mark mark [] low (plain mark))) (made.in_memory.keeps_low.marks mark).each)
-      (λ (past : n ≤ mark).
-      subst (All (IsPlaceOf l mark)) (sym (get_or_past (places_below l n) mark [] (subst (λ k. k ≤ mark) (sym (length-map-range_with_len (places_of l) 0 n)) past))) (All-nil (IsPlaceOf l mark)))
-      (cases_lt mark n))
-    where
-      plain : (k : ℕ) → 0 + k ≡ k
-      plain k = omega arith
 
   abbrev listing : Listing
   listing = copies_of m
@@ -103,7 +74,7 @@ module _ (source : List ℕ) (names : List (List ℕ)) (program : Program) (fact
   once : All (AreOnce names places) listing.marks
   once i d lt a =
       let e = get_or listing.marks i d in
-      together_once (IsPlaceOf l) made.in_memory.keeps_low.apart (places_at places) own_places rising a e.new (copies_once listing (high_of m).marks made.carried.carries.lists.marks i d lt)
+      together_once (IsPlaceOf (laid_of nothing (placed_of m.code))) made.in_memory.keeps_low.apart (places_at places) (own_places names program facts m made) (rising names program facts m made) a e.new (copies_once listing (high_of m).marks made.carried.carries.lists.marks i d lt)
 
   lines : All IsCopyLine r.names
   lines = copy_lines names places (facts.functions ++ facts.markers) listing.marks r.names named once reported.lines

@@ -12,7 +12,7 @@ use Rattle.compile_lines.specs.Shares.{share_of}
 use Rattle.report_shares.specs.Shares.{with_sum}
 use Rattle.report_text.specs.declared.entries.Share.{Share}
 use Rattle.report_text.specs.Reports.{Report}
-use Rattle.compile_claims.specs.Named.{named}
+use Rattle.compile_handed.specs.Handed.{AreHandedOn}
 use Rattle.compile_made.specs.declared.made.Made.{Made}
 use Rattle.compile_made.specs.Made.{copies_of}
 
@@ -26,7 +26,7 @@ AreShared (Spent columns pivots) with_parts shares = shares ≡ []
 pub record IsReported (costs : Table) (names : List (List ℕ)) (facts : Facts) (m : Made) (r : Report) : Type 0 where
   pub version : r.version ≡ 2
   pub lines : AreLinesOf names m.laid.lists.places.items (facts.functions ++ facts.markers) (copies_of m).marks r.names
-  pub claims : r.claims ≡ named (copies_of m).loops m.laid.claimed.claims
+  pub claims : AreHandedOn m r.claims
   pub columns : r.columns ≡ []
   -- the bound of the image's flow system under these claims
   pub system : System

@@ -1,3 +1,4 @@
 pub mod Places
 pub mod Counting
+pub mod Nevers
 pub mod Runs

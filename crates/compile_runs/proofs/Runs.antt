@@ -8,6 +8,7 @@ use Rattle.rv_core.specs.Images.{Image}
 use Rattle.rv_core.specs.Runs.{Run, mrun, setup}
 use Rattle.rv_core.specs.Table.{Table}
 use Rattle.code_flow_system.specs.Claims.{Claims}
+use Rattle.code_flow_system.specs.declared.claims.Never.{Never}
 use Rattle.code_flow_system.specs.KeptRuns.{KeepsClaims, visit_count}
 use Rattle.code_flow_system.specs.Systems.{IsSystemOf}
 use Rattle.facts_definitions.specs.declared.facts.Facts.{Facts}
@@ -24,22 +25,22 @@ use Rattle.image_definition.specs.Images.{image_in}
 use Rattle.simulation_kept.specs.Laws.{run_of}
 use Rattle.claims_definition.specs.Listed.{claims_of}
 use Rattle.claims_image.specs.Images.{laid_of}
-use Rattle.compile_image_law.specs.Laws.{EndsAsMain, IsCompiled, passed}
+use Rattle.compile_image_law.specs.Laws.{AreKept, EndsAsMain, IsCompiled, passed}
 use Rattle.compile_image_law.proofs.Sources.{source_shows}
 use Rattle.compile_kept.specs.Limits.{nothing}
 use Rattle.compile_claims.specs.Laws.{under}
 use Rattle.compile_claims.specs.Named.{named}
 use Rattle.compile_claims.proofs.Bounds.{run_keeps}
-use Rattle.compile_claims.proofs.Certificates.{accepted_same}
 use Rattle.compile_claims.proofs.Systems.{system_same}
 use Rattle.promise_report.specs.Runs.{RunsAs, RunsAsSource, visits_at}
 use Rattle.report_text.specs.declared.entries.CopyLine.{CopyLine}
 use Rattle.report_text.specs.Reports.{Report}
-use Rattle.compile_lines.specs.CopyLines.{places_at}
+use Rattle.compile_claims.specs.Places.{places_at}
 use Rattle.compile_made.specs.declared.made.Made.{Made}
 use Rattle.compile_made.specs.Made.{IsInMemory, IsMade, copies_of, high_of}
 use Rattle.compile_reports.specs.Reported.{IsReported}
 use Rattle.compile_runs.proofs.Counting.{IsSummed, lines_summed}
+use Rattle.compile_runs.proofs.Nevers.{nevers_kept, visits_some}
 use Rattle.compile_runs.proofs.Places.{places_same}
 
 module _ (names : List (List ℕ)) (program : Program) (facts : Facts) (m : Made) (t : Table) (r : Report) (made : IsMade names program facts m) (reported : IsReported t names facts m r) where
@@ -71,23 +72,39 @@ module _ (names : List (List ℕ)) (program : Program) (facts : Facts) (m : Made
   abbrev claims : Claims
   claims = claims_of (laid_of nothing over)
 
-  claims_are : r.claims ≡ named loops claims
-  claims_are = reported.claims ∙ ap (named loops) memory.laid.claimed.claims
+  abbrev nevers : List Never
+  nevers = r.claims.nevers
 
-  system_is : IsSystemOf image (named loops claims) reported.system
-  system_is = subst (λ c. IsSystemOf image c reported.system) claims_are (subst (λ i. IsSystemOf i r.claims reported.system) memory.laid.image reported.is_system)
+  claims_are : r.claims ≡ named loops nevers claims
+  claims_are = reported.claims.claims ∙ ap (named loops nevers) memory.laid.claimed.claims
 
-  compiled : IsCompiled (high_of m) low nothing placings (under claims reported.system) t r.cert
+  own_system : IsSystemOf image r.claims reported.system
+  own_system = subst (λ i. IsSystemOf i r.claims reported.system) memory.laid.image reported.is_system
+
+  system_is : IsSystemOf image (named loops nevers claims) reported.system
+  system_is = subst (λ c. IsSystemOf image c reported.system) claims_are own_system
+
+  -- a run that passes no never mark keeps what is reported
+  kept : AreKept listing nothing over reported.system.claims
+  kept run none keeps =
+      let own = nevers_kept (visit_count run.visits) m.laid.lists.places.items listing.nevers nevers reported.claims.nevers (visits_some run.visits)
+      (λ k d lt. ap (int_sum_by (visit_count run.visits)) (places_same code m.laid made.lowered.keeps_program.is_low memory _) ∙ none k d lt) in
+      subst (λ c. KeepsClaims c run) (sym (system_is.same_claims)) (run_keeps loops nevers claims run own keeps)
+
+  compiled : IsCompiled (high_of m) listing low nothing placings reported.system t r.cert
   compiled = record {
     whole = made.carried.whole;
     keeps_program = made.lowered.keeps_program;
     keeps_low = memory.keeps_low;
-    system = system_same loops image claims reported.system system_is;
+    own = under claims reported.system;
+    has_own = system_same loops nevers image claims reported.system refl system_is;
+    system = subst (λ c. IsSystemOf image c reported.system) (sym own_system.same_claims) own_system;
+    kept = kept;
     scale = reported.form.scale.0;
-    accepted = accepted_same loops t claims reported.system r.cert system_is.same_claims reported.accepted;
+    accepted = reported.accepted;
   }
 
-  module _ (input : List ℕ) (output : List ℕ) (value : ℤ) (counts : List ℕ) (n : ℕ) (h : EndsAsMain listing output value counts nothing over t input r.cert.cycles n) where
+  module _ (input : List ℕ) (output : List ℕ) (value : ℤ) (counts : List ℕ) (n : ℕ) (h : EndsAsMain listing output value counts nothing over reported.system.claims t input r.cert.cycles n) where
     abbrev run : Run
     run = run_of nothing over t input n
 
@@ -109,11 +126,11 @@ module _ (names : List (List ℕ)) (program : Program) (facts : Facts) (m : Made
       ends = h.ending;
       prints = h.written;
       cycles = h.within;
-      keeps = subst (λ c. KeepsClaims c run) (sym claims_are) (run_keeps loops claims run h.keeps);
+      keeps = subst (λ c. KeepsClaims c run) own_system.same_claims h.keeps;
       counted = λ k c there. line_counts k c (lines_summed names m.laid.lists.places.items (visit_count run.visits) (facts.functions ++ facts.markers) listing.marks r.names reported.lines k c there);
     }
 
   pub runs_as_source : RunsAsSource program names facts t m.laid.image r
   runs_as_source input bytes output value counts means =
-      let ends = source_shows program names facts (high_of m) listing low nothing placings (under claims reported.system) t r.cert made.carried.carries compiled input bytes output value counts means in
+      let ends = source_shows program names facts (high_of m) listing low nothing placings reported.system t r.cert made.carried.carries compiled input bytes output value counts means in
       (ends.0, subst (λ i. RunsAs r output value counts (mrun (setup i t input) ends.0)) (sym memory.laid.image) (as_reported input output value counts ends.0 ends.1))

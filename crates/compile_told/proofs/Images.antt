@@ -1,10 +1,11 @@
 -- The image of a source: nothing lies in its scratchpad, and its loads and stores lie in lines.
-use Rattle.std.proofs.Common.{◌≡◌, ℕ, ◌<◌, List, sym, ap, ◌∙◌, subst, true, Contains, All}
+use Rattle.std.proofs.Common.{◌≡◌, ℕ, ◌<◌, List, refl, sym, ap, ◌∙◌, subst, true, Contains, All}
 use Rattle.std.specs.Prelude.{slice_get}
 use Rattle.std.proofs.lemmas.List.Elements.{All-contains_itself, All-weaker}
 use Rattle.rv_core.specs.Images.{Image}
 use Rattle.rv_core.specs.Rows.{row_of}
 use Rattle.rv_core.specs.Table.{Table, accesses}
+use Rattle.code_flow_system.specs.declared.claims.Never.{Never}
 use Rattle.code_flow_system.specs.declared.claims.Within.{Within}
 use Rattle.code_flow_system.specs.declared.moves.Move.{Move}
 use Rattle.code_flow_system.specs.Claims.{Claims}
@@ -57,13 +58,16 @@ module _ (names : List (List ℕ)) (program : Program) (facts : Facts) (m : Made
     abbrev es : List LoopEntry
     es = (copies_of m).loops
 
-    claims_are : r.claims ≡ named es (claims_of own)
-    claims_are = reported.claims ∙ ap (named es) made.in_memory.laid.claimed.claims
+    abbrev ns : List Never
+    ns = r.claims.nevers
+
+    claims_are : r.claims ≡ named es ns (claims_of own)
+    claims_are = reported.claims.claims ∙ ap (named es ns) made.in_memory.laid.claimed.claims
 
     -- under the claims on the image, whose loops have numbers of their own
     own_system : IsSystemOf (image_in nothing over) (claims_of own) (under (claims_of own) s)
     own_system =
-        system_same es (image_in nothing over) (claims_of own) s
+        system_same es ns (image_in nothing over) (claims_of own) s refl
         (subst (λ (c : Claims). IsSystemOf (image_in nothing over) c s) claims_are (subst (λ (i : Image). IsSystemOf i r.claims s) image_is system))
 
     pub reported_lined : AreLined m.laid.image r s

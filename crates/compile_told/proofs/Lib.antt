@@ -6,5 +6,6 @@ pub mod Images
 pub mod Copies
 pub mod Naming
 pub mod Loops
+pub mod Nevers
 pub mod Shares
 pub mod Told

@@ -1,13 +1,11 @@
 -- What is reported of a source without restrictions tells its facts.
 use Rattle.std.proofs.Common.{◌≡◌, ℕ, ◌<◌, List, [], ◌++◌, length, map, Some, refl, sym, ap, ◌∙◌, subst, Contains, All}
 use Rattle.std.specs.Prelude.{option_map, slice_get, slice_index_or}
-use Rattle.std.proofs.lemmas.List.Elements.{All-nil}
 use Rattle.std.proofs.lemmas.Option.{none-some, slice_get-get_or, slice_get-map}
 use Rattle.rv_core.specs.Table.{Table}
 use Rattle.code_flow_system.specs.Claims.{Claims}
 use Rattle.code_flow_system.specs.declared.claims.FactClaim.{FactClaim}
 use Rattle.code_flow_system.specs.declared.claims.LoopClaim.{LoopClaim}
-use Rattle.code_flow_system.specs.declared.claims.Never.{Never}
 use Rattle.facts_definitions.specs.declared.facts.Facts.{Facts}
 use Rattle.facts_loops.specs.Loops.{source_loops}
 use Rattle.facts_definitions.specs.declared.facts.Restriction.{Restriction}
@@ -34,7 +32,7 @@ use Rattle.report_text.specs.Reports.{Report}
 use Rattle.compile_claims.specs.Named.{named as renamed}
 use Rattle.compile_made.specs.declared.made.Made.{Made}
 use Rattle.compile_made.specs.Made.{IsMade, copies_of, high_of}
-use Rattle.promise_report.specs.Facts.{AreFactLines, IsLoopLine, IsNeverLine, TellsFacts, places_told}
+use Rattle.promise_report.specs.Facts.{AreFactLines, IsLoopLine, TellsFacts, places_told}
 use Rattle.compile_kept.specs.Limits.{nothing}
 use Rattle.compile_reports.specs.Reported.{AreShared, IsReported}
 use Rattle.compile_reports.proofs.Openings.{functions_counted}
@@ -42,6 +40,7 @@ use Rattle.compile_told.proofs.Copies.{names_told}
 use Rattle.compile_told.proofs.Lists.{map_got}
 use Rattle.compile_told.proofs.Loops.{loops_lined}
 use Rattle.compile_told.proofs.Naming.{functions_apart}
+use Rattle.compile_told.proofs.Nevers.{nevers_lined}
 use Rattle.compile_told.proofs.Shares.{name_at, names_differ, share_lined}
 
 -- the shares are those with sums, or there are none
@@ -64,8 +63,8 @@ module _ (source : List ℕ) (names : List (List ℕ)) (program : Program) (fact
   abbrev es : List LoopEntry
   es = (copies_of m).loops
 
-  claims_are : r.claims ≡ renamed es (claims_of own)
-  claims_are = reported.claims ∙ ap (renamed es) made.in_memory.laid.claimed.claims
+  claims_are : r.claims ≡ renamed es r.claims.nevers (claims_of own)
+  claims_are = reported.claims.claims ∙ ap (renamed es r.claims.nevers) made.in_memory.laid.claimed.claims
 
   many : length facts.functions ≡ length (high_of m).functions
   many = functions_counted source names program facts is ∙ sym made.carried.carries.functions
@@ -109,7 +108,7 @@ module _ (source : List ℕ) (names : List (List ℕ)) (program : Program) (fact
             (subst (λ (cs : List FactClaim). AreFactLines facts (places_told facts r) [] cs) (sym (ap (λ (c : Claims). c.facts) claims_are)) tt);
         loops = subst (λ (cs : List LoopClaim). All (IsLoopLine loops) cs) (sym (ap (λ (c : Claims). c.loops) claims_are))
             (loops_lined loops (source_behaviour program names facts) refl (high_of m) (copies_of m) carries made.carried.is_high q keeps a own refl kept.loops);
-        nevers = subst (λ (cs : List Never). All (IsNeverLine loops) cs) (sym (ap (λ (c : Claims). c.nevers) claims_are)) (All-nil (IsNeverLine loops));
+        nevers = nevers_lined loops (source_behaviour program names facts) refl places (copies_of m).nevers carries.nevers r.claims.nevers reported.claims.nevers;
         shares = λ i d lt.
             let s = slice_index_or r.shares i d in
             let h = has_code i s (slice_get-get_or r.shares i d lt) in

@@ -1,11 +1,12 @@
 //! What is reported of a source tells its facts.
 //!
 //! Proved, by calls with empty bodies, of the report on the image of a source: [`reported_tell_facts`], that its names, bounds of
-//! loops and shares are those of the source, where that has no restriction; [`reported_are_lined`], that each load and store
-//! lies in a line of regions; and of the image [`made_are_unplaced`].
+//! loops, addresses that are never visited and shares are those of the source, where that has no restriction;
+//! [`reported_are_lined`], that each load and store lies in a line of regions; and of the image [`made_are_unplaced`].
 //!
-//! `proofs/Naming` shows that no two functions have one name, `proofs/Loops` of which loop of the source each claim is, `proofs/Shares`
-//! where shares begin; `proofs/Loading` and `proofs/Lined` find the accesses of laid code among the moves of a flow system.
+//! `proofs/Naming` shows that no two functions have one name, `proofs/Loops` of which loop of the source each claim is, `proofs/Nevers`
+//! that claims on never marks stand behind more starts than their loops make, `proofs/Shares` where shares begin; `proofs/Loading`
+//! and `proofs/Lined` find the accesses of laid code among the moves of a flow system.
 //!
 //! The crate knows no runs, no search, and not how an image is made.
 #![tactic(auto)]

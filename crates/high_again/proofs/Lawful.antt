@@ -1,44 +1,28 @@
 -- The same program again is lawful.
-use Rattle.std.proofs.Common.{◌≡◌, ℕ, ◌+◌, ◌<◌, ◌≤◌, Bool, true, false, List, [], ◌∷◌, get_or, map, Option, Some, None, refl, sym, ap, ◌∙◌, subst, arith, All}
-use Rattle.std.specs.Prelude.{◌==◌, Contains, if◌then◌else◌, sum_by}
+use Rattle.std.proofs.Common.{◌≡◌, ℕ, ◌≤◌, Bool, true, false, List, [], ◌∷◌, get_or, map, Option, Some, refl, sym, ap, ◌∙◌, arith, All, le_refl}
+use Rattle.std.specs.Prelude.{◌==◌, if◌then◌else◌}
 use Rattle.std.specs.List.{flat_map, range_with_len}
 use Rattle.std.proofs.lemmas.Bool.{eq-eqb, true≢false}
-use Rattle.std.proofs.lemmas.List.{append-nil}
-use Rattle.std.proofs.lemmas.List.Elements.{All-cons, All-map, All-nil, All-same, Contains-get_or}
-use Rattle.std.proofs.lemmas.List.FromFn.{get_or-map-range_with_len}
-use Rattle.std.proofs.lemmas.List.Sums.{sum_by-cons}
+use Rattle.std.proofs.lemmas.List.Elements.{All-cons, All-map, All-nil, All-same}
 use Rattle.high_ir.specs.declared.copies.LoopCopy.{LoopCopy}
 use Rattle.high_ir.specs.Formed.{IsHigh}
-use Rattle.high_ir.specs.Runs.{Run, count_of, hrun}
+use Rattle.high_ir.specs.Runs.{count_of, hrun}
 use Rattle.high_ir.specs.Standing.{Bounded, Bounds, loops_in}
 use Rattle.high_ir.specs.Tree.{Program}
 use Rattle.high_ir.specs.Weight.{reach}
-use Rattle.high_pass.specs.Carries.{AreBy, Carries, RunsAlike, StartsFewer, behaviour_of, bounds_of, shown}
-use Rattle.high_pass.specs.Law.{IsLawful, ReachWithin}
-use Rattle.high_pass.specs.Listing.{HasEachBelow, LoopEntry, MarkEntry, listed_loops, listed_marks, mark_copies}
-use Rattle.high_again.specs.Same.{same_listing, same_loop, same_mark}
-use Rattle.high_again.proofs.Numbers.{range_has_each}
+use Rattle.high_pass.specs.Carries.{AreBy, Carries, StartsFewer, behaviour_of, bounds_of}
+use Rattle.high_pass.specs.Law.{IsLawful}
+use Rattle.high_pass.specs.Listing.{HasEachBelow, LoopEntry, listed_loops}
+use Rattle.high_again.specs.Same.{same_listing, same_loop}
+use Rattle.high_parts.proofs.SameMarks.{marks_listed, old_marks, opening_stays, reach_stays, shows_same}
+use Rattle.high_parts.proofs.Numbers.{range_has_each}
 
--- of entries that are their own copies, the old numbers and the new ones
-abbrev old_mark : MarkEntry → ℕ
-old_mark e = e.old
-
-abbrev new_marks : MarkEntry → List ℕ
-new_marks e = e.new
-
+-- of loops that are their own copies, the old numbers and the new ones
 abbrev old_loop : LoopEntry → ℕ
 old_loop e = e.old
 
 abbrev new_loops : LoopEntry → List ℕ
 new_loops e = map (λ l. l.id) e.new
-
-old_marks : (xs : List ℕ) → map old_mark (map same_mark xs) ≡ xs
-old_marks [] = refl
-old_marks (x ∷ xs) = ap (λ l. x ∷ l) (old_marks xs)
-
-marks_again : (xs : List ℕ) → flat_map new_marks (map same_mark xs) ≡ xs
-marks_again [] = refl
-marks_again (x ∷ xs) = ap (λ l. x ∷ l) (marks_again xs)
 
 old_loops : (xs : List ℕ) → map old_loop (map same_loop xs) ≡ xs
 old_loops [] = refl
@@ -47,29 +31,6 @@ old_loops (x ∷ xs) = ap (λ l. x ∷ l) (old_loops xs)
 loops_again : (xs : List ℕ) → flat_map new_loops (map same_loop xs) ≡ xs
 loops_again [] = refl
 loops_again (x ∷ xs) = ap (λ l. x ∷ l) (loops_again xs)
-
-alone : (f : ℕ → ℕ) (m : ℕ) → sum_by f (m ∷ []) ≡ f m
-alone f m = sum_by-cons f m [] ∙ none (f m)
-  where
-    none : (a : ℕ) → a + 0 ≡ a
-    none a = omega arith
-
--- the same run shows the same
-shows_same : (p : Program) (o : Option Run) → RunsAlike (same_listing p) (shown o) o
-shows_same p None = tt
-shows_same p (Some r) = record {
-  value = refl;
-  output = refl;
-  counts = All-map (λ e. count_of e.old r.trace ≡ sum_by (λ k. count_of k r.trace) e.new) same_mark (range_with_len 0 p.marks)
-      (λ i d lt. sym (alone (λ k. count_of k r.trace) (get_or (range_with_len 0 p.marks) i d)));
-  nevers = All-nil (λ v. count_of v.mark r.trace ≡ 0);
-}
-
-opening : (p : Program) (f : ℕ) → f < p.marks → Contains (mark_copies (map same_mark (range_with_len 0 p.marks)) f) f
-opening p f lt = subst (λ e. Contains (new_marks e) f) (sym (get_or-map-range_with_len same_mark 0 p.marks f f (record { old = f; new = [] }) lt (omega arith))) (here f)
-  where
-    here : (f : ℕ) → Contains (f ∷ []) f
-    here f = Contains-get_or (f ∷ []) 0 f (omega arith)
 
 -- each loop of a list has bounds in it, and a factor of 1 leaves them
 abbrev KeepsBounds : List Bounded → ℕ → Type 0
@@ -97,10 +58,6 @@ module _ (p : Program) (high : IsHigh p) where
   abbrev numbers : List ℕ
   numbers = range_with_len 0 p.loops
 
-  marks_listed : HasEachBelow p.marks (listed_marks (same_listing p))
-  marks_listed k =
-      ap (count_of k) (append-nil (flat_map new_marks (map same_mark (range_with_len 0 p.marks))) ∙ marks_again (range_with_len 0 p.marks)) ∙ range_has_each p.marks k
-
   loops_listed : HasEachBelow p.loops (listed_loops (same_listing p))
   loops_listed k = ap (count_of k) (loops_again numbers) ∙ range_has_each p.loops k
 
@@ -118,24 +75,18 @@ module _ (p : Program) (high : IsHigh p) where
 
   carried : Carries (behaviour_of p) p (same_listing p)
   carried = record {
-    runs = λ input. shows_same p (hrun p input);
-    marks = old_marks (range_with_len 0 p.marks);
+    runs = λ input. shows_same p.marks (map same_loop numbers) (hrun p input);
+    marks = old_marks p.marks;
     loops = old_loops numbers ∙ sym high.loops;
-    lists = record { marks = marks_listed; loops = loops_listed };
+    lists = record { marks = marks_listed p.marks (map same_loop numbers); loops = loops_listed };
     bounds = entry_bounds;
     functions = refl;
-    openings = λ f lt. opening p f (omega (arith, lt, high.openings));
+    openings = λ f lt. opening_stays p.marks f (omega (arith, lt, high.openings));
     nevers = All-nil (λ v. StartsFewer (bounds_of loops v.old) v.factor);
   }
 
   factors_small : All (λ (e : LoopEntry). All (λ (l : LoopCopy). l.factor ≤ 64) e.new) (map same_loop numbers)
   factors_small = All-map (λ (e : LoopEntry). All (λ (l : LoopCopy). l.factor ≤ 64) e.new) same_loop numbers (λ i d lt. one_loop (λ (l : LoopCopy). l.factor ≤ 64) (get_or numbers i d) (omega arith))
-
-  reach_within : ReachWithin (reach p) p (same_listing p)
-  reach_within = All-map (λ (e : MarkEntry). sum_by (reach p) e.new ≤ reach p e.old) same_mark (range_with_len 0 p.marks) (λ i d lt. at_mark (get_or (range_with_len 0 p.marks) i d))
-    where
-      at_mark : (m : ℕ) → sum_by (reach p) (m ∷ []) ≤ reach p m
-      at_mark m = let one = alone (reach p) m in omega (arith, one)
 
   pub lawful : IsLawful p p (same_listing p)
   lawful = record {
@@ -143,7 +94,7 @@ module _ (p : Program) (high : IsHigh p) where
     factors = record { loops = factors_small; nevers = All-nil (λ v. v.factor ≤ 64) };
     budgets = λ within. within;
     weight = omega arith;
-    reach = reach_within;
+    reach = reach_stays p p (λ m. le_refl (reach p m)) p.marks;
     whole = λ whole. whole;
     functions = refl;
     objects = refl;

@@ -1,29 +1,16 @@
 -- What the code makes, in the words of the views.
-use Rattle.std.proofs.Common.{◌≡◌, ℕ, ◌+◌, ◌<◌, ◌≤◌, List, [], ◌∷◌, ◌++◌, length, get_or, map, refl, sym, ap, ◌∙◌, subst, arith}
+use Rattle.std.proofs.Common.{◌≡◌, ℕ, List, [], ◌∷◌, map, refl, sym, ap, ◌∙◌}
 use Rattle.std.specs.Prelude.{Vec}
 use Rattle.std.specs.Global.{Global}
 use Rattle.std.specs.List.{range_with_len}
-use Rattle.std.proofs.lemmas.List.{map_push}
-use Rattle.std.proofs.lemmas.List.FromFn.{map-range_with_len_more}
-use Rattle.std.proofs.lemmas.List.Sums.{get_or-le-sum_by}
 use Rattle.high_ir.specs.declared.copies.NeverMark.{NeverMark}
 use Rattle.high_ir.specs.declared.statement.Statement as statements
-use Rattle.high_ir.specs.Size.{nodes, nodes_all}
 use Rattle.high_ir.specs.Tree.{End, Function, Object, Program, Seq, Statement, Statements, Then}
 use Rattle.high_ir.specs.View.{statement_of, statements_of}
 use Rattle.high_ir.proofs.Rows.{statement_of-Seq}
-use Rattle.high_ir.proofs.Sizes.{nodes_all-statements_of}
 use Rattle.high_pass.specs.Listing.{Listing, LoopEntry, MarkEntry}
-use Rattle.high_again.specs.Same.{same_listing, same_loop, same_mark}
-
--- the size of a sequence, and of one of its parts
-pub size_of_seq : (s : statements.Statement) (v : Vec statements.Statement Global) (xs : List statements.Statement) → s ≡ statements.Seq v → xs ≡ v.items → nodes (statement_of s) ≡ nodes_all (statements_of xs) + 1
-size_of_seq s v xs is read = ap (λ s. nodes (statement_of s)) is ∙ ap nodes (statement_of-Seq v) ∙ ap (λ ys. nodes_all (statements_of ys) + 1) (sym read)
-
-pub part_size : (xs : List statements.Statement) (i : ℕ) (x : statements.Statement) → i < length xs → x ≡ get_or xs i x → nodes (statement_of x) ≤ nodes_all (statements_of xs)
-part_size xs i x lt is =
-    subst (λ y. nodes (statement_of y) ≤ nodes_all (statements_of xs)) (sym is)
-    (subst (λ n. nodes (statement_of (get_or xs i x)) ≤ n) (sym (nodes_all-statements_of xs)) (get_or-le-sum_by (λ s. nodes (statement_of s)) xs i x lt))
+use Rattle.high_again.specs.Same.{same_listing, same_loop}
+use Rattle.high_parts.specs.Same.{same_marks}
 
 -- a sequence is that of its parts
 abbrev in_row : List Statement → Statements
@@ -38,14 +25,9 @@ pub seq_same : (s : statements.Statement) (v : Vec statements.Statement Global) 
 seq_same s v xs w is read made =
     statement_of-Seq w ∙ ap Seq (by_parts w.items ∙ ap in_row made ∙ sym (by_parts xs) ∙ ap statements_of read) ∙ sym (statement_of-Seq v) ∙ ap statement_of (sym is)
 
--- one entry more
-pub one_more : {A B : Type 0} (f : A → B) (g : ℕ → B) (xs : List A) (x : A) (n : ℕ) → map f xs ≡ map g (range_with_len 0 n) → f x ≡ g n → map f (xs ++ x ∷ []) ≡ map g (range_with_len 0 (n + 1))
-one_more f g xs x n before is =
-    map_push f xs x ∙ ap (λ ys. ys ++ f x ∷ []) before ∙ ap (λ y. map g (range_with_len 0 n) ++ y ∷ []) is ∙ sym (map-range_with_len_more g 0 n n (omega arith))
-
 -- a listing and a program from their parts
 pub listed : (p : Program) (marks : List MarkEntry) (loops : List LoopEntry) (nevers : List NeverMark) →
-    marks ≡ map same_mark (range_with_len 0 p.marks) → loops ≡ map same_loop (range_with_len 0 p.loops) → nevers ≡ [] → record { marks = marks; loops = loops; nevers = nevers } ≡ same_listing p
+    marks ≡ same_marks p.marks → loops ≡ map same_loop (range_with_len 0 p.loops) → nevers ≡ [] → record { marks = marks; loops = loops; nevers = nevers } ≡ same_listing p
 listed p marks loops nevers m l n =
     let same = same_listing p in
     let whole : List MarkEntry → List LoopEntry → List NeverMark → Listing = λ ms ls ns. record { marks = ms; loops = ls; nevers = ns } in

@@ -2,17 +2,15 @@
 use Rattle.std.specs.Prelude.{◌≡◌, ℕ, [], ◌∷◌, map}
 use Rattle.std.specs.List.{range_with_len}
 use Rattle.high_ir.specs.Tree.{Program}
-use Rattle.high_pass.specs.Listing.{Listing, LoopEntry, MarkEntry}
-
-abbrev pub same_mark : ℕ → MarkEntry
-same_mark m = record { old = m; new = m ∷ [] }
+use Rattle.high_pass.specs.Listing.{Listing, LoopEntry}
+use Rattle.high_parts.specs.Same.{same_marks}
 
 abbrev pub same_loop : ℕ → LoopEntry
 same_loop k = record { old = k; new = (record { id = k; factor = 1 }) ∷ [] }
 
 abbrev pub same_listing : Program → Listing
 same_listing p = record {
-  marks = map same_mark (range_with_len 0 p.marks);
+  marks = same_marks p.marks;
   loops = map same_loop (range_with_len 0 p.loops);
   nevers = [];
 }

@@ -2,30 +2,13 @@
 ghost use Rattle.std.specs.Prelude.{◌≡◌, IfOk, map};
 ghost use Rattle.std.specs.List.{range_with_len};
 ghost use Rattle.high_ir.specs.Programs.{program_of};
-ghost use Rattle.high_pass.specs.Listing.{listing_of, loop_entry, mark_entry};
-ghost use Rattle.high_again.specs.Same.{same_listing, same_loop, same_mark};
+ghost use Rattle.high_pass.specs.Listing.{listing_of, loop_entry};
+ghost use Rattle.high_again.specs.Same.{same_listing, same_loop};
 
-use high_ir::{Copies, High, LoopCopies, LoopCopy, MarkCopies};
+use high_ir::{Copies, High, LoopCopies, LoopCopy};
+use high_parts::marks::same_marks;
 use std::alloc::Global;
 use wcc_base::Memory;
-
-fn same_mark(alloc: Global, mark: u32) -> Result<MarkCopies, Memory>
-    ensures { IfOk result (λ c. mark_entry c ≡ same_mark mark) }
-{
-    let mut new = Vec::new(alloc);
-    new.push(mark)?;
-    Ok(MarkCopies { old: mark, new })
-}
-
-fn same_marks(alloc: Global, marks: u32) -> Result<Vec<MarkCopies>, Memory>
-    ensures { IfOk result (λ v. map mark_entry v.items ≡ map same_mark (range_with_len 0 marks)) }
-{
-    let mut copies = Vec::new(alloc);
-    for mark in 0..marks {
-        copies.push(same_mark(alloc, mark)?)?;
-    }
-    Ok(copies)
-}
 
 fn same_loop(alloc: Global, id: u32) -> Result<LoopCopies, Memory>
     ensures { IfOk result (λ c. loop_entry c ≡ same_loop id) }

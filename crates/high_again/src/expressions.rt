@@ -1,45 +1,11 @@
 // Expressions, made again.
 ghost use Rattle.std.specs.Prelude.{◌≡◌, IfOk, map};
-ghost use Rattle.high_ir.specs.Tree.{Binary};
 ghost use Rattle.high_ir.specs.View.{expr_of};
 
-use high_ir::expression::{BinaryOperator, Expr};
+use high_ir::expression::Expr;
+use high_parts::expressions::{binary, element, let_go_expr, unary};
 use std::alloc::Global;
 use wcc_base::Memory;
-
-fn boxed(alloc: Global, expr: Expr) -> Result<Box<Expr>, Memory>
-    ensures { IfOk result (λ b. b.value ≡ expr) }
-{
-    Ok(Box::new(alloc, expr)?)
-}
-
-/// Lets go of an expression. What it is made of is let go here, once.
-pub fn let_go_expr(expr: Expr) {
-    drop(expr);
-}
-
-fn binary(alloc: Global, operator: BinaryOperator, left: Expr, right: Expr) -> Result<Expr, Memory>
-    ensures { IfOk result (λ e. expr_of e ≡ Binary operator (expr_of left) (expr_of right)) }
-{
-    let left = match boxed(alloc, left) {
-        Ok(left) => left,
-        Err(memory) => {
-            let_go_expr(right);
-            return Err(memory);
-        }
-    };
-    match boxed(alloc, right) {
-        Ok(right) => Ok(Expr::Binary {
-            operator,
-            left,
-            right,
-        }),
-        Err(memory) => {
-            drop(left);
-            Err(memory)
-        }
-    }
-}
 
 /// The same expression again.
 pub fn copied_expr(alloc: Global, expr: &Expr) -> Result<Expr, Memory>
@@ -48,14 +14,10 @@ pub fn copied_expr(alloc: Global, expr: &Expr) -> Result<Expr, Memory>
     match expr {
         Expr::Constant(word) => Ok(Expr::Constant(*word)),
         Expr::Variable(x) => Ok(Expr::Variable(*x)),
-        Expr::Element { array, index } => Ok(Expr::Element {
-            array: *array,
-            index: boxed(alloc, copied_expr(alloc, index)?)?,
-        }),
-        Expr::Unary { operator, operand } => Ok(Expr::Unary {
-            operator: *operator,
-            operand: boxed(alloc, copied_expr(alloc, operand)?)?,
-        }),
+        Expr::Element { array, index } => element(alloc, *array, copied_expr(alloc, index)?),
+        Expr::Unary { operator, operand } => {
+            unary(alloc, *operator, copied_expr(alloc, operand)?)
+        }
         Expr::Binary {
             operator,
             left,
@@ -73,6 +35,7 @@ pub fn copied_expr(alloc: Global, expr: &Expr) -> Result<Expr, Memory>
     }
 }
 
+/// The same expressions again.
 pub fn copied_exprs(alloc: Global, exprs: &[Expr]) -> Result<Vec<Expr>, Memory>
     ensures { IfOk result (λ v. map expr_of v.items ≡ map expr_of exprs.now) }
 {

@@ -3,9 +3,9 @@ ghost use Rattle.std.specs.Prelude.{◌≡◌, IfOk, map};
 ghost use Rattle.high_ir.specs.Programs.{program_of};
 ghost use Rattle.high_ir.specs.View.{function_of};
 
-use super::objects::copied_objects;
 use super::statements::copied;
 use high_ir::{Function, High};
+use high_parts::objects::copied_objects;
 use std::alloc::Global;
 use wcc_base::Memory;
 
@@ -21,7 +21,8 @@ fn copied_function(alloc: Global, function: &Function) -> Result<Function, Memor
     })
 }
 
-fn copied_functions(alloc: Global, functions: &[Function]) -> Result<Vec<Function>, Memory>
+/// The same functions again.
+pub fn copied_functions(alloc: Global, functions: &[Function]) -> Result<Vec<Function>, Memory>
     ensures { IfOk result (λ v. map function_of v.items ≡ map function_of functions.now) }
 {
     let mut copies = Vec::new(alloc);

@@ -1,85 +1,16 @@
 // Statements, made again.
 ghost use Rattle.std.specs.Prelude.{◌≡◌, IfOk, map};
-ghost use Rattle.high_ir.specs.Tree.{Block, Call, If, Keep, Loop};
+ghost use Rattle.high_ir.specs.Tree.{Call, If, Keep};
 ghost use Rattle.high_ir.specs.View.{expr_of, statement_of};
 
-use super::expressions::{copied_expr, copied_exprs, let_go_expr};
+use super::expressions::{copied_expr, copied_exprs};
 use high_ir::expression::Expr;
 use high_ir::object::{Array, Base};
 use high_ir::statement::Statement;
+use high_parts::expressions::let_go_expr;
+use high_parts::statements::{block, choice, let_go, loop_of};
 use std::alloc::Global;
 use wcc_base::Memory;
-
-fn boxed(alloc: Global, statement: Statement) -> Result<Box<Statement>, Memory>
-    ensures { IfOk result (λ b. b.value ≡ statement) }
-{
-    Ok(Box::new(alloc, statement)?)
-}
-
-/// Lets go of a statement. What it is made of is let go here, once.
-fn let_go(statement: Statement) {
-    drop(statement);
-}
-
-fn block(alloc: Global, body: Statement) -> Result<Statement, Memory>
-    ensures { IfOk result (λ s. statement_of s ≡ Block (statement_of body)) }
-{
-    Ok(Statement::Block(boxed(alloc, body)?))
-}
-
-/// A loop of this number, whose starts are from `min` to `max`.
-fn loop_of(alloc: Global, id: u32, min: u32, max: u32, body: Statement) -> Result<Statement, Memory>
-    ensures { IfOk result (λ s. statement_of s ≡ Loop id min max (statement_of body)) }
-{
-    Ok(Statement::Loop {
-        id,
-        min,
-        max,
-        body: boxed(alloc, body)?,
-    })
-}
-
-fn branches(
-    alloc: Global,
-    first: Statement,
-    other: Statement,
-) -> Result<(Box<Statement>, Box<Statement>), Memory>
-    ensures first { IfOk result (λ p. p.0.value ≡ first) }
-    ensures other { IfOk result (λ p. p.1.value ≡ other) }
-{
-    let first = match boxed(alloc, first) {
-        Ok(first) => first,
-        Err(memory) => {
-            let_go(other);
-            return Err(memory);
-        }
-    };
-    match boxed(alloc, other) {
-        Ok(other) => Ok((first, other)),
-        Err(memory) => {
-            drop(first);
-            Err(memory)
-        }
-    }
-}
-
-/// A choice between two statements.
-fn choice(
-    alloc: Global,
-    test: Expr,
-    first: Statement,
-    other: Statement,
-) -> Result<Statement, Memory>
-    ensures { IfOk result (λ s. statement_of s ≡ If (expr_of test) (statement_of first) (statement_of other)) }
-{
-    match branches(alloc, first, other) {
-        Ok((first, other)) => Ok(Statement::If { test, first, other }),
-        Err(memory) => {
-            let_go_expr(test);
-            Err(memory)
-        }
-    }
-}
 
 fn copied_keep(alloc: Global, array: Array, index: &Expr, value: &Expr) -> Result<Statement, Memory>
     ensures { IfOk result (λ s. statement_of s ≡ Keep array (expr_of index.now) (expr_of value.now)) }
@@ -98,7 +29,8 @@ fn copied_keep(alloc: Global, array: Array, index: &Expr, value: &Expr) -> Resul
     }
 }
 
-fn copied_call(
+/// The same call again.
+pub fn copied_call(
     alloc: Global,
     function: u32,
     values: &[Expr],

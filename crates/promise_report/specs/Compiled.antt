@@ -1,5 +1,5 @@
--- What `compile` promises of the image and the report that it writes for a source.
-use Rattle.std.specs.Prelude.{◌≡◌, ◌⊎◌, ℕ, ◌+◌, ◌<◌, List, [], ◌∷◌, Bool, true, Contains, All, if◌then◌else◌}
+-- What `compile` promises of the image and the report that it writes for a source, in six statements with a name each.
+use Rattle.std.specs.Prelude.{◌≡◌, ℕ, ◌+◌, ◌<◌, List, [], ◌∷◌, Bool, true, Contains, All, if◌then◌else◌}
 use Rattle.rv_core.specs.declared.image.Segment.{Segment}
 use Rattle.rv_core.specs.declared.regions.Region.{Region}
 use Rattle.rv_core.specs.declared.regions.Region.TheVariants.{Spm}
@@ -11,13 +11,16 @@ use Rattle.elf_image.specs.Loading.{image_of}
 use Rattle.elf_image.specs.Text.{text_of}
 use Rattle.code_flow_system.specs.declared.claims.Within.{Within}
 use Rattle.code_flow_system.specs.declared.moves.Move.{Move}
+use Rattle.code_flow_system.specs.Bounds.{BoundsFlows, ReachesBound, HasNoFlow}
+use Rattle.code_flow_system.specs.Certificates.{potential, whole_part}
 use Rattle.code_flow_system.specs.MoveCosts.{lies_within, names}
 use Rattle.code_flow_system.specs.Systems.{System}
 use Rattle.facts_definitions.specs.declared.facts.Facts.{Facts}
 use Rattle.facts_front.specs.Fronts.{IsSourceBy}
 use Rattle.types_tree.specs.Tree.{Program}
+use Rattle.path_answer.specs.declared.bounded.Kind.{Kind}
 use Rattle.path_answer.specs.declared.bounded.Kind.TheVariants.{Greatest, Empty}
-use Rattle.report_check.specs.Checks.{Holds}
+use Rattle.report_check.specs.Checks.{Holds, IsTextOf}
 use Rattle.report_text.specs.Reports.{Report}
 use Rattle.promise_report.specs.Facts.{TellsFacts}
 use Rattle.promise_report.specs.Runs.{RunsAsSource}
@@ -44,6 +47,31 @@ pub record IsLined (image : Image) (lines : List Within) (m : Move) : Type 0 whe
 abbrev pub AreLined : Image → Report → System → Type 0
 AreLined image r s = All (λ (m : Move). accesses (row_of m.instr.op).class ≡ true → IsLined image r.claims.regions m) s.moves
 
+-- the written image and report: these are the texts of both, and the image has nothing in the scratchpad
+pub record AreWritten (image_text report_text : List ℕ) (image : Image) (report : Report) : Type 0 where
+  pub text_is : image_text ≡ text_of image
+  pub loads : image_of image_text ≡ image
+  pub scratchpad : scratchpad_taken image.segments ≡ 0
+  pub report_is : IsTextOf report_text report
+  pub version : report.version ≡ 2
+
+-- the report's claims are the source's facts, and where accesses go
+pub record ClaimsAreFacts (program : Program) (names : List (List ℕ)) (facts : Facts) (image : Image) (report : Report) (system : System) : Type 0 where
+  pub told : TellsFacts program names facts report
+  pub lined : AreLined image report system
+
+-- a flow reaches the bound, or there is none and the cycles are 0
+abbrev pub IsReached : Kind → Table → System → Report → Type 0
+IsReached Greatest costs system report = ReachesBound costs system report.cert
+IsReached Empty costs system report = HasNoFlow system × (report.cert.cycles ≡ 0)
+IsReached kind costs system report = ⊥
+
+-- the cycles are the greatest value of a flow, rounded down, or 0 where there is no flow
+pub record CyclesAreGreatest (costs : Table) (system : System) (report : Report) : Type 0 where
+  pub bound : BoundsFlows costs system report.cert
+  pub reached : IsReached report.kind costs system report
+  pub rounded : report.cert.cycles ≡ whole_part (potential report.cert system.entry) report.cert.scale
+
 -- the source of these bytes, the texts of an image and a report, and whether bounds were derived and the costs with which they were made
 pub record IsCompiled (derive : Bool) (costs : Table) (source image_text report_text : List ℕ) (report : Report) : Type 0 where
   -- the source's typed program, and its facts
@@ -51,19 +79,16 @@ pub record IsCompiled (derive : Bool) (costs : Table) (source image_text report_
   pub program : Program
   pub facts : Facts
   pub is_source : IsSourceBy derive source names program facts
-  -- the image that is written
+  -- the written image and report
   pub image : Image
-  pub text_is : image_text ≡ text_of image
-  pub loads : image_of image_text ≡ image
-  pub scratchpad : scratchpad_taken image.segments ≡ 0
+  pub written : AreWritten image_text report_text image report
   -- on every input on which the source's run is defined and keeps its annotations, the image prints and returns what the source does,
   -- within the cycles of the report, and keeps what the report claims
   pub runs : RunsAsSource program names facts costs image report
-  -- which are the source's facts, and where accesses go
-  pub told : TellsFacts program names facts report
+  -- which are the source's facts
   pub system : System
-  pub lined : AreLined image report system
-  -- the report holds of the image: the checker accepts its certificate, by which its cycles are the greatest value of a flow, or there is none
+  pub claims : ClaimsAreFacts program names facts image report system
+  -- the report holds of the image: the checker accepts it
   pub holds : Holds costs image_text report_text report system
-  pub version : report.version ≡ 2
-  pub kind : (report.kind ≡ Greatest) ⊎ (report.kind ≡ Empty)
+  -- its cycles are the greatest value of a flow, or there is none
+  pub greatest : CyclesAreGreatest costs system report

@@ -8,8 +8,9 @@
 //! Proved, for every store and every sink: at each status what became of the files and of the
 //! printed lines, and why; at Done that a written image does what its source does on every input on
 //! which the source is kept, within the printed cycles, which are the greatest that the written
-//! report allows, that cycles which are said to hold bound each finished run that keeps the report's
-//! claims, on every input, and that what is printed of a run is what the machine does.
+//! report allows, that `check` accepts what `compile` wrote, that cycles which are said to hold bound
+//! each finished run that keeps the report's claims, on every input, and that what is printed of a
+//! run is what the machine does.
 #![tactic(auto)]
 
 mod top;

@@ -1,8 +1,7 @@
 -- The report that is put together.
-use Rattle.std.proofs.Common.{refl, sym, subst}
+use Rattle.std.proofs.Common.{refl, subst}
 use Rattle.rv_core.specs.Table.{Table}
 use Rattle.code_flow_system.specs.Certificates.{IsInForm}
-use Rattle.code_flow_system.specs.Systems.{IsSystemOf}
 use Rattle.facts_front.specs.declared.reading.Source.{Source}
 use Rattle.report_text.specs.Forms.{IsReport}
 use Rattle.compile_made.specs.declared.made.Made.{Made}
@@ -12,10 +11,10 @@ use Rattle.compile_reporting.specs.declared.telling.Told.{Told}
 use Rattle.compile_reporting.specs.Found.{HasBound, IsTold, joined_report}
 use Rattle.compile_reporting.specs.Sources.{IsMadeOf, IsReportOn, names_of, tree_of}
 
-module _ (t : Table) (s : Source) (m : Made) (told : Told) (found : Found) (is_told : IsTold s m told) (has : HasBound t s m found) where
+module _ (t : Table) (s : Source) (m : Made) (told : Told) (found : Found) (is_told : IsTold s m told) (has : HasBound t s m told.claims found) where
   pub is_reported : IsReportOn t s m (joined_report told found)
   is_reported =
-      let own = subst (λ l. IsSystemOf m.laid.image l has.system) (sym is_told.claims) has.is_system in
+      let own = has.is_system in
       record {
         version = refl;
         lines = is_told.lines;

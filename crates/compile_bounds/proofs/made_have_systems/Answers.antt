@@ -1,6 +1,5 @@
-use Rattle.compile_bounds.proofs.Bounds.{has_system}
+use Rattle.compile_bounds.proofs.Bounds.{made_only_memory}
 use Rattle.compile_bounds.proofs.made_have_systems.Goals as goal
-use Rattle.compile_made.specs.Made.{copies_of}
 
 pub returns : goal.returns
-returns c = λ source names program facts m fault is made. has_system m.code m.laid made.in_memory (copies_of m).loops fault
+returns c = λ source names program facts m claims fault is made handed h. made_only_memory source names program facts m is made claims handed fault h

@@ -1,5 +1,4 @@
 use Rattle.std.proofs.Common.{sym, subst}
-use Rattle.code_flow_system.specs.Systems.{IsSystemOf}
 use Rattle.rv_core.specs.Table.{table_of}
 use Rattle.path_search.specs.Conditions.{CanBound}
 use Rattle.compile_reporting.specs.Sources.{names_of, tree_of}
@@ -7,9 +6,7 @@ use Rattle.compile_reporting.proofs.Values.{cycles_below, value_small}
 use Rattle.compile_reporting.proofs.finding.bounded_of.Goals as goal
 
 pub systems_are_reached-requires : goal.systems_are_reached-requires
-systems_are_reached-requires c =
-    let h = c.requires.system in
-    subst (λ l. IsSystemOf c.args.made.now.laid.image l c.args.system.now) (sym h.same_claims) h
+systems_are_reached-requires c = c.requires.system
 
 pub bound-requires-clause-can : goal.bound-requires-clause-can
 bound-requires-clause-can c =
@@ -18,7 +15,7 @@ bound-requires-clause-can c =
     let m = c.args.made.now in
     let t = table_of c.args.costs.now in
     let system = c.args.system.now in
-    let can = c.made_can_be_bounded.ensures h.text (names_of s) (tree_of s) s.facts m c.args.costs.now system h.is_source h.is_made c.requires.system in
+    let can = c.made_can_be_bounded.ensures h.text (names_of s) (tree_of s) s.facts m system.claims c.args.costs.now system h.is_source h.is_made c.requires.claims c.requires.system in
     subst (λ ls. CanBound t system ls c.deref-2.result.now) (sym c.deref.ensures.value) (subst (λ ps. CanBound t system m.laid.claimed.shapes.items ps) (sym c.deref-2.ensures.value) can)
 
 pub returns-clause-value : goal.returns-clause-value
@@ -26,7 +23,7 @@ returns-clause-value c =
     let h = c.requires.made in
     let s = c.args.source.now in
     let m = c.args.made.now in
-    let can = c.made_can_be_bounded.ensures h.text (names_of s) (tree_of s) s.facts m c.args.costs.now c.args.system.now h.is_source h.is_made c.requires.system in
+    let can = c.made_can_be_bounded.ensures h.text (names_of s) (tree_of s) s.facts m c.args.system.now.claims c.args.costs.now c.args.system.now h.is_source h.is_made c.requires.claims c.requires.system in
     let found = c.in_ok-bounded.ensures in
     value_small (table_of c.args.costs.now) c.args.system.now c.in_ok-bounded.bounded.cert m.laid.claimed.shapes.items m.laid.lists.spans.items can found.form found.accepted c.weak_duality.ensures.promise c.flows_are_loose.ensures
 
@@ -35,6 +32,6 @@ returns-clause-cycles c =
     let h = c.requires.made in
     let s = c.args.source.now in
     let m = c.args.made.now in
-    let can = c.made_can_be_bounded.ensures h.text (names_of s) (tree_of s) s.facts m c.args.costs.now c.args.system.now h.is_source h.is_made c.requires.system in
+    let can = c.made_can_be_bounded.ensures h.text (names_of s) (tree_of s) s.facts m c.args.system.now.claims c.args.costs.now c.args.system.now h.is_source h.is_made c.requires.claims c.requires.system in
     let found = c.in_ok-bounded.ensures in
     cycles_below (table_of c.args.costs.now) c.args.system.now c.in_ok-bounded.bounded.cert m.laid.claimed.shapes.items m.laid.lists.spans.items can found.form found.accepted c.weak_duality.ensures.promise c.flows_are_loose.ensures c.in_ok-bounded.bounded.kind found.kind

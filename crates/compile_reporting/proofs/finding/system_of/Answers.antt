@@ -1,5 +1,4 @@
-use Rattle.std.proofs.Common.{◌≡◌, ℕ, sym, ◌∙◌, subst}
-use Rattle.code_flow.specs.CodeFaults.{IsFault}
+use Rattle.std.proofs.Common.{◌≡◌, ℕ, sym, ◌∙◌}
 use Rattle.code_flow.specs.declared.finding.CodeFault.TheVariants.{BadClaim, Memory, NotCode}
 use Rattle.compile_reporting.specs.Sources.{names_of, tree_of}
 use Rattle.compile_reporting.proofs.finding.system_of.Goals as goal
@@ -14,16 +13,12 @@ pub unreachable-requires : goal.unreachable-requires
 unreachable-requires c =
     let h = c.requires.made in
     let s = c.args.source.now in
-    let m = c.args.made.now in
     let fault = c.in-Err-BadClaim.field-0 in
-    let own = subst (λ l. IsFault m.laid.image l fault) c.requires.claims c.in-Err-BadClaim.ensures.err in
-    not_bad c.in-Err-BadClaim.field-0-0 (sym c.in-Err-BadClaim.field-0-is ∙ c.made_have_systems.ensures h.text (names_of s) (tree_of s) s.facts m fault h.is_source h.is_made own)
+    not_bad c.in-Err-BadClaim.field-0-0 (sym c.in-Err-BadClaim.field-0-is ∙ c.made_have_systems.ensures h.text (names_of s) (tree_of s) s.facts c.args.made.now c.args.claims.now fault h.is_source h.is_made c.requires.claims c.in-Err-BadClaim.ensures.err)
 
 pub unreachable-requires-in-Err-NotCode : goal.unreachable-requires-in-Err-NotCode
 unreachable-requires-in-Err-NotCode c =
     let h = c.requires.made in
     let s = c.args.source.now in
-    let m = c.args.made.now in
     let fault = c.in-Err-NotCode.field-0 in
-    let own = subst (λ l. IsFault m.laid.image l fault) c.requires.claims c.in-Err-NotCode.ensures.err in
-    not_missing c.in-Err-NotCode.field-0-0 (sym c.in-Err-NotCode.field-0-is ∙ c.made_have_systems.ensures h.text (names_of s) (tree_of s) s.facts m fault h.is_source h.is_made own)
+    not_missing c.in-Err-NotCode.field-0-0 (sym c.in-Err-NotCode.field-0-is ∙ c.made_have_systems.ensures h.text (names_of s) (tree_of s) s.facts c.args.made.now c.args.claims.now fault h.is_source h.is_made c.requires.claims c.in-Err-NotCode.ensures.err)

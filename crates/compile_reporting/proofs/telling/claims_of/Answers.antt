@@ -1,6 +1,11 @@
-use Rattle.std.proofs.Common.{◌<◌, map, sym, subst, arith, All}
+use Rattle.std.proofs.Common.{◌+◌, ◌<◌, ◌^◌, length, sym, subst, arith, All}
+use Rattle.std.specs.Prelude.{IfOk}
+use Rattle.std.specs.List.{flat_map}
+use Rattle.code_flow_system.specs.Claims.{claim_count}
 use Rattle.high_ir.specs.declared.copies.LoopCopies.{LoopCopies}
-use Rattle.high_pass.specs.Listing.{loop_entry}
+use Rattle.high_ir.specs.declared.copies.NeverMark.{NeverMark}
+use Rattle.compile_claims.specs.Named.{AreHanded, nevers_at}
+use Rattle.compile_made.specs.Made.{copies_of}
 use Rattle.compile_reporting.specs.Sources.{names_of, tree_of}
 use Rattle.compile_reporting.proofs.telling.claims_of.Goals as goal
 
@@ -14,8 +19,7 @@ pub by_source-requires-clause-listed : goal.by_source-requires-clause-listed
 by_source-requires-clause-listed c =
     let h = c.requires in
     let s = c.args.source.now in
-    let m = c.args.made.now in
-    subst (λ es. All (λ e. All (λ l. l.id < m.stages.last.program.loops) e.new) (map loop_entry es)) (sym c.deref.ensures.value) (c.made_can_be_named.ensures h.text (names_of s) (tree_of s) s.facts m h.is_source h.is_made).listed
+    (c.made_can_be_named.ensures h.text (names_of s) (tree_of s) s.facts c.args.made.now h.is_source h.is_made).listed
 
 pub by_source-requires-clause-small : goal.by_source-requires-clause-small
 by_source-requires-clause-small c =
@@ -24,10 +28,36 @@ by_source-requires-clause-small c =
     let m = c.args.made.now in
     let old = (c.made_can_be_named.ensures h.text (names_of s) (tree_of s) s.facts m h.is_source h.is_made).old in
     let small : All (λ (e : LoopCopies). e.old < 4294967295) m.stages.last.copies.loops.items = λ k d lt. let less = old k d lt in omega (arith, less) in
-    subst (λ es. All (λ (e : LoopCopies). e.old < 4294967295) es) (sym c.deref.ensures.value) small
+    small
+
+pub by_source-requires-clause-nevers : goal.by_source-requires-clause-nevers
+by_source-requires-clause-nevers c =
+    let h = c.requires in
+    let s = c.args.source.now in
+    let m = c.args.made.now in
+    let old = (c.made_can_be_named.ensures h.text (names_of s) (tree_of s) s.facts m h.is_source h.is_made).nevers in
+    let small : All (λ (v : NeverMark). v.old < 4294967295) m.stages.last.copies.nevers.items = λ k d lt. let less = old k d lt in omega (arith, less) in
+    small
+
+pub by_source-requires-clause-few : goal.by_source-requires-clause-few
+by_source-requires-clause-few c =
+    let s = c.args.source.now in
+    let m = c.args.made.now in
+    subst (λ ps. claim_count m.laid.claimed.claims + length (flat_map (nevers_at ps) (copies_of m).nevers) < 2 ^ 32) (sym c.deref.ensures.value) (c.claims_are_few.ensures (names_of s) (tree_of s) s.facts m c.requires.is_made)
+
+pub by_source-requires-clause-plain : goal.by_source-requires-clause-plain
+by_source-requires-clause-plain c =
+    let h = c.requires in
+    let s = c.args.source.now in
+    (c.made_can_be_named.ensures h.text (names_of s) (tree_of s) s.facts c.args.made.now h.is_source h.is_made).plain
 
 pub by_source-requires-clause-facts : goal.by_source-requires-clause-facts
 by_source-requires-clause-facts c =
     let h = c.requires in
     let s = c.args.source.now in
     (c.made_can_be_named.ensures h.text (names_of s) (tree_of s) s.facts c.args.made.now h.is_source h.is_made).facts
+
+pub returns : goal.returns
+returns c =
+    let m = c.args.made.now in
+    subst (λ ps. IfOk c.by_source.result (AreHanded (copies_of m) ps m.laid.claimed.claims)) c.deref.ensures.value c.by_source.ensures

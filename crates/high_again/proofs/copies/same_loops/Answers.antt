@@ -1,7 +1,7 @@
 use Rattle.std.proofs.Common.{ap, map, ◌∙◌}
 use Rattle.high_pass.specs.Listing.{loop_entry}
 use Rattle.high_again.specs.Same.{same_loop}
-use Rattle.high_again.proofs.Making.{one_more}
+use Rattle.high_parts.proofs.Making.{one_more}
 use Rattle.high_again.proofs.copies.same_loops.Goals as goal
 
 pub loop-id-preserved : goal.loop-id-preserved

@@ -1,5 +1,6 @@
 use Rattle.std.proofs.Common.{arith}
-use Rattle.high_again.proofs.Making.{part_size, seq_same, size_of_seq}
+use Rattle.high_parts.proofs.Making.{part_size, size_of_seq}
+use Rattle.high_again.proofs.Making.{seq_same}
 use Rattle.high_again.proofs.statements.+statements.Goals as goal
 
 pub copied-copied_all-requires : goal.copied-copied_all-requires
