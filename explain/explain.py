@@ -21,9 +21,10 @@ COMMANDS = ("compile", "run", "eval", "check", "report", "make", "respond")
 PLACED = ("refused", "undefined", "broken")
 ELSEWHERE = ("image-", "report-", "table-", "tasks-")
 FROM_SOURCE = ("compile", "eval")
-# The options of commands, each with the greatest number that it takes, or None where it takes a file's name; flags take nothing.
+# The options of commands, each with the numbers that it takes, or None where it takes a file's name; flags take nothing.
 FLAG = "flag"
-OPTIONS = {"compile": {"--table": None, "--derive": FLAG}, "run": {"--limit": 1 << 62, "--table": None}, "eval": {"--derive": FLAG},
+OPTIONS = {"compile": {"--unroll": range(1, 65), "--inline": range(10001), "--table": None, "--derive": FLAG},
+           "run": {"--limit": range((1 << 62) + 1), "--table": None}, "eval": {"--derive": FLAG},
            "check": {"--table": None}, "respond": {"--table": None}}
 # Which of the files that the words name by their places are read, and which are written.
 READ = {"compile": slice(1), "run": slice(2), "eval": slice(2), "check": slice(2), "report": slice(1), "respond": slice(1)}
@@ -207,12 +208,12 @@ def number_of(count):
     return "one file" if count == 1 else f"{count} files"
 
 
-def wrong_value(most, value):
+def wrong_value(numbers, value):
     """What is wrong with the value of an option, or None."""
     if value is None or value.startswith("-") and value != "-":
         return "has no value"
-    if most is not None and not (re.fullmatch(r"\+?[0-9]+", value) and int(value[-99:]) <= most):
-        return f"takes a number from 0 to {most}"
+    if numbers is not None and not (re.fullmatch(r"\+?[0-9]+", value) and int(value[-99:]) in numbers):
+        return f"takes a number from {numbers.start} to {numbers.stop - 1}"
     return None
 
 

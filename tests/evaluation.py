@@ -64,13 +64,22 @@ def by_program(path, *flags):
 
 
 def by_compiler(path):
-    """What `PATH compile` answers on a source, and behind it `check` and `run`, by the names of the commands."""
-    path = built(path)
-    calls = (("compile", "a.c", "a.elf", "a.txt"), ("check", "a.elf", "a.txt"), ("run", "a.elf", "a.in", "a.out"))
+    """What `PATH compile` answers on a source with options, and behind it `check` and `run`, by the names of the commands.
 
-    def run(source, data=b""):
-        return in_fresh_folder(source, data, lambda room: {words[0]: call(path, room, *words) for words in calls})
+    By `files` it has the image and the report, or None where there are none.
+    """
+    path = built(path)
+
+    def run(source, data=b"", options=()):
+        calls = (("compile", "a.c", "a.elf", "a.txt", *options), ("check", "a.elf", "a.txt"), ("run", "a.elf", "a.in", "a.out"))
+        return in_fresh_folder(source, data, lambda room: {words[0]: call(path, room, *words) for words in calls} | {"files": made_in(room)})
     return run
+
+
+def made_in(room):
+    """The image and the report that lie in a folder, or None."""
+    files = [room / it for it in ("a.elf", "a.txt")]
+    return tuple(it.read_bytes() for it in files) if all(it.is_file() for it in files) else None
 
 
 def chosen(words):

@@ -124,11 +124,11 @@ module _ (asked : CheckRequest) (apart : AreApart asked) (fs : Files) (t : Texts
   module _ (derive : Bool) (source : List ℕ) (costs : Table) (low : length source ≤ 1048576) (fit : Fit (wanted_table asked.table) fs) (are : AreCosts (contents_of (wanted_table asked.table) fs) costs) (compiles : Compiles derive costs source t) where
     texts_fit : Fit (wanted_of (Check asked)) written
     texts_fit =
-        let short = compiles.short low in
+        let lengths = compiles.short low in
         let image = ap (λ (b : List ℕ). length b) image_is in
         let report = ap (λ (b : List ℕ). length b) report_is in
-        let image_low = short.image in
-        let report_low = short.report in
+        let image_low = lengths.image in
+        let report_low = lengths.report in
         (omega (arith, image, image_low), (omega (arith, report, report_low), tables_fit asked.table refl fit))
 
     can_accept : CanAccept (contents_of (wanted_of (Check asked)) written)
@@ -149,13 +149,16 @@ compiled_checks asked apart (Some fs) new made m e some =
     let put = e ∙ ap (λ (o : Outputs). all_put o.files (Some fs)) makes.2.made_is in
     checks (check_of asked) apart fs texts asked.derive (bytes_of fs asked.source) makes.0 m.1.1.0 m.1.1.1 makes.1 makes.2.compiles new put
 
+not_stopped : (kind code at cycles : ℕ) → status.Done ≡ status.Stopped kind code at cycles → ⊥
+not_stopped kind code at cycles e = cc
+
 -- what `make` writes, where its run exits
 exited : (asked : MakeRequest) (t : Texts) (last : Simulation) (ending : Ending) (made : Outputs) → made ≡ numbered_outputs asked t last ending → made.status ≡ status.Done
     → made.files ≡ (asked.source, numbered_text asked.number) ∷ (asked.image, t.image) ∷ (asked.report, t.report) ∷ []
 exited asked t last (Exit v) made e s = ap (λ (o : Outputs). o.files) e
-exited asked t last (Trap at kind) made e s = let stopped = sym s ∙ ap (λ (o : Outputs). o.status) e in absurd cc
-exited asked t last CycleLimit made e s = let stopped = sym s ∙ ap (λ (o : Outputs). o.status) e in absurd cc
-exited asked t last OutputFull made e s = let stopped = sym s ∙ ap (λ (o : Outputs). o.status) e in absurd cc
+exited asked t last (Trap at kind) made e s = absurd (not_stopped 1 kind at last.state.cycles (sym s ∙ ap (λ (o : Outputs). o.status) e))
+exited asked t last CycleLimit made e s = absurd (not_stopped 2 0 last.state.pc last.state.cycles (sym s ∙ ap (λ (o : Outputs). o.status) e))
+exited asked t last OutputFull made e s = absurd (not_stopped 3 0 last.state.pc last.state.cycles (sym s ∙ ap (λ (o : Outputs). o.status) e))
 
 none_made : (asked : MakeRequest) (contents : List (List ℕ)) (made : Outputs) → Makes (Make asked) contents made → MakesNumbered asked made
 none_made asked [] made m = m

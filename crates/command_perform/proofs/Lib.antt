@@ -13,6 +13,8 @@ pub mod NumberedRuns
 pub mod CheckRuns
 pub mod TaskRuns
 pub mod RespondRuns
+pub mod KeptNumbers
+pub mod MakeRuns
 pub mod Ranges
 pub mod NamesApart
 pub mod CompileChecks

@@ -1,5 +1,5 @@
 -- Files gathered and written one by one.
-use Rattle.std.proofs.Common.{◌≡◌, ℕ, ◌+◌, ◌<◌, ◌≤◌, List, [], ◌∷◌, ◌++◌, length, map, drop, get_or, Option, Some, None, refl, sym, ap, subst, ◌∙◌, inl, inr, ⊎_elim, arith, append_assoc, append-nil, drop-cons, add-one}
+use Rattle.std.proofs.Common.{◌≡◌, ℕ, zero, suc, ◌+◌, ◌<◌, ◌≤◌, List, [], ◌∷◌, ◌++◌, length, map, drop, get_or, Option, Some, None, refl, sym, ap, subst, ◌∙◌, inl, inr, ⊎_elim, arith, append_assoc, append-nil, drop-cons, add-one}
 use Rattle.std.proofs.lemmas.List.{length-append}
 use Rattle.std.specs.Prelude.{IfSome}
 use Rattle.wcc_base.specs.Outside.{Files, bytes_of, told_put}
@@ -42,8 +42,10 @@ count_more xs ys x i e c = omega (arith, ap length e, length-append xs (x ∷ []
 one_there : (ws left : Wants) (w : List ℕ × Bound) (rest : Wants) → left ≡ w ∷ rest → (AreSome left → AreSome ws) → AreSome ws
 one_there ws left w rest l a = a (subst AreSome (sym l) tt)
 
-pub some_more : (ws left : Wants) (w : List ℕ × Bound) (rest : Wants) → left ≡ w ∷ rest → (AreSome left → AreSome ws) → AreSome rest → AreSome ws
-some_more ws left w rest l a more = one_there ws left w rest l a
+pub one_left : {A : Type 0} (f : A → List ℕ × Bound) (xs : List A) (i : ℕ) → i < length xs → AreSome (map f (drop i xs))
+one_left f [] i lt = absurd (omega (arith, lt))
+one_left f (x ∷ xs) zero lt = tt
+one_left f (x ∷ xs) (suc i) lt = one_left f xs i (omega (arith, lt))
 
 -- a further file wasn't read
 pub gather_fails : (old mid : Option Files) (ws left : Wants) (w : List ℕ × Bound) (rest : Wants) (contents : List (List ℕ)) (s : Status) → mid ≡ old → left ≡ w ∷ rest → IfSome old (λ fs. HasGathered ws left fs contents) → (AreSome left → AreSome ws) → NotGathered (w ∷ []) mid s → NotGathered ws old s

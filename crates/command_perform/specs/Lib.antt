@@ -17,6 +17,7 @@ pub mod Finishing
 pub mod Ends
 pub mod Promises
 pub mod Checkable
+pub mod Making
 pub mod Asked
 pub mod Files
 pub mod Tasks

@@ -48,3 +48,7 @@ pub record IsKept (source input : List ℕ) : Type 0 where
   pub counts : List ℕ
   pub done : meaning plain.program plain.names plain.facts input ≡ Done output value counts
   pub fits : length output ≤ 16_777_216
+
+-- that of each number from 1 to 100 is, on the empty input
+abbrev pub NumbersAreKept : Type 0
+NumbersAreKept = (n : ℕ) → 1 ≤ n → n ≤ 100 → IsKept (numbered_text n) []

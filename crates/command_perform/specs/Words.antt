@@ -1,5 +1,5 @@
 -- What the words of a command line ask of this program: what `command_words` reads in them, as far as it is built.
-use Rattle.std.specs.Prelude.{◌||◌, ◌≤◌, ℕ, Bool, List, Option, Some, None, is_some, if◌then◌else◌, option_and_then}
+use Rattle.std.specs.Prelude.{◌≤◌, ℕ, Bool, List, Option, Some, None, is_some, if◌then◌else◌, option_and_then}
 use Rattle.command_words.specs.Requests.{Request, CompileRequest, CheckRequest, RunRequest, EvalRequest, ReportRequest, MakeRequest, RespondRequest}
 use Rattle.command_words.specs.Requests.{Compile as AsksCompile, Check as AsksCheck, Run as AsksRun, Eval as AsksEval, Report as AsksReport, Make as AsksMake, Respond as AsksRespond}
 use Rattle.command_words.specs.Asked.{asked_by as request_by}
@@ -20,7 +20,7 @@ pub data Asked : Type 0 where
 
 -- an option of `compile` is given that isn't built
 abbrev pub has_options : CompileRequest → Bool
-has_options r = is_some r.spm || (is_some r.unroll || is_some r.inline)
+has_options r = is_some r.spm
 
 -- what a request asks; where an option is given that isn't built, there is nothing
 abbrev pub built : Request → Option Asked

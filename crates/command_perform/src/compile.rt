@@ -1,4 +1,4 @@
-// The command `compile SOURCE IMAGE REPORT [--table FILE] [--derive]`.
+// The command `compile SOURCE IMAGE REPORT [--unroll K] [--inline N] [--table FILE] [--derive]`.
 ghost use Rattle.std.specs.Prelude.{◌≡◌, ◌⊎◌, length, IfOk, MatchResult};
 ghost use Rattle.wcc_base.specs.declared.status.Status.TheVariants as status;
 ghost use Rattle.rv_core.specs.Table.{table_of};
@@ -121,6 +121,8 @@ fn compile_with<'a, C: Compiler>(
     let options = Options {
         costs,
         derive: asked.derive,
+        inline: asked.inline_size() as u32,
+        unroll: asked.unroll_factor() as u32,
     };
     match compiled(compiler, alloc, source.as_slice(), options) {
         Ok(texts) => match outputs(alloc, asked, texts) {

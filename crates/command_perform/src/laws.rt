@@ -3,7 +3,6 @@ ghost use Rattle.std.specs.Prelude.{◌≡◌, ◌≤◌, ℕ, Bool, List, [], I
 ghost use Rattle.wcc_base.specs.Outside.{Files, StoreState, bytes_of};
 ghost use Rattle.wcc_base.specs.declared.status.Status.TheVariants as status;
 ghost use Rattle.rv_core.specs.Table.{Table};
-ghost use Rattle.command_numbered.specs.Text.{numbered_text};
 ghost use Rattle.report_check.specs.Checks.{IsAccepted};
 ghost use Rattle.promise_compiler.specs.Refusals.{IsRestricted};
 ghost use Rattle.meaning_semantics.specs.declared.source_run.SourceRun.{SourceRun};
@@ -15,7 +14,6 @@ ghost use Rattle.command_perform.specs.Outputs.{Outputs};
 ghost use Rattle.command_perform.specs.Sources.{RefusesProgram};
 ghost use Rattle.command_perform.specs.declared.compile.Texts.{Texts};
 ghost use Rattle.command_perform.specs.Compiling.{Compiles, IsUnrestricted};
-ghost use Rattle.command_perform.specs.Numbered.{IsKept};
 ghost use Rattle.command_perform.specs.Gathering.{Fit, contents_of};
 ghost use Rattle.command_perform.specs.Commands.{wanted_of, IsOfSource, CanAccept, CanExitRun};
 ghost use Rattle.response_analysis.specs.declared.task.Task.{Task};
@@ -57,9 +55,9 @@ pub fn summary_is_done()
     ensures { (asked : ReportRequest) (old : StoreState) → IsSomeAnd old.files (λ fs. CanSummarize (bytes_of fs asked.report)) → CanEnd (Some (Named (Report asked))) old status.Done }
 {}
 
-/// A number whose source is kept on the empty input can only be made.
+/// A number from 1 to 100 can only be made.
 pub fn numbered_is_done()
-    ensures { (asked : MakeRequest) (old : StoreState) → IsSome old.files → asked.number ≤ 100 → IsKept (numbered_text asked.number) [] → CanEnd (Some (Named (Make asked))) old status.Done }
+    ensures { (asked : MakeRequest) (old : StoreState) → IsSome old.files → 1 ≤ asked.number → asked.number ≤ 100 → CanEnd (Some (Named (Make asked))) old status.Done }
 {}
 
 /// A list of tasks whose reports hold and of which none is late, with the costs of a table that isn't

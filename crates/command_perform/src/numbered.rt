@@ -175,6 +175,8 @@ pub fn make_numbered<'a, C: Compiler>(
     let options = Options {
         costs: default_costs(),
         derive: false,
+        inline: 0,
+        unroll: 1,
     };
     match compiled(compiler, alloc, source.as_slice(), options) {
         Ok(texts) => match tried(alloc, asked, source, texts) {

@@ -34,7 +34,7 @@ pub enum Asked<'a> {
 fn has_options(r: &CompileRequest) -> bool
     ensures { result ≡ has_options (compile_request r.now) }
 {
-    r.spm.is_some() || r.unroll.is_some() || r.inline.is_some()
+    r.spm.is_some()
 }
 
 // What a request asks, where its options are built.

@@ -1,5 +1,5 @@
 -- Claims that name the loops of the source, and those on marks that no kept run passes.
-use Rattle.std.specs.Prelude.{◌≡◌, ℕ, suc, List, [], map, slice_index_or, IsPermutation}
+use Rattle.std.specs.Prelude.{◌≡◌, ℕ, suc, List, map, IsPermutation}
 use Rattle.std.specs.List.{flat_map}
 use Rattle.std.specs.List.Sorted.{IsNonDecreasingBy}
 use Rattle.code_flow_system.specs.Claims.{Claims}
@@ -9,6 +9,7 @@ use Rattle.high_ir.specs.declared.copies.NeverMark.{NeverMark}
 use Rattle.high_pass.specs.Composing.{no_origin, origin_among}
 use Rattle.high_pass.specs.Listing.{Listing, LoopEntry}
 use Rattle.high_pass.specs.declared.origin.Origin.{Origin}
+use Rattle.compile_claims.specs.Places.{places_at}
 
 -- reports number the loops of a source from 1 on
 abbrev pub renamed : Origin → LoopClaim → LoopClaim
@@ -22,12 +23,8 @@ by_entries es c = renamed (origin_among es c.source no_origin) c
 abbrev pub never_at : NeverMark → ℕ → Never
 never_at v a = record { source = suc v.old; factor = v.factor; at = a }
 
--- the addresses of a mark
-abbrev pub addresses : List (List ℕ) → ℕ → List ℕ
-addresses places mark = slice_index_or places mark []
-
 abbrev pub nevers_at : List (List ℕ) → NeverMark → List Never
-nevers_at places v = map (never_at v) (addresses places v.mark)
+nevers_at places v = map (never_at v) (places_at places v.mark)
 
 -- the claims on never marks: one for each address of each, in ascending order
 pub record AreNevers (places : List (List ℕ)) (marks : List NeverMark) (ns : List Never) : Type 0 where

@@ -4,10 +4,11 @@
 //! numbered from 1 on, and by the factor that says how many of its starts are one. Where a pass left marks that no kept run
 //! passes, each of their addresses has a claim, with the loop and the factor of the mark. Nothing else changes.
 //!
-//! Proved: [`by_source`] gives the claims that `specs/Named.antt` defines. By laws without bodies nothing that is known of the
-//! claims gets lost: the image has the same flow system but for these ([`systems_are_same`]), or none for the same reason
-//! ([`none_is_bad`], [`no_code_is_same`]); a search can be made in it where it could be made before ([`bounds_are_same`]), and a
-//! run that visits none of the addresses keeps the claims as it keeps those ([`runs_keep_same`]).
+//! Proved: [`by_source`] gives the claims that `specs/Named.antt` defines, from the lists of the addresses at which marks stand
+//! ([`places_at`]). By laws without bodies nothing that is known of the claims gets lost: the image has the same flow system but for
+//! these ([`systems_are_same`]), or none for the same reason ([`none_is_bad`], [`no_code_is_same`]); a search can be made in it where
+//! it could be made before ([`bounds_are_same`]), and a run that visits none of the addresses keeps the claims as it keeps those
+//! ([`runs_keep_same`]).
 //!
 //! The crate knows no image, no report and no pass.
 #![tactic(auto)]
@@ -15,6 +16,8 @@
 mod laws;
 mod naming;
 mod nevers;
+mod places;
 
 pub use laws::{bounds_are_same, no_code_is_same, none_is_bad, runs_keep_same, systems_are_same};
 pub use naming::by_source;
+pub use places::places_at;

@@ -1,22 +1,13 @@
 // The claims on marks that no kept run passes.
 ghost use Rattle.std.specs.Prelude.{◌≡◌, ◌<◌, ◌++◌, map, All, IfOk};
 ghost use Rattle.std.specs.List.{flat_map};
-ghost use Rattle.compile_claims.specs.Named.{AreNevers, addresses, never_at, nevers_at};
+ghost use Rattle.compile_claims.specs.Named.{AreNevers, never_at, nevers_at};
 
+use super::places::places_at;
 use code_flow_system::Never;
 use high_ir::NeverMark;
 use std::alloc::Global;
 use wcc_base::{Items, Memory};
-
-/// The addresses of a mark.
-fn addresses(places: &[Items<u32>], mark: u32) -> &[u32]
-    ensures { result.now ≡ addresses places.now mark }
-{
-    match places.get(mark as usize) {
-        Some(places) => places.as_slice(),
-        None => &[],
-    }
-}
 
 /// The claim on an address of a mark.
 fn never_at(mark: NeverMark, at: u32) -> Never
@@ -52,7 +43,7 @@ fn nevers_by_mark(
 {
     let mut nevers = Vec::new(alloc);
     for mark in marks {
-        add_nevers(*mark, addresses(places, mark.mark), &mut nevers)?;
+        add_nevers(*mark, places_at(places, mark.mark), &mut nevers)?;
     }
     Ok(nevers)
 }

@@ -22,8 +22,8 @@ use Rattle.claims_image.specs.Images.{laid_of}
 use Rattle.claims_places.specs.Places.{places_below}
 use Rattle.low_ir.specs.Placings.{placed_of}
 use Rattle.report_text.specs.Forms.{Ascend}
-use Rattle.compile_claims.specs.Named.{addresses, never_at, nevers_at}
-use Rattle.compile_lines.specs.CopyLines.{places_at}
+use Rattle.compile_claims.specs.Named.{never_at, nevers_at}
+use Rattle.compile_claims.specs.Places.{places_at}
 use Rattle.compile_kept.specs.Limits.{nothing}
 use Rattle.compile_made.specs.Made.{IsMade, copies_of, high_of}
 use Rattle.compile_made.specs.declared.made.Made.{Made}
@@ -42,18 +42,18 @@ own_addresses : (v : NeverMark) (xs : List ℕ) → map at_of (map (never_at v) 
 own_addresses v [] = refl
 own_addresses v (x ∷ xs) = ap (λ l. x ∷ l) (own_addresses v xs)
 
-all_addresses : (places : List (List ℕ)) (vs : List NeverMark) → map at_of (flat_map (nevers_at places) vs) ≡ flat_map (addresses places) (map mark_of vs)
+all_addresses : (places : List (List ℕ)) (vs : List NeverMark) → map at_of (flat_map (nevers_at places) vs) ≡ flat_map (places_at places) (map mark_of vs)
 all_addresses places [] = refl
 all_addresses places (v ∷ vs) =
     ap (map at_of) (flat_map-cons (nevers_at places) v vs)
     ∙ map-append at_of (nevers_at places v) (flat_map (nevers_at places) vs)
-    ∙ ap (λ l. l ++ map at_of (flat_map (nevers_at places) vs)) (own_addresses v (addresses places v.mark))
-    ∙ ap (λ l. addresses places v.mark ++ l) (all_addresses places vs)
-    ∙ sym (flat_map-cons (addresses places) v.mark (map mark_of vs))
+    ∙ ap (λ l. l ++ map at_of (flat_map (nevers_at places) vs)) (own_addresses v (places_at places v.mark))
+    ∙ ap (λ l. places_at places v.mark ++ l) (all_addresses places vs)
+    ∙ sym (flat_map-cons (places_at places) v.mark (map mark_of vs))
 
-each_of : (P : ℕ → Type 0) (places : List (List ℕ)) → ((mark : ℕ) → All P (addresses places mark)) → (marks : List ℕ) → All P (flat_map (addresses places) marks)
+each_of : (P : ℕ → Type 0) (places : List (List ℕ)) → ((mark : ℕ) → All P (places_at places mark)) → (marks : List ℕ) → All P (flat_map (places_at places) marks)
 each_of P places each [] = All-nil P
-each_of P places each (m ∷ ms) = subst (All P) (sym (flat_map-cons (addresses places) m ms)) (All-append P (addresses places m) (flat_map (addresses places) ms) (each m) (each_of P places each ms))
+each_of P places each (m ∷ ms) = subst (All P) (sym (flat_map-cons (places_at places) m ms)) (All-append P (places_at places m) (flat_map (places_at places) ms) (each m) (each_of P places each ms))
 
 -- aligned addresses that ascend are no flaws
 
@@ -131,7 +131,7 @@ module _ (names : List (List ℕ)) (program : Program) (facts : Facts) (m : Made
   marks = map mark_of listing.nevers
 
   -- no address belongs to two never marks
-  once : (a : ℕ) → times a (flat_map (addresses places) marks) ≤ 1
+  once : (a : ℕ) → times a (flat_map (places_at places) marks) ≤ 1
   once a = together_once (IsPlaceOf l) made.in_memory.keeps_low.apart (places_at places) own_places rising a marks (nevers_once listing (high_of m).marks made.carried.carries.lists.marks)
 
   -- the claims on never marks are sound
@@ -139,9 +139,9 @@ module _ (names : List (List ℕ)) (program : Program) (facts : Facts) (m : Made
   nevers_fine claims handed =
       let ns = claims.nevers in
       let h = handed.nevers in
-      let from : IsPermutation (flat_map (addresses places) marks) (map at_of ns) = subst (λ xs. IsPermutation xs (map at_of ns)) (all_addresses places listing.nevers) (IsPermutation-map at_of (flat_map (nevers_at places) listing.nevers) ns h.all) in
-      let few : (a : ℕ) → times a (map at_of ns) ≤ 1 = λ a. let one = once a in let same = times-permuted a (flat_map (addresses places) marks) (map at_of ns) from in omega (arith, one, same) in
+      let from : IsPermutation (flat_map (places_at places) marks) (map at_of ns) = subst (λ xs. IsPermutation xs (map at_of ns)) (all_addresses places listing.nevers) (IsPermutation-map at_of (flat_map (nevers_at places) listing.nevers) ns h.all) in
+      let few : (a : ℕ) → times a (map at_of ns) ≤ 1 = λ a. let one = once a in let same = times-permuted a (flat_map (places_at places) marks) (map at_of ns) from in omega (arith, one, same) in
       never_fine None ns
-      (All-permutation (λ a. a % 4 ≡ 0) (flat_map (addresses places) marks) (map at_of ns) from (each_of (λ a. a % 4 ≡ 0) places aligned marks))
+      (All-permutation (λ a. a % 4 ≡ 0) (flat_map (places_at places) marks) (map at_of ns) from (each_of (λ a. a % 4 ≡ 0) places aligned marks))
       (strictly (map at_of ns) few (in_order ns h.ascending))
       tt

@@ -13,7 +13,8 @@ use Rattle.high_ir.specs.declared.copies.NeverMark.{NeverMark}
 use Rattle.high_pass.specs.Listing.{HasEachBelow, Listing, MarkEntry, listed_marks}
 use Rattle.high_pass.proofs.Counting.{sum_by-HasEachBelow, sum_by-flat_map}
 use Rattle.compile_claims.specs.Named.{never_at, nevers_at}
-use Rattle.compile_lines.specs.CopyLines.{AreLinesOf, places_at}
+use Rattle.compile_claims.specs.Places.{places_at}
+use Rattle.compile_lines.specs.CopyLines.{AreLinesOf}
 use Rattle.compile_names.specs.Laws.{IsNamed}
 use Rattle.report_sizes.specs.Room.{copies_room}
 use Rattle.report_text.specs.declared.entries.CopyLine.{CopyLine}

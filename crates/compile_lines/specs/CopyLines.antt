@@ -1,5 +1,5 @@
 -- The copy lines of functions or markers.
-use Rattle.std.specs.Prelude.{◌≡◌, ℕ, List, [], ◌∷◌, slice_index_or, IsPermutation}
+use Rattle.std.specs.Prelude.{◌≡◌, ℕ, List, [], ◌∷◌, IsPermutation}
 use Rattle.std.specs.List.{flat_map}
 use Rattle.std.specs.List.Sorted.{IsSorted}
 use Rattle.std.specs.Ordering.{nat_cmp}
@@ -7,10 +7,7 @@ use Rattle.c_tree.specs.Names.{name_of}
 use Rattle.c_tree.specs.declared.expression.NameId.{NameId}
 use Rattle.high_pass.specs.Listing.{MarkEntry}
 use Rattle.report_text.specs.declared.entries.CopyLine.{CopyLine}
-
--- the addresses of a mark
-abbrev pub places_at : List (List ℕ) → ℕ → List ℕ
-places_at places mark = slice_index_or places mark []
+use Rattle.compile_claims.specs.Places.{places_at}
 
 module _ (names : List (List ℕ)) (places : List (List ℕ)) where
   -- a name, and the addresses of all these copies in ascending order

@@ -3,9 +3,11 @@ ghost use Rattle.std.specs.Prelude.{◌≡◌, length, map, IfOk};
 ghost use Rattle.std.specs.List.{flat_map};
 ghost use Rattle.c_tree.specs.Names.{name_of};
 ghost use Rattle.high_pass.specs.Listing.{mark_entry};
-ghost use Rattle.compile_lines.specs.CopyLines.{places_at, AreLinesOf, IsLineOf};
+ghost use Rattle.compile_claims.specs.Places.{places_at};
+ghost use Rattle.compile_lines.specs.CopyLines.{AreLinesOf, IsLineOf};
 
 use c_tree::expression::NameId;
+use compile_claims::places_at;
 use high_ir::MarkCopies;
 use report_text::CopyLine;
 use std::alloc::Global;
@@ -20,16 +22,6 @@ pub fn name_text(alloc: Global, names: &[Text], id: NameId) -> Result<Text, Memo
         None => Vec::new(alloc),
     };
     Ok(Text::new(bytes))
-}
-
-/// The addresses of a mark.
-fn places_at(places: &[Items<u32>], mark: u32) -> &[u32]
-    ensures { result.now ≡ places_at places.now mark }
-{
-    match places.get(mark as usize) {
-        Some(places) => places.as_slice(),
-        None => &[],
-    }
 }
 
 /// The addresses of all these marks, mark by mark.

@@ -12,6 +12,7 @@ use compile_made::Stages;
 use facts_front::Source;
 use high_ir::Carried;
 use high_pass::{Chained, Pass, chain};
+use promise_compiler::Options;
 use std::alloc::Global;
 use wcc_base::Memory;
 
@@ -19,7 +20,7 @@ use wcc_base::Memory;
 pub fn begun(alloc: Global, source: &Source, plan: Carried) -> Stages
     requires source { (text : List ℕ) × IsSource text source.now.typed.program.names.items (source_of source.now.typed.program) source.now.facts }
     requires planned { IsPlanned source.now.typed.program.names.items (source_of source.now.typed.program) source.now.facts (program_of plan.program) (listing_of plan.copies) }
-    ensures begun { AreBegun source.now.typed.program.names.items (source_of source.now.typed.program) source.now.facts result }
+    ensures begun { (options : Options) → AreBegun options source.now.typed.program.names.items (source_of source.now.typed.program) source.now.facts result }
     ensures place { length result.before.items ≡ 0 }
 {
     Stages {
@@ -56,19 +57,20 @@ fn grown(before: Vec<Carried>, last: Carried, chained: Chained) -> Result<Stages
     }
 }
 
-/// The stages of a source with one pass more, which is the one at this place of the row.
+/// The stages of a source with one pass more, which is the one at this place of the row with these options.
 pub fn passed<P: Pass>(
     alloc: Global,
     source: &Source,
     stages: Stages,
+    options: &Options,
     place: usize,
     pass: &P,
 ) -> Result<Stages, Memory>
     requires place { length stages.before.items ≡ place }
     requires few { place ≤ 4 }
-    requires does { (old new : Program) (copies : Listing) → P.did pass.now old new copies → does place old new copies }
-    requires begun { AreBegun source.now.typed.program.names.items (source_of source.now.typed.program) source.now.facts stages }
-    ensures begun { IfOk result (AreBegun source.now.typed.program.names.items (source_of source.now.typed.program) source.now.facts) }
+    requires does { (old new : Program) (copies : Listing) → P.did pass.now old new copies → does options.now place old new copies }
+    requires begun { AreBegun options.now source.now.typed.program.names.items (source_of source.now.typed.program) source.now.facts stages }
+    ensures begun { IfOk result (AreBegun options.now source.now.typed.program.names.items (source_of source.now.typed.program) source.now.facts) }
     ensures place { IfOk result (λ s. length s.before.items ≡ place + 1) }
 {
     let Stages { before, last } = stages;

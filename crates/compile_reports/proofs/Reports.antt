@@ -12,7 +12,7 @@ use Rattle.path_search.specs.Kinds.{IsMarked}
 use Rattle.report_text.specs.Forms.{AreInOrder, Ascend, IsColumn, IsCopyLine, IsReport, IsShare, MayShare, SharesAscend, mark_of}
 use Rattle.report_text.specs.Reports.{Report}
 use Rattle.report_text.specs.declared.entries.Share.{Share}
-use Rattle.compile_lines.specs.CopyLines.{places_at}
+use Rattle.compile_claims.specs.Places.{places_at}
 use Rattle.report_shares.specs.Shares.{share_sum}
 use Rattle.report_shares.proofs.FillLemmas.{sum_small}
 use Rattle.facts_definitions.specs.declared.facts.Facts.{Facts}

@@ -9,7 +9,8 @@ use Rattle.code_flow_system.proofs.PermutedSums.{int_sum_by-permutation}
 use Rattle.c_tree.specs.declared.expression.NameId.{NameId}
 use Rattle.high_pass.specs.Listing.{MarkEntry}
 use Rattle.report_text.specs.declared.entries.CopyLine.{CopyLine}
-use Rattle.compile_lines.specs.CopyLines.{AreLinesOf, IsLineOf, places_at}
+use Rattle.compile_claims.specs.Places.{places_at}
+use Rattle.compile_lines.specs.CopyLines.{AreLinesOf, IsLineOf}
 
 int_sum_by-flat_map : (f : ℕ → ℤ) (g : ℕ → List ℕ) (xs : List ℕ) → int_sum_by f (flat_map g xs) ≡ int_sum_by (λ x. int_sum_by f (g x)) xs
 int_sum_by-flat_map f g [] = refl

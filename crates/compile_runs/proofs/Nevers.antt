@@ -13,7 +13,8 @@ use Rattle.code_flow_system.specs.declared.claims.Never.{Never}
 use Rattle.code_flow_system.specs.Counts.{KeepsNever}
 use Rattle.code_flow_system.specs.KeptRuns.{visit_count}
 use Rattle.high_ir.specs.declared.copies.NeverMark.{NeverMark}
-use Rattle.compile_claims.specs.Named.{AreNevers, addresses, never_at, nevers_at}
+use Rattle.compile_claims.specs.Places.{places_at}
+use Rattle.compile_claims.specs.Named.{AreNevers, never_at, nevers_at}
 
 -- counts that are numbers
 abbrev AreNumbers : (ℕ → ℤ) → Type 0
@@ -55,10 +56,10 @@ none_each f some (x ∷ xs) none =
 
 module _ (f : ℕ → ℤ) (places : List (List ℕ)) (some : AreNumbers f) where
   abbrev IsUnpassed : NeverMark → Type 0
-  IsUnpassed v = int_sum_by f (addresses places v.mark) ≡ pos 0
+  IsUnpassed v = int_sum_by f (places_at places v.mark) ≡ pos 0
 
   own_kept : (v : NeverMark) → IsUnpassed v → All (KeepsNever f) (nevers_at places v)
-  own_kept v none = All-map (KeepsNever f) (never_at v) (addresses places v.mark) (none_each f some (addresses places v.mark) none)
+  own_kept v none = All-map (KeepsNever f) (never_at v) (places_at places v.mark) (none_each f some (places_at places v.mark) none)
 
   all_kept : (vs : List NeverMark) → All IsUnpassed vs → All (KeepsNever f) (flat_map (nevers_at places) vs)
   all_kept [] none = All-nil (KeepsNever f)
@@ -66,5 +67,5 @@ module _ (f : ℕ → ℤ) (places : List (List ℕ)) (some : AreNumbers f) wher
       subst (All (KeepsNever f)) (sym (flat_map-cons (nevers_at places) v vs))
       (All-append (KeepsNever f) (nevers_at places v) (flat_map (nevers_at places) vs) (own_kept v (All-head IsUnpassed v vs none)) (all_kept vs (All-tail IsUnpassed v vs none)))
 
-pub nevers_kept : (f : ℕ → ℤ) (places : List (List ℕ)) (vs : List NeverMark) (ns : List Never) → AreNevers places vs ns → AreNumbers f → All (λ (v : NeverMark). int_sum_by f (addresses places v.mark) ≡ pos 0) vs → All (KeepsNever f) ns
+pub nevers_kept : (f : ℕ → ℤ) (places : List (List ℕ)) (vs : List NeverMark) (ns : List Never) → AreNevers places vs ns → AreNumbers f → All (λ (v : NeverMark). int_sum_by f (places_at places v.mark) ≡ pos 0) vs → All (KeepsNever f) ns
 nevers_kept f places vs ns h some none = All-permutation (KeepsNever f) (flat_map (nevers_at places) vs) ns h.all (all_kept f places some vs none)

@@ -35,7 +35,7 @@ use Rattle.compile_claims.proofs.Systems.{system_same}
 use Rattle.promise_report.specs.Runs.{RunsAs, RunsAsSource, visits_at}
 use Rattle.report_text.specs.declared.entries.CopyLine.{CopyLine}
 use Rattle.report_text.specs.Reports.{Report}
-use Rattle.compile_lines.specs.CopyLines.{places_at}
+use Rattle.compile_claims.specs.Places.{places_at}
 use Rattle.compile_made.specs.declared.made.Made.{Made}
 use Rattle.compile_made.specs.Made.{IsInMemory, IsMade, copies_of, high_of}
 use Rattle.compile_reports.specs.Reported.{IsReported}

@@ -11,7 +11,8 @@ use Rattle.facts_loops.specs.Loops.{SourceLoop, starts_of}
 use Rattle.high_ir.specs.declared.copies.NeverMark.{NeverMark}
 use Rattle.high_pass.specs.Carries.{Behaviour, StartsFewer, bounds_of}
 use Rattle.plan_loops.specs.Loops.{as_bounds, bounded as in_passes}
-use Rattle.compile_claims.specs.Named.{AreNevers, addresses, never_at, nevers_at}
+use Rattle.compile_claims.specs.Places.{places_at}
+use Rattle.compile_claims.specs.Named.{AreNevers, never_at, nevers_at}
 use Rattle.promise_report.specs.Facts.{IsNeverLine}
 
 -- what passes say of a loop that makes fewer starts is so of its starts
@@ -29,7 +30,7 @@ module _ (sources : List SourceLoop) (old : Behaviour) (loops_are : old.loops �
   MakesFewer v = StartsFewer (bounds_of old.loops v.old) v.factor
 
   own_lined : (v : NeverMark) → MakesFewer v → All (IsNeverLine sources) (nevers_at places v)
-  own_lined v fewer = All-map (IsNeverLine sources) (never_at v) (addresses places v.mark)
+  own_lined v fewer = All-map (IsNeverLine sources) (never_at v) (places_at places v.mark)
       (λ i d lt. record { number = v.old; source = refl; fewer = fewer_starts sources v.old v.factor (subst (λ ls. StartsFewer (bounds_of ls v.old) v.factor) loops_are fewer) })
 
   all_lined : (vs : List NeverMark) → All MakesFewer vs → All (IsNeverLine sources) (flat_map (nevers_at places) vs)

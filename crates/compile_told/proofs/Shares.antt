@@ -31,7 +31,8 @@ use Rattle.claims_definition.specs.Listed.{CodeRange, Laid, by_address, code_ran
 use Rattle.claims_definition.proofs.Blocks.{AllBelow}
 use Rattle.claims_image.specs.Images.{laid_of}
 use Rattle.claims_places.specs.Places.{places_below}
-use Rattle.compile_lines.specs.CopyLines.{AreLinesOf, places_at}
+use Rattle.compile_claims.specs.Places.{places_at}
+use Rattle.compile_lines.specs.CopyLines.{AreLinesOf}
 use Rattle.compile_lines.specs.Shares.{name_by, named}
 use Rattle.report_text.specs.declared.entries.CopyLine.{CopyLine}
 use Rattle.report_text.specs.declared.entries.Share.{Share}

@@ -1,13 +1,20 @@
 //! Says what the parts of the high form come to: a program for tests.
 //!
 //! Operators at the ends of their ranges; the size and the loops of a program; the copies of a pass that makes the same again,
-//! behind a pass that copied mark 5; and for each program that is folded its sizes, the value of its run, and the copies of its
-//! marks and loops. What is printed was worked out by hand.
+//! behind a pass that copied mark 5; for each program that is folded its sizes, the value of its run, and the copies of its
+//! marks and loops; for each whose loops are unrolled those of the new program with their bounds and the starts before them, and
+//! the value of its run; the numbers of copies; and a program that calls a function of twelve nodes three times, with its calls
+//! opened and without. What is printed was worked out by hand.
 #![tactic(auto)]
 
 mod folding;
+mod inlined;
+mod looping;
+mod narrow;
+mod numbered;
 mod passes;
 mod programs;
+mod unrolling;
 
 use high_eval::evaluate;
 use high_fold::Fold;
@@ -17,6 +24,7 @@ use high_ir::{Copies, High, loops, size};
 use high_pass::Pass;
 use std::alloc::{AllocError, Global};
 use std::io;
+use wcc_base::Memory;
 
 const MINUS_ONE: u32 = u32::MAX;
 
@@ -78,6 +86,22 @@ fn folded(alloc: Global, program: &High) -> Result<String, AllocError> {
     }
 }
 
+/// A program with its calls opened, where a function has at most so many nodes: the copies of each mark, what it returns and
+/// how many marks it passes.
+fn inlined_of(alloc: Global, limit: u32) -> Result<String, Memory> {
+    let made = inlined::inlined(alloc, limit)?;
+    let marks = marks_of(alloc, &made.copies)?;
+    match inlined::returned(alloc, &made.program)? {
+        Some((value, passed)) => Ok(format!(in alloc;
+            "{} returns {} passes {}",
+            marks.as_str(),
+            value,
+            passed
+        )?),
+        None => Ok(format!(in alloc; "{} no good run", marks.as_str())?),
+    }
+}
+
 fn main(rt: HostRuntime) -> io::Result<()> {
     let alloc = rt.alloc();
     for (operator, left, right) in &OPERATIONS {
@@ -93,5 +117,29 @@ fn main(rt: HostRuntime) -> io::Result<()> {
     println!(rt; "{}", folded(alloc, &folding::test_that_holds(alloc)?)?)?;
     println!(rt; "{}", folded(alloc, &folding::marker_left_out(alloc)?)?)?;
     println!(rt; "{}", folded(alloc, &folding::loop_left_out(alloc)?)?)?;
+    println!(rt; "{}", folded(alloc, &narrow::conversion(alloc)?)?)?;
+    println!(rt; "{}", folded(alloc, &narrow::neutral(alloc)?)?)?;
+    match unrolling::rows(alloc) {
+        Ok(rows) => {
+            for row in &rows {
+                println!(rt; "{row}")?;
+            }
+        }
+        Err(_) => println!(rt; "no memory")?,
+    }
+    match numbered::numbered(alloc) {
+        Ok(copies) => println!(rt;
+            "copies{} loops {}",
+            marks_of(alloc, &copies)?,
+            copies.loops.len()
+        )?,
+        Err(_) => println!(rt; "no memory")?,
+    }
+    for limit in [12u32, 11, 0] {
+        match inlined_of(alloc, limit) {
+            Ok(line) => println!(rt; "inlined{}", line)?,
+            Err(_) => println!(rt; "no memory")?,
+        }
+    }
     Ok(())
 }

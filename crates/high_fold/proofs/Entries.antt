@@ -4,9 +4,8 @@ use Rattle.std.specs.Prelude.{◌==◌, if◌then◌else◌}
 use Rattle.std.specs.List.{range_with_len}
 use Rattle.std.proofs.lemmas.Bool.{false≢true}
 use Rattle.std.proofs.lemmas.List.{append-nil, append_assoc, drop-drop, drop_all, drop_more, map-append}
-use Rattle.std.proofs.lemmas.List.FromFn.{get_or-range_with_len, length-range_with_len, map-range_with_len_more}
+use Rattle.std.proofs.lemmas.List.FromFn.{get_or-range_with_len, length-range_with_len}
 use Rattle.high_ir.specs.declared.copies.LoopCopies.{LoopCopies}
-use Rattle.high_ir.specs.declared.copies.MarkCopies.{MarkCopies}
 use Rattle.high_ir.specs.declared.copies.NeverMark.{NeverMark}
 use Rattle.high_ir.specs.Tree.{Program}
 use Rattle.high_pass.specs.Listing.{Listing, LoopEntry, MarkEntry, loop_entry}

@@ -1,16 +1,13 @@
 -- The folded statements that the code makes.
-use Rattle.std.proofs.Common.{◌≡◌, ℕ, zero, suc, ◌+◌, ◌<◌, ◌≤◌, List, [], ◌∷◌, ◌++◌, length, get_or, drop, map, Option, Some, None, refl, sym, ap, ◌∙◌, subst}
+use Rattle.std.proofs.Common.{◌≡◌, ℕ, zero, suc, ◌+◌, ◌<◌, ◌≤◌, List, [], ◌∷◌, ◌++◌, length, get_or, drop, map, Option, Some, None, refl, sym, ap, ◌∙◌}
 use Rattle.std.specs.Prelude.{Vec}
 use Rattle.std.specs.Global.{Global}
 use Rattle.std.proofs.lemmas.List.{append_assoc, drop_all, drop_more, length-append, length_push}
-use Rattle.std.proofs.lemmas.List.Sums.{get_or-le-sum_by}
 use Rattle.high_ir.specs.declared.high.Function as functions
 use Rattle.high_ir.specs.declared.statement.Statement as statements
-use Rattle.high_ir.specs.Size.{nodes, nodes_all}
 use Rattle.high_ir.specs.Tree.{Expr, Statement, Seq, If, Loop, Statements, Function}
 use Rattle.high_ir.specs.View.{function_of, statement_of, statements_of}
 use Rattle.high_ir.proofs.Rows.{statement_of-Seq}
-use Rattle.high_ir.proofs.Sizes.{nodes_all-statements_of}
 use Rattle.high_code.specs.Code.{alone, joined}
 use Rattle.high_parts.proofs.Making.{joined_end, joined_then, statements_push}
 use Rattle.high_folded.specs.Folded.{constant_of, decided, folded, folded_all, folded_expr, folded_function, folded_functions, kept_all, kept_in, kept_loops}

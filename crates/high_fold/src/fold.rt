@@ -12,7 +12,8 @@ use high_pass::Pass;
 use std::alloc::Global;
 use wcc_base::Memory;
 
-/// Computes operators over constants, and makes choices whose test is a constant.
+/// Computes operators over constants, leaves out operators that give back their operand, and makes choices whose test is a
+/// constant.
 pub struct Fold;
 
 /// The folded program, and what became of its marks and loops.

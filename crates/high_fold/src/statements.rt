@@ -2,11 +2,11 @@
 ghost use Rattle.std.specs.Prelude.{◌≡◌, ◌+◌, ◌++◌, IfOk, OnOk, length, map};
 ghost use Rattle.high_ir.specs.Tree.{Call, If, Keep, Loop};
 ghost use Rattle.high_ir.specs.View.{expr_of, statement_of, statements_of};
-ghost use Rattle.high_folded.specs.Folded.{folded, folded_all, folded_expr, kept_all, kept_loops};
+ghost use Rattle.high_folded.specs.Folded.{folded, folded_all, folded_expr, kept_all, kept_loops, stored_expr};
 
-use super::expressions::{constant_of, folded_expr, folded_exprs};
+use super::expressions::{constant_of, folded_expr, folded_exprs, stored_expr};
 use high_ir::expression::Expr;
-use high_ir::object::{Array, Base};
+use high_ir::object::{Array, Base, Kind};
 use high_ir::statement::Statement;
 use high_parts::expressions::let_go_expr;
 use high_parts::statements::{block, choice, let_go, loop_of};
@@ -24,10 +24,10 @@ pub fn next_number(kept: &[u32]) -> Result<u32, Memory>
 }
 
 fn folded_keep(alloc: Global, array: Array, index: &Expr, value: &Expr) -> Result<Statement, Memory>
-    ensures { IfOk result (λ s. statement_of s ≡ Keep array (folded_expr (expr_of index.now)) (folded_expr (expr_of value.now))) }
+    ensures { IfOk result (λ s. statement_of s ≡ Keep array (folded_expr (expr_of index.now)) (stored_expr array.kind (expr_of value.now))) }
 {
     let index = folded_expr(alloc, index)?;
-    match folded_expr(alloc, value) {
+    match stored_expr(alloc, array.kind, value) {
         Ok(value) => Ok(Statement::Keep {
             array,
             index,
@@ -74,7 +74,7 @@ pub fn folded(
             value: folded_expr(alloc, value)?,
         }),
         Statement::Put { value } => Ok(Statement::Put {
-            value: folded_expr(alloc, value)?,
+            value: stored_expr(alloc, Kind::Unsigned8, value)?,
         }),
         Statement::Get { into } => Ok(Statement::Get { into: *into }),
         Statement::Keep {

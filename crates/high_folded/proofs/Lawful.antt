@@ -1,16 +1,11 @@
 -- Folding is lawful.
-use Rattle.std.proofs.Common.{◌≡◌, ℕ, ◌+◌, ◌<◌, ◌≤◌, List, [], ◌∷◌, length, get_or, map, Option, Some, None, refl, sym, ap, ◌∙◌, subst, arith, All}
-use Rattle.std.specs.Prelude.{Contains, sum_by}
-use Rattle.std.specs.List.{flat_map, range_with_len}
-use Rattle.std.proofs.lemmas.List.{append-nil}
-use Rattle.std.proofs.lemmas.List.Elements.{All-cons, All-map, All-nil, Contains-get_or}
-use Rattle.std.proofs.lemmas.List.FromFn.{get_or-map-range_with_len}
-use Rattle.std.proofs.lemmas.List.Sums.{sum_by-cons}
+use Rattle.std.proofs.Common.{◌≡◌, ℕ, ◌+◌, ◌≤◌, List, [], ◌∷◌, length, map, Some, refl, sym, ap, ◌∙◌, subst, arith, All}
+use Rattle.std.specs.List.{range_with_len}
+use Rattle.std.proofs.lemmas.List.Elements.{All-cons, All-nil}
 use Rattle.high_ir.specs.Formed.{IsHigh}
-use Rattle.high_ir.specs.Runs.{Run, count_of, hrun}
+use Rattle.high_ir.specs.Runs.{count_of, hrun}
 use Rattle.high_ir.specs.Standing.{loops_in}
 use Rattle.high_ir.specs.Tree.{Function, Program}
-use Rattle.high_ir.specs.Weight.{reach}
 use Rattle.high_pass.specs.Carries.{Carries, RunsAlike, StartsFewer, behaviour_of, bounds_of, shown}
 use Rattle.high_pass.specs.Law.{IsLawful, WithinBudgets, signature_of}
 use Rattle.high_pass.specs.Listing.{HasEachBelow, LoopEntry, listed_loops}

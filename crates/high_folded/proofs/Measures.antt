@@ -3,11 +3,13 @@ use Rattle.std.proofs.Common.{◌≡◌, ℕ, ◌+◌, ◌≤◌, max, List, [],
 use Rattle.std.specs.Prelude.{sum_by}
 use Rattle.std.proofs.lemmas.List.{length-map}
 use Rattle.std.proofs.lemmas.List.Sums.{sum_by-cons}
+use Rattle.high_ir.specs.declared.object.Kind.{Kind}
+use Rattle.high_ir.specs.declared.object.Kind.TheVariants.{Unsigned8}
 use Rattle.high_ir.specs.Size.{depth, depth_all, expr_depth, expr_nodes, expr_operations, frame_bytes, function_nodes, greatest, nodes, nodes_all, operations, operations_all}
 use Rattle.high_ir.specs.Standing.{blocks_needed, blocks_needed_all}
 use Rattle.high_ir.specs.Tree.{Expr, Constant, Variable, Element, Unary, Binary, Statement, Set, Put, Get, Keep, Mark, Seq, If, Loop, Block, Leave, Call, Return, Statements, End, Then, Function}
-use Rattle.high_folded.specs.Folded.{constant_of, folded, folded_all, folded_expr, folded_function, folded_functions, kept_loops}
-use Rattle.high_folded.proofs.Cases.{binary_cases, decided_cases, unary_cases}
+use Rattle.high_folded.specs.Folded.{constant_of, folded, folded_all, folded_expr, folded_function, folded_functions, kept_loops, stored_expr}
+use Rattle.high_folded.proofs.Cases.{binary_cases, decided_cases, stored_cases, unary_cases}
 
 -- expressions
 pub nodes-expr : (e : Expr) → expr_nodes (folded_expr e) ≤ expr_nodes e
@@ -16,11 +18,12 @@ nodes-expr (Variable x) = omega arith
 nodes-expr (Element array index) = let h = nodes-expr index in omega (arith, h)
 nodes-expr (Unary operator e) =
     let h = nodes-expr e in
-    unary_cases (λ x. expr_nodes x ≤ expr_nodes e + 1) operator (folded_expr e) (λ word is. omega arith) (λ none. omega (arith, h))
+    unary_cases (λ x. expr_nodes x ≤ expr_nodes e + 1) operator (folded_expr e) (λ word is. omega arith) (λ idle. omega (arith, h)) (λ none plain. omega (arith, h))
 nodes-expr (Binary operator left right) =
     let h = nodes-expr left in
     let k = nodes-expr right in
-    binary_cases (λ x. expr_nodes x ≤ expr_nodes left + expr_nodes right + 1) operator (folded_expr left) (folded_expr right) (λ u v is is'. omega arith) (λ plain. omega (arith, h, k))
+    binary_cases (λ x. expr_nodes x ≤ expr_nodes left + expr_nodes right + 1) operator (folded_expr left) (folded_expr right)
+    (λ u v is is'. omega arith) (λ v is t. omega (arith, h)) (λ u is t. omega (arith, k)) (λ plain. omega (arith, h, k))
 
 operations-expr : (e : Expr) → expr_operations (folded_expr e) ≤ expr_operations e
 operations-expr (Constant word) = omega arith
@@ -28,15 +31,22 @@ operations-expr (Variable x) = omega arith
 operations-expr (Element array index) = let h = operations-expr index in omega (arith, h)
 operations-expr (Unary operator e) =
     let h = operations-expr e in
-    unary_cases (λ x. expr_operations x ≤ expr_operations e + 1) operator (folded_expr e) (λ word is. omega arith) (λ none. omega (arith, h))
+    unary_cases (λ x. expr_operations x ≤ expr_operations e + 1) operator (folded_expr e) (λ word is. omega arith) (λ idle. omega (arith, h)) (λ none plain. omega (arith, h))
 operations-expr (Binary operator left right) =
     let h = operations-expr left in
     let k = operations-expr right in
-    binary_cases (λ x. expr_operations x ≤ expr_operations left + expr_operations right + 1) operator (folded_expr left) (folded_expr right) (λ u v is is'. omega arith) (λ plain. omega (arith, h, k))
+    binary_cases (λ x. expr_operations x ≤ expr_operations left + expr_operations right + 1) operator (folded_expr left) (folded_expr right)
+    (λ u v is is'. omega arith) (λ v is t. omega (arith, h)) (λ u is t. omega (arith, k)) (λ plain. omega (arith, h, k))
 
 -- the greatest of two
 two_less : (a b c d : ℕ) → a ≤ c → b ≤ d → max a b + 1 ≤ max c d + 1
 two_less a b c d h k = omega (arith, h, k)
+
+left_less : (a c d : ℕ) → a ≤ c → a ≤ max c d + 1
+left_less a c d h = omega (arith, h)
+
+right_less : (b c d : ℕ) → b ≤ d → b ≤ max c d + 1
+right_less b c d h = omega (arith, h)
 
 both_less : (a b c d : ℕ) → a ≤ c → b ≤ d → max a b ≤ max c d
 both_less a b c d h k = omega (arith, h, k)
@@ -47,12 +57,23 @@ depth-expr (Variable x) = omega arith
 depth-expr (Element array index) = let h = depth-expr index in omega (arith, h)
 depth-expr (Unary operator e) =
     let h = depth-expr e in
-    unary_cases (λ x. expr_depth x ≤ expr_depth e + 1) operator (folded_expr e) (λ word is. omega arith) (λ none. omega (arith, h))
+    unary_cases (λ x. expr_depth x ≤ expr_depth e + 1) operator (folded_expr e) (λ word is. omega arith) (λ idle. omega (arith, h)) (λ none plain. omega (arith, h))
 depth-expr (Binary operator left right) =
     let h = depth-expr left in
     let k = depth-expr right in
     binary_cases (λ x. expr_depth x ≤ max (expr_depth left) (expr_depth right) + 1) operator (folded_expr left) (folded_expr right) (λ u v is is'. omega arith)
+    (λ v is t. left_less (expr_depth (folded_expr left)) (expr_depth left) (expr_depth right) h) (λ u is t. right_less (expr_depth (folded_expr right)) (expr_depth left) (expr_depth right) k)
     (λ plain. two_less (expr_depth (folded_expr left)) (expr_depth (folded_expr right)) (expr_depth left) (expr_depth right) h k)
+
+-- what is stored
+pub nodes-stored : (kind : Kind) (e : Expr) → expr_nodes (stored_expr kind e) ≤ expr_nodes e
+nodes-stored kind e = stored_cases (λ old new. expr_nodes new ≤ expr_nodes old) kind nodes-expr (λ operator e new h. omega (arith, h)) e
+
+operations-stored : (kind : Kind) (e : Expr) → expr_operations (stored_expr kind e) ≤ expr_operations e
+operations-stored kind e = stored_cases (λ old new. expr_operations new ≤ expr_operations old) kind operations-expr (λ operator e new h. omega (arith, h)) e
+
+depth-stored : (kind : Kind) (e : Expr) → expr_depth (stored_expr kind e) ≤ expr_depth e
+depth-stored kind e = stored_cases (λ old new. expr_depth new ≤ expr_depth old) kind depth-expr (λ operator e new h. omega (arith, h)) e
 
 -- lists of expressions
 pub all_nodes-exprs : (es : List Expr) → sum_by expr_nodes (map folded_expr es) ≤ sum_by expr_nodes es
@@ -82,9 +103,9 @@ greatest-exprs (e ∷ es) =
 mutual
   pub nodes-folded : (s : Statement) (n : ℕ) → nodes (folded n s) ≤ nodes s
   nodes-folded (Set x e) n = let h = nodes-expr e in omega (arith, h)
-  nodes-folded (Put e) n = let h = nodes-expr e in omega (arith, h)
+  nodes-folded (Put e) n = let h = nodes-stored Unsigned8 e in omega (arith, h)
   nodes-folded (Get x) n = omega arith
-  nodes-folded (Keep array i e) n = let h = nodes-expr i in let k = nodes-expr e in omega (arith, h, k)
+  nodes-folded (Keep array i e) n = let h = nodes-expr i in let k = nodes-stored array.kind e in omega (arith, h, k)
   nodes-folded (Mark m) n = omega arith
   nodes-folded (Seq parts) n = let h = nodes_all-folded parts n in omega (arith, h)
   nodes-folded (If test first other) n =
@@ -111,9 +132,9 @@ mutual
 mutual
   pub operations-folded : (s : Statement) (n : ℕ) → operations (folded n s) ≤ operations s
   operations-folded (Set x e) n = let h = operations-expr e in omega (arith, h)
-  operations-folded (Put e) n = let h = operations-expr e in omega (arith, h)
+  operations-folded (Put e) n = let h = operations-stored Unsigned8 e in omega (arith, h)
   operations-folded (Get x) n = omega arith
-  operations-folded (Keep array i e) n = let h = operations-expr i in let k = operations-expr e in omega (arith, h, k)
+  operations-folded (Keep array i e) n = let h = operations-expr i in let k = operations-stored array.kind e in omega (arith, h, k)
   operations-folded (Mark m) n = omega arith
   operations-folded (Seq parts) n = let h = operations_all-folded parts n in omega (arith, h)
   operations-folded (If test first other) n =
@@ -150,9 +171,9 @@ other_way o t' f' o' h = omega (arith, h)
 mutual
   pub depth-folded : (s : Statement) (n : ℕ) → depth (folded n s) ≤ depth s
   depth-folded (Set x e) n = let h = depth-expr e in omega (arith, h)
-  depth-folded (Put e) n = let h = depth-expr e in omega (arith, h)
+  depth-folded (Put e) n = let h = depth-stored Unsigned8 e in omega (arith, h)
   depth-folded (Get x) n = omega arith
-  depth-folded (Keep array i e) n = two_less (expr_depth (folded_expr i)) (expr_depth (folded_expr e)) (expr_depth i) (expr_depth e) (depth-expr i) (depth-expr e)
+  depth-folded (Keep array i e) n = two_less (expr_depth (folded_expr i)) (expr_depth (stored_expr array.kind e)) (expr_depth i) (expr_depth e) (depth-expr i) (depth-stored array.kind e)
   depth-folded (Mark m) n = omega arith
   depth-folded (Seq parts) n = let h = depth_all-folded parts n in omega (arith, h)
   depth-folded (If test first other) n =

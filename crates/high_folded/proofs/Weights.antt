@@ -3,13 +3,14 @@ use Rattle.std.proofs.Common.{ℕ, zero, suc, ◌+◌, ◌*◌, ◌≤◌, List,
 use Rattle.std.specs.Prelude.{◌==◌, if◌then◌else◌, slice_get}
 use Rattle.std.proofs.Math.Nat.{mul-le-mul_left}
 use Rattle.std.proofs.lemmas.List.{length-map}
+use Rattle.high_ir.specs.declared.object.Kind.TheVariants.{Unsigned8}
 use Rattle.high_ir.specs.Runs.{rank_or}
 use Rattle.high_ir.specs.Size.{expr_nodes}
 use Rattle.high_ir.specs.Tree.{Statement, Set, Put, Get, Keep, Mark, Seq, If, Loop, Block, Leave, Call, Return, Statements, End, Then, Function, Program}
 use Rattle.high_ir.specs.Weight.{body_reach, body_weight, most_starts, reach, reach_of, reach_of_all, reaches, weight, weight_of, weight_of_all, weights}
 use Rattle.high_folded.specs.Folded.{constant_of, folded, folded_all, folded_expr, folded_functions, folded_program, kept_loops}
 use Rattle.high_folded.proofs.Cases.{decided_cases}
-use Rattle.high_folded.proofs.Measures.{all_nodes-exprs, nodes-expr}
+use Rattle.high_folded.proofs.Measures.{all_nodes-exprs, nodes-expr, nodes-stored}
 use Rattle.high_folded.proofs.Running.{rank_or-folded}
 
 turns_less : (k a b : ℕ) → a ≤ b → 4 + k * (3 + a) ≤ 4 + k * (3 + b)
@@ -22,9 +23,9 @@ module _ (now before : ℕ → ℕ) (less : (f : ℕ) → now f ≤ before f) wh
   mutual
     weight-folded : (s : Statement) (n : ℕ) → weight_of now (folded n s) ≤ weight_of before s
     weight-folded (Set x e) n = let h = nodes-expr e in omega (arith, h)
-    weight-folded (Put e) n = let h = nodes-expr e in omega (arith, h)
+    weight-folded (Put e) n = let h = nodes-stored Unsigned8 e in omega (arith, h)
     weight-folded (Get x) n = omega arith
-    weight-folded (Keep array i e) n = let h = nodes-expr i in let k = nodes-expr e in omega (arith, h, k)
+    weight-folded (Keep array i e) n = let h = nodes-expr i in let k = nodes-stored array.kind e in omega (arith, h, k)
     weight-folded (Mark m) n = omega arith
     weight-folded (Seq parts) n = let h = weight_all-folded parts n in omega (arith, h)
     weight-folded (If test first other) n =

@@ -1,9 +1,13 @@
--- A program in which what is known is computed: operators over constants, and choices whose test is a constant.
-use Rattle.std.specs.Prelude.{ℕ, zero, suc, ◌+◌, List, [], ◌∷◌, ◌++◌, length, map, Option, Some, None}
+-- A program in which what is known is computed: operators over constants, and choices whose test is a constant; and in which
+-- what changes nothing is left out: conversions of what their kind keeps, operators with a neutral constant.
+use Rattle.std.specs.Prelude.{ℕ, zero, suc, ◌+◌, List, [], ◌∷◌, ◌++◌, length, map, Option, Some, None, if◌then◌else◌}
+use Rattle.high_ir.specs.declared.object.Kind.{Kind}
+use Rattle.high_ir.specs.declared.object.Kind.TheVariants.{Unsigned8}
 use Rattle.high_ir.specs.declared.expression.UnaryOperator.{UnaryOperator}
 use Rattle.high_ir.specs.declared.expression.BinaryOperator.{BinaryOperator}
 use Rattle.high_ir.specs.Tree.{Expr, Constant, Variable, Element, Unary, Binary, Statement, Set, Put, Get, Keep, Mark, Seq, If, Loop, Block, Leave, Call, Return, Statements, End, Then, Function, Program}
 use Rattle.high_ir.specs.Words.{unary_word, binary_word}
+use Rattle.high_ranges.specs.Ranges.{gives_left, gives_right, is_idle, is_lost}
 
 -- the word of a constant
 abbrev pub constant_of : Expr → Option ℕ
@@ -13,14 +17,15 @@ constant_of (Element array index) = None
 constant_of (Unary operator operand) = None
 constant_of (Binary operator left right) = None
 
--- an operator over operands, of which these are constants
+-- an operator over operands, of which these are constants: what it computes, or the operand that it gives back
 abbrev pub unary_folded : Option ℕ → UnaryOperator → Expr → Expr
-unary_folded None operator operand = Unary operator operand
+unary_folded None operator operand = if is_idle operator operand then operand else Unary operator operand
 unary_folded (Some word) operator operand = Constant (unary_word operator word)
 
 abbrev pub binary_folded : Option ℕ → Option ℕ → BinaryOperator → (left right : Expr) → Expr
-binary_folded None other operator left right = Binary operator left right
-binary_folded (Some u) None operator left right = Binary operator left right
+binary_folded None None operator left right = Binary operator left right
+binary_folded None (Some v) operator left right = if gives_left operator left v then left else Binary operator left right
+binary_folded (Some u) None operator left right = if gives_right operator u right then right else Binary operator left right
 binary_folded (Some u) (Some v) operator left right = Constant (binary_word operator u v)
 
 abbrev pub folded_expr : Expr → Expr
@@ -29,6 +34,14 @@ folded_expr (Variable x) = Variable x
 folded_expr (Element array index) = Element array (folded_expr index)
 folded_expr (Unary operator operand) = unary_folded (constant_of (folded_expr operand)) operator (folded_expr operand)
 folded_expr (Binary operator left right) = binary_folded (constant_of (folded_expr left)) (constant_of (folded_expr right)) operator (folded_expr left) (folded_expr right)
+
+-- an expression whose value is stored into an element of a kind: without the conversions that the store makes anyway
+abbrev pub stored_expr : Kind → Expr → Expr
+stored_expr kind (Constant word) = Constant word
+stored_expr kind (Variable x) = Variable x
+stored_expr kind (Element array index) = folded_expr (Element array index)
+stored_expr kind (Unary operator operand) = if is_lost kind operator then stored_expr kind operand else folded_expr (Unary operator operand)
+stored_expr kind (Binary operator left right) = folded_expr (Binary operator left right)
 
 -- of a choice, one of its ways where its test is this constant, and else both
 abbrev pub decided : {A : Type 0} → Option ℕ → (first other both : A) → A
@@ -60,9 +73,9 @@ abbrev mutual
 abbrev mutual
   pub folded : ℕ → Statement → Statement
   folded n (Set x e) = Set x (folded_expr e)
-  folded n (Put e) = Put (folded_expr e)
+  folded n (Put e) = Put (stored_expr Unsigned8 e)
   folded n (Get x) = Get x
-  folded n (Keep array i e) = Keep array (folded_expr i) (folded_expr e)
+  folded n (Keep array i e) = Keep array (folded_expr i) (stored_expr array.kind e)
   folded n (Mark m) = Mark m
   folded n (Seq parts) = Seq (folded_all n parts)
   folded n (If test first other) = decided (constant_of (folded_expr test)) (folded n first) (folded n other) (If (folded_expr test) (folded n first) (folded (n + length (kept_loops first)) other))

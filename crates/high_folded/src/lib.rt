@@ -1,9 +1,10 @@
 //! What folding makes of a program in the high form, and why it is lawful.
 //!
 //! An operator over constants becomes the constant that it computes, and a choice whose test is a constant becomes the way
-//! that it takes; the other way is left out, with its loops and marks. Nothing else is changed: statements behind a leave or
-//! a return stay. `specs/Folded` defines the program, `specs/Listed` what becomes of its marks and loops, `specs/Done` that
-//! nothing is left to compute.
+//! that it takes; the other way is left out, with its loops and marks. Left out too are conversions of what their kind keeps,
+//! operators with a neutral constant, and conversions before a store that makes them anyway. Nothing else is changed:
+//! statements behind a leave or a return stay. `specs/Folded` defines the program, `specs/Listed` what becomes of its marks
+//! and loops, `specs/Done` that nothing is left to compute.
 //!
 //! Proved in `proofs/`: a folded program has the same runs, keeps to the high form, and is lawful with these copies, as
 //! `high_pass` asks of each pass (`Lawful`).

@@ -4,6 +4,7 @@ ghost use Rattle.wcc_base.specs.declared.status.Status.{Status};
 ghost use Rattle.command_perform.specs.Words.{asked_by};
 ghost use Rattle.command_perform.specs.Ends.{EndsWith};
 ghost use Rattle.command_perform.specs.Checkable.{IsCheckable};
+ghost use Rattle.command_perform.specs.Making.{MakeEnds};
 ghost use Rattle.command_perform.specs.Promises.{IsDone, Answers, CanEnd, NoFault};
 
 use command_perform::perform;
@@ -28,6 +29,9 @@ pub fn wcc<S: Store, O: Sink>(alloc: Global, words: &[String], store: &mut S, ou
 
     // What `compile` and `make` wrote, `check` accepts: with the same table it can only end so.
     ensures checked { result ≡ Status.Done → IsCheckable (asked_by (map string_bytes words.now)) (S.state store.old) (S.state store.new) }
+
+    // `make` is done, unless writing fails or memory runs out: no number is refused, stopped or found not to hold.
+    ensures make { MakeEnds (asked_by (map string_bytes words.now)) result }
 
     // What can only end in one way ends so, unless a fault is counted or memory runs out: a source
     // without restrictions is compiled, one with a restriction is answered by its form, a report that

@@ -22,30 +22,42 @@ use compile_reports::reported_are_reports;
 use elf_image::read_of_write;
 use facts_front::Source;
 use high_fold::Fold;
+use inliner::Inline;
+use promise_compiler::Options;
 use rv_core::Costs;
 use std::alloc::Global;
+use unroller::Unroll;
 use wcc_base::Memory;
 use wcc_report::Report;
 
 /// A source in the high form: its plan, and what each pass makes of the program before it.
-fn high(alloc: Global, source: &Source) -> Result<Stages, Memory>
+fn high(alloc: Global, source: &Source, options: &Options) -> Result<Stages, Memory>
     requires { (text : List ℕ) × IsOf text source.now }
-    ensures begun { IfOk result (AreBegun (names_of source.now) (tree_of source.now) source.now.facts) }
+    ensures begun { IfOk result (AreBegun options.now (names_of source.now) (tree_of source.now) source.now.facts) }
     ensures all { IfOk result (λ s. length s.before.items ≡ passes) }
 {
     let stages = begun(alloc, source, planned(alloc, source)?);
-    let stages = passed(alloc, source, stages, 0, &Fold)?;
+    let stages = passed(alloc, source, stages, options, 0, &Fold)?;
+    let inline = Inline {
+        limit: options.inline,
+    };
+    let stages = passed(alloc, source, stages, options, 1, &inline)?;
+    let unroll = Unroll {
+        factor: options.unroll,
+    };
+    let stages = passed(alloc, source, stages, options, 2, &unroll)?;
+    let stages = passed(alloc, source, stages, options, 3, &Fold)?;
     Ok(stages)
 }
 
 /// A source in memory: what the passes make of it, the low form, the image.
-fn made(alloc: Global, source: &Source) -> Result<Made, Memory>
+fn made(alloc: Global, source: &Source, options: &Options) -> Result<Made, Memory>
     requires { (text : List ℕ) × IsOf text source.now }
-    ensures stages { IfOk result (λ m. AreStages (names_of source.now) (tree_of source.now) source.now.facts (stages_of m.stages)) }
+    ensures stages { IfOk result (λ m. AreStages options.now (names_of source.now) (tree_of source.now) source.now.facts (stages_of m.stages)) }
     ensures all { IfOk result (λ m. length m.stages.before.items ≡ passes) }
     ensures made { IfOk result (IsMade (names_of source.now) (tree_of source.now) source.now.facts) }
 {
-    let stages = high(alloc, source)?;
+    let stages = high(alloc, source, options)?;
     let lowered = lowered(alloc, stages)?;
     let made = laid(alloc, lowered)?;
     Ok(made)
@@ -69,20 +81,20 @@ fn reported(alloc: Global, source: &Source, made: &Made, costs: &Costs) -> Resul
     }
 }
 
-/// The image of a source that was read, and the report on it.
-pub fn built(alloc: Global, source: &Source, costs: &Costs) -> Result<Built, Memory>
+/// The image of a source that was read, and the report on it, with these options.
+pub fn built(alloc: Global, source: &Source, options: &Options) -> Result<Built, Memory>
     requires source { (text : List ℕ) × IsOf text source.now }
     requires plain { source.now.facts.restrictions ≡ [] }
-    ensures built { IfOk result (λ b. (derive : Bool) (text : List ℕ) → IsOfBy derive text source.now → IsBuilt derive (table_of costs.now) text b) }
-    ensures compiled { IfOk result (λ b. (derive : Bool) (text : List ℕ) → IsOfBy derive text source.now → IsCompiled derive (table_of costs.now) text (text_of b.made.laid.image) (report_text b.report) b.report) }
+    ensures built { IfOk result (λ b. (text : List ℕ) → IsOfBy options.now.derive text source.now → IsBuilt options.now text b) }
+    ensures compiled { IfOk result (λ b. (derive : Bool) (text : List ℕ) → IsOfBy derive text source.now → IsCompiled derive (table_of options.now.costs) text (text_of b.made.laid.image) (report_text b.report) b.report) }
     ensures cycles { IfOk result (λ b. b.report.cert.cycles ≤ 2 ^ 62) }
     ensures short { IfOk result (λ b. (text : List ℕ) → IsOf text source.now → length text ≤ 1048576 → AreShort (text_of b.made.laid.image) (report_text b.report)) }
 {
     reported_are_compiled();
     texts_are_short();
-    let made = made(alloc, source)?;
+    let made = made(alloc, source, options)?;
     read_of_write(&made.laid.image);
-    match reported(alloc, source, &made, costs) {
+    match reported(alloc, source, &made, &options.costs) {
         Ok(report) => Ok(Built { made, report }),
         Err(memory) => {
             drop(made);

@@ -1,6 +1,6 @@
 use Rattle.std.proofs.Common.{◌≡◌, take}
 use Rattle.std.specs.List.{flat_map}
-use Rattle.compile_lines.specs.CopyLines.{places_at}
+use Rattle.compile_claims.specs.Places.{places_at}
 use Rattle.compile_lines.proofs.copies.places_of.Given as goal
 
 abbrev pub invariant-loop-mark : goal.invariant-loop-mark

@@ -14,8 +14,8 @@ returns-clause-begun c =
     let names = s.typed.program.names.items in
     let tree = source_of s.typed.program in
     let plan = c.args.plan in
-    record {
-      stages = subst (λ (xs : List Carried). AreStages names tree s.facts (xs ++ plan ∷ [])) (sym c.new.ensures.items) (c.requires.planned, tt);
+    λ options. record {
+      stages = subst (λ (xs : List Carried). AreStages options names tree s.facts (xs ++ plan ∷ [])) (sym c.new.ensures.items) (c.requires.planned, tt);
       carried = subst (λ n. IsCarried names tree s.facts n (program_of plan.program) (listing_of plan.copies)) (sym (ap length c.new.ensures.items))
           (planned_carried c.requires.source.0 names tree s.facts (program_of plan.program) (listing_of plan.copies) c.requires.source.1 c.requires.planned);
     }

@@ -29,16 +29,16 @@ returns-in_ok-stages-in-Ok-clause-begun g c =
     let before = program_of old.last.program in
     let whole = listing_of old.last.copies in
     let n = length old.before.items in
-    let passed : IsPassed (does n) before (program_of chained.step.program) whole (listing_of chained.whole) = record {
+    let passed : IsPassed (does c.args.options.now n) before (program_of chained.step.program) whole (listing_of chained.whole) = record {
       step = listing_of chained.step.copies;
-      does = subst (λ k. does k before (program_of chained.step.program) (listing_of chained.step.copies)) (sym c.requires.place) (c.requires.does _ _ _ from.did);
+      does = subst (λ k. does c.args.options.now k before (program_of chained.step.program) (listing_of chained.step.copies)) (sym c.requires.place) (c.requires.does _ _ _ from.did);
       lawful = from.law;
       listed = from.composed;
       continues = from.continues;
     } in
-    begun_more s.typed.program.names.items (source_of s.typed.program) s.facts old new c.requires.begun grown.before new.last.program.is_high
-    (subst (λ p. IsPassed (does n) before p whole (listing_of new.last.copies)) (ap program_of (sym grown.program))
-    (subst (λ l. IsPassed (does n) before (program_of chained.step.program) whole l) (ap listing_of (sym grown.copies)) passed))
+    begun_more c.args.options.now s.typed.program.names.items (source_of s.typed.program) s.facts old new c.requires.begun grown.before new.last.program.is_high
+    (subst (λ p. IsPassed (does c.args.options.now n) before p whole (listing_of new.last.copies)) (ap program_of (sym grown.program))
+    (subst (λ l. IsPassed (does c.args.options.now n) before (program_of chained.step.program) whole l) (ap listing_of (sym grown.copies)) passed))
 
 pub returns-in_ok-stages-in-Ok-clause-place : goal.returns-in_ok-stages-in-Ok-clause-place
 returns-in_ok-stages-in-Ok-clause-place g c =

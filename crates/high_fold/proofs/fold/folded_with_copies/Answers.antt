@@ -4,7 +4,6 @@ use Rattle.high_pass.specs.Law.{IsLawful}
 use Rattle.high_pass.specs.Listing.{listing_of}
 use Rattle.high_folded.specs.Done.{IsFolded}
 use Rattle.high_folded.specs.Folded.{folded_program}
-use Rattle.high_folded.specs.Listed.{folded_listing}
 use Rattle.high_folded.proofs.Lawful.{as_folded, lawful}
 use Rattle.high_fold.proofs.fold.folded_with_copies.Goals as goal
 

@@ -10,7 +10,7 @@ built-built-requires-clause-source c =
     (c.args.source.now, one_way c.args.options.now.derive c.args.source.now (names_of s) (tree_of s) s.facts c.in_ok-source.ensures.source)
 
 pub returns-in-Ok-clause-built : goal.returns-in-Ok-clause-built
-returns-in-Ok-clause-built c = c.in-Ok.ensures.built c.args.options.now.derive c.args.source.now c.in_ok-source.ensures.source
+returns-in-Ok-clause-built c = c.in-Ok.ensures.built c.args.source.now c.in_ok-source.ensures.source
 
 pub returns-in-Ok-clause-ok : goal.returns-in-Ok-clause-ok
 returns-in-Ok-clause-ok c = c.in-Ok.ensures.compiled c.args.options.now.derive c.args.source.now c.in_ok-source.ensures.source

@@ -9,7 +9,7 @@ pub returns-in-Ok-clause-built : goal.returns-in-Ok-clause-built
 returns-in-Ok-clause-built c =
     let s = c.args.source.now in
     let from = c.in_ok-made.ensures in
-    λ derive text is. record {
+    λ text is. record {
       names = names_of s;
       program = tree_of s;
       facts = s.facts;
@@ -22,7 +22,7 @@ returns-in-Ok-clause-built c =
 
 pub returns-in-Ok-clause-compiled : goal.returns-in-Ok-clause-compiled
 returns-in-Ok-clause-compiled c =
-    let t = table_of c.args.costs.now in
+    let t = table_of c.args.options.now.costs in
     let s = c.args.source.now in
     let m = c.in_ok-made.made in
     let r = c.in-Ok.report in
@@ -31,7 +31,7 @@ returns-in-Ok-clause-compiled c =
 
 pub returns-in-Ok-clause-short : goal.returns-in-Ok-clause-short
 returns-in-Ok-clause-short c =
-    let t = table_of c.args.costs.now in
+    let t = table_of c.args.options.now.costs in
     let s = c.args.source.now in
     let m = c.in_ok-made.made in
     let r = c.in-Ok.report in

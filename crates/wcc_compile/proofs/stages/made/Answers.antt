@@ -27,8 +27,8 @@ laid-requires c =
 pub returns-clause-stages : goal.returns-clause-stages
 returns-clause-stages c =
     let s = c.args.source.now in
-    subst (λ (st : Stages). AreStages (names_of s) (tree_of s) s.facts (stages_of st)) (sym c.in_ok-made.ensures.stages)
-    (subst (λ (st : Stages). AreStages (names_of s) (tree_of s) s.facts (stages_of st)) (sym c.in_ok-lowered.ensures.stages) c.in_ok-stages.ensures.begun.stages)
+    subst (λ (st : Stages). AreStages c.args.options.now (names_of s) (tree_of s) s.facts (stages_of st)) (sym c.in_ok-made.ensures.stages)
+    (subst (λ (st : Stages). AreStages c.args.options.now (names_of s) (tree_of s) s.facts (stages_of st)) (sym c.in_ok-lowered.ensures.stages) c.in_ok-stages.ensures.begun.stages)
 
 pub returns-clause-made : goal.returns-clause-made
 returns-clause-made c =

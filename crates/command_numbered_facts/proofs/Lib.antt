@@ -1,0 +1,4 @@
+pub mod Ranks
+pub mod Sites
+pub mod Whole
+pub mod Flows

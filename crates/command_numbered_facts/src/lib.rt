@@ -1,0 +1,2 @@
+//! The call ranks and flow facts of numbered sources.
+#![tactic(auto)]

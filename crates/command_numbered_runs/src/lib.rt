@@ -1,0 +1,2 @@
+//! The runs of numbered sources on the empty input.
+#![tactic(auto)]

@@ -1,0 +1,2 @@
+//! The tokens of numbered sources.
+#![tactic(auto)]

@@ -1,0 +1,12 @@
+pub mod Numbers
+pub mod Functions
+pub mod Rows
+pub mod Mains
+pub mod Units
+pub mod Sizes
+pub mod Outlines
+pub mod Programs
+pub mod Typed
+pub mod Named
+pub mod Order
+pub mod Formed

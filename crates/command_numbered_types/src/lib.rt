@@ -1,0 +1,2 @@
+//! The trees of numbered sources.
+#![tactic(auto)]

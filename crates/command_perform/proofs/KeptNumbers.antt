@@ -1,0 +1,17 @@
+-- The source of each number is kept on the empty input.
+use Rattle.std.proofs.Common.{ℕ, zero, suc, ◌≤◌, arith}
+use Rattle.command_numbered_law.proofs.Sources.{numbered_done}
+use Rattle.command_perform.specs.Numbered.{NumbersAreKept}
+
+pub numbers_are_kept : NumbersAreKept
+numbers_are_kept zero some few = absurd (omega (arith, some))
+numbers_are_kept (suc m) some few =
+    let d = numbered_done m few in
+    record {
+      plain = record { names = d.names; program = d.program; facts = d.facts; is_source = d.is_source; unrestricted = d.unrestricted };
+      output = d.output;
+      value = d.value;
+      counts = d.counts;
+      done = d.done;
+      fits = omega (arith, d.short);
+    }

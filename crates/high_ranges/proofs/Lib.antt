@@ -1,0 +1,6 @@
+pub mod Fitting
+pub mod Neutral
+pub mod Keeping
+pub mod Starting
+pub mod Forms
+pub mod Stores

@@ -1,0 +1,12 @@
+pub mod Following
+pub mod Serving
+pub mod NumberedLemmas
+pub mod Running
+pub mod Counting
+pub mod Origins
+pub mod Reaching
+pub mod Lawful
+pub mod Walks
+pub mod Numerals
+pub mod Grouped
+pub mod Made

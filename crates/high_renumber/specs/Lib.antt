@@ -1,0 +1,3 @@
+pub mod Numbered
+pub mod View
+pub mod Keeping

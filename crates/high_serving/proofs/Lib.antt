@@ -1,0 +1,4 @@
+pub mod Orders
+pub mod Following
+pub mod Running
+pub mod Counting

@@ -1,0 +1,17 @@
+pub mod Numbered
+pub mod Rising
+pub mod Rolling
+pub mod Taking
+pub mod Sizes
+pub mod Copies
+pub mod Growth
+pub mod Runs
+pub mod Labels
+pub mod Looping
+pub mod Marking
+pub mod Modest
+pub mod Wordy
+pub mod Reaching
+pub mod Alone
+pub mod Functions
+pub mod Lawful

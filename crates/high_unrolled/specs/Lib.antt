@@ -1,0 +1,5 @@
+pub mod Starts
+pub mod Factor
+pub mod Unrolling
+pub mod Programs
+pub mod Promise

@@ -1,0 +1,11 @@
+use Rattle.std.proofs.Common.{[], ◌∷◌, ◌++◌, ap, ◌∙◌}
+use Rattle.high_ir.proofs.Rows.{statement_of-Seq}
+use Rattle.high_ir.specs.Tree.{Seq}
+use Rattle.high_ir.specs.View.{statements_of}
+use Rattle.high_ir.specs.declared.statement.Statement as statements
+use Rattle.inliner.proofs.moving.left_with.Goals as goal
+
+pub returns : goal.returns
+returns c =
+    statement_of-Seq c.push-2.new.self
+    ∙ ap (λ xs. Seq (statements_of xs)) (c.in_ok-push-2.ensures.items ∙ ap (λ xs. xs ++ statements.Leave c.args.depth ∷ []) (c.in_ok-push.ensures.items ∙ ap (λ xs. xs ++ statements.Set c.args.variable c.args.value ∷ []) c.new-parts.ensures.items))

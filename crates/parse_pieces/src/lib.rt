@@ -1,0 +1,2 @@
+//! The pieces of a text that is put together of them.
+#![tactic(auto)]

@@ -1,0 +1,5 @@
+pub mod Rows
+pub mod Products
+pub mod Progress
+pub mod Starting
+pub mod Sorting

@@ -1,0 +1,1 @@
+int main(void){if(2<1){_Pragma("marker m") return 3;}return 4;}

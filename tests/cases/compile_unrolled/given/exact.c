@@ -1,0 +1,1 @@
+int main(void){int i;int s=0;_Pragma("loopbound min 100 max 100") for(i=0;i<100;i++)s+=i;return s;}

@@ -1,0 +1,1 @@
+int main(void){int i;int s=0;_Pragma("loopbound min 90 max 100") for(i=0;i<95;i++)s+=i;return s;}

@@ -1,0 +1,1 @@
+int main(void){int n=0;_Pragma("loopbound min 10 max 10") do _Pragma("loopbound min 10 max 10") do n++;while(n%10);while(n<100);return n;}
