@@ -15,8 +15,8 @@ mod numbers;
 mod places;
 
 use std::alloc::Global;
-use wcc_base::Memory;
 use std::io;
+use wcc_base::Memory;
 
 fn answer_to(alloc: Global, line: &str) -> Result<String, Memory> {
     match line.split_once(' ') {

@@ -7,9 +7,9 @@ ghost use Rattle.spm_placement.specs.Gains.{all_parts, all_visits, cost_here, co
 ghost use Rattle.spm_placement.specs.Sets.{HasSmallGain};
 
 use super::item::Item;
+use claims_movables::LaidItem;
 use code_flow_lookup::parts_at;
 use code_flow_system::{Flow, Part};
-use claims_movables::LaidItem;
 use rv_core::{Costs, Region};
 use std::alloc::Global;
 use wcc_base::Memory;
