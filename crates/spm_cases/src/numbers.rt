@@ -3,7 +3,7 @@ use std::alloc::Global;
 use wcc_base::Memory;
 
 /// The numbers of a text; other words are passed over.
-pub fn numbers_of(alloc: Global, text: &str) -> Result<Vec<u32>, AllocError> {
+pub fn numbers_of(alloc: Global, text: &str) -> Result<Vec<u32>, Memory> {
     let mut numbers = Vec::new(alloc);
     for word in text.split(' ') {
         if let Ok(number) = word.parse::<u32>() {
