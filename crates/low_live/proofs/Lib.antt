@@ -1,0 +1,10 @@
+pub mod Noting
+pub mod Leading
+pub mod Hulls
+pub mod Passing
+pub mod Blocks
+pub mod Taking
+pub mod Walking
+pub mod Beginning
+pub mod Widening
+pub mod Gathering
