@@ -78,7 +78,7 @@ made_done asked made k m =
     let x = m.simulates.finishes w.0 w.1 in
     status_of made _ m.made_is ∙ ap (λ (e : Ending). (numbered_outputs asked m.texts m.last e).status) x.exits
 
-numbered_only : (asked : MakeRequest) → asked.number ≤ 100 → IsKept (numbered_text asked.number) [] → CanOnly (Make asked) [] status.Done
+pub numbered_only : (asked : MakeRequest) → asked.number ≤ 100 → IsKept (numbered_text asked.number) [] → CanOnly (Make asked) [] status.Done
 numbered_only asked few k = record {
   refuses = λ t r. absurd (unrestricted_passes false (numbered_text asked.number) t (omega (arith, short asked.number few)) k.plain r);
   makes = λ made m. made_done asked made k m;

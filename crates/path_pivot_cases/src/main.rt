@@ -4,12 +4,17 @@
 //!
 //! - `reduced N N ..`: a row without a common divisor.
 //! - `turned PLACE N N .. / N N ..`: the row that a pivot at a place of the first row makes of the second.
+//! - `table MADE OP .. ; N N .. ; N N ..`: a round after so many pivots, under facts of these operators (`<=`, `>=`, `=`),
+//!   over columns, each a value and its totals: how many pivots there are then, how the round ends, and with which table:
+//!   the variables that its rows are solved for, its rows, and those of the two objectives.
 //!
 //! `stdout` has what is wanted: it was worked out with Python's whole numbers.
 #![tactic(auto)]
 
+mod columns;
 mod numbers;
 mod pivots;
+mod tables;
 
 use std::alloc::{AllocError, Global};
 use std::io;
@@ -18,6 +23,7 @@ fn answer_to(alloc: Global, line: &str) -> Result<String, AllocError> {
     match line.split_once(' ') {
         Some(("reduced", row)) => pivots::reduced_answer(alloc, row),
         Some(("turned", rest)) => pivots::turned_answer(alloc, rest),
+        Some(("table", rest)) => tables::table_answer(alloc, rest),
         _ => format!(in alloc; "no command: {line}"),
     }
 }

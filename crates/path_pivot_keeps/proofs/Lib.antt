@@ -1,0 +1,3 @@
+pub mod QuotientLemmas
+pub mod PivotLemmas
+pub mod TableLemmas

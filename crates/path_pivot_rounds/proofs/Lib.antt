@@ -1,0 +1,3 @@
+pub mod StartShapes
+pub mod NextLemmas
+mod Worked

@@ -1,0 +1,4 @@
+pub mod Choices
+pub mod Shapes
+pub mod Pivots
+pub mod Runs
