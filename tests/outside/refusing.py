@@ -15,21 +15,25 @@ WORST = 10  # how many calls of a command are told that did not end as they must
 TOGETHER = 32  # calls
 TASKS = b"task first 4000 first.elf first.txt\ntask crc16 900000 crc16.elf crc16.txt\n"
 OLDER = b"an older content\n" * 400
-READ = ("first.c", "crc16.c", "pid.c", "thermistor.c", "fft.c", "costs.toml")
-# The words of each command, and the files that it writes in the order in which it does.
+READ = ("first.c", "crc16.c", "pid.c", "thermistor.c", "fft.c", "frame.c", "costs.toml")
+PASSES = "--inline 10000 --unroll 64"
+# The words of each command, and the files that it writes in the order in which it does: those with small files first.
 COMMANDS = (
     ("compile first.c b.elf b.txt", ("b.elf", "b.txt")),
+    ("eval crc16.c a.in b.out", ("b.out",)),
+    ("run first.elf a.in b.out --table costs.toml --limit 1000", ("b.out",)),
+    ("check crc16.elf crc16.txt --table costs.toml", ()),
+    ("respond tasks", ()),
+    ("make 1 b.c b.elf b.txt", ("b.c", "b.elf", "b.txt")),
     ("compile thermistor.c b.elf b.txt --derive", ("b.elf", "b.txt")),
     ("compile fft.c b.elf b.txt --table costs.toml", ("b.elf", "b.txt")),
+    (f"compile fft.c b.elf b.txt {PASSES}", ("b.elf", "b.txt")),
+    ("compile frame.c b.elf b.txt", ()),
     ("compile broken.c b.elf b.txt", ()),
-    ("eval crc16.c a.in b.out", ("b.out",)),
     ("run crc16.elf a.in b.out", ("b.out",)),
-    ("run first.elf a.in b.out --table costs.toml --limit 1000", ("b.out",)),
     ("check pid.elf pid.txt", ()),
-    ("check crc16.elf crc16.txt --table costs.toml", ()),
+    ("check large.elf large.txt", ()),
     ("report pid.txt", ()),
-    ("respond tasks", ()),
-    ("make 3 b.c b.elf b.txt", ("b.c", "b.elf", "b.txt")),
     ("compile first.c", ()),
     ("help", ()),
 )
@@ -68,8 +72,9 @@ class Room:
         self.files = {it: (EXAMPLES / it).read_bytes() for it in READ}
         self.files |= {"a.in": bytes(range(1, 100)), "tasks": TASKS, "broken.c": b"int main(void) { return 1 2; }\n"}
         self.files |= {it: OLDER for it in ("b.c", "b.elf", "b.txt", "b.out")}
-        for name in ("first", "crc16", "pid"):
-            left = self.call(f"compile {name}.c b.elf b.txt").files
+        for name, words in (("first", "first.c"), ("crc16", "crc16.c"), ("pid", "pid.c"), ("large", f"fft.c {PASSES}")):
+            source, *options = words.split()
+            left = self.call(" ".join(("compile", source, "b.elf", "b.txt", *options))).files
             self.files |= {f"{name}.elf": left["b.elf"], f"{name}.txt": left["b.txt"]}
 
     def call(self, words, refused=None, step=None):

@@ -1,0 +1,5 @@
+pub mod Gains
+pub mod Sets
+pub mod Placings
+pub mod Tops
+pub mod Rows
