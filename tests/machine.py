@@ -9,9 +9,11 @@ cost of that name, 0 where it isn't given.
 """
 import os
 import sys
+from collections import Counter
 from pathlib import Path
 
 sys.path.append(str(Path(__file__).resolve().parent.parent))
+from simulator import reports  # noqa: E402
 from simulator.costs import DEFAULT  # noqa: E402
 from simulator.images import BadImage, R, Segment, W, X, read_image  # noqa: E402, F401
 from simulator.machine import LIMIT, Ending, Machine, ending_of  # noqa: E402
@@ -38,6 +40,22 @@ def write_file(name, data):
                 data = data[file.write(data):]
     except OSError:
         raise Ending("write fault", WRITE_FAULT) from None
+
+
+class Counting(Machine):
+    """A machine that counts the visits of each address."""
+
+    def __init__(self, *given):
+        super().__init__(*given)
+        self.visits = Counter()
+
+    def step(self):
+        self.visits[self.pc] += 1
+        super().step()
+
+    def counts_of(self, report):
+        """How often each function and marker of a report came, by the addresses of its copies."""
+        return {name: sum(self.visits[at] for at in places) for name, places in reports.read(report).copies}
 
 
 def machine_of(image, given, limit=LIMIT, stall=0):

@@ -1,0 +1,4 @@
+pub mod Multiples
+pub mod NarrowLemmas
+pub mod SideLemmas
+pub mod StepLemmas
