@@ -1,0 +1,6 @@
+use Rattle.std.specs.List.{AllWithin}
+use Rattle.path_counts.specs.Laws.{HasBounds}
+use Rattle.path_fact_fit.proofs.fit.have_bounds.Given as goal
+
+abbrev pub invariant-loop-i : goal.invariant-loop-i
+invariant-loop-i l = AllWithin HasBounds l.loops 0 l.i
