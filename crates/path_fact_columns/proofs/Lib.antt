@@ -1,0 +1,5 @@
+pub mod CountLemmas
+pub mod WalkLemmas
+pub mod PartLemmas
+pub mod AddableLemmas
+pub mod BestLemmas

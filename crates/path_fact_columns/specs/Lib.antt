@@ -1,0 +1,4 @@
+pub mod Columns
+pub mod Conditions
+pub mod Answers
+pub mod Laws
