@@ -1,0 +1,4 @@
+pub mod Marks
+pub mod Weighing
+pub mod Steps
+pub mod States
