@@ -1,41 +1,20 @@
 //! Says between which places of a function each of its registers lives: a program for tests.
 //!
-//! A line of the input is a function, and the answer is a line, too: by register the first and the last place of its interval, or
-//! `-` where it has none. The parts of a function stand between semicolons: how many registers it has, its parameters, and then
-//! each block, its instructions and its end between commas: `3; r0; set r1 r0, sum r2 r1 7, jump 1; return r2`.
+//! A line of the input is a function, as `low_lines` reads it, and the answer is a line, too: by register the first and the last
+//! place of its interval, or `-` where it has none.
 //!
 //! `stdout` has what is wanted: the first lines were worked out by hand, and the rest by `tests/intervals`, which writes both
 //! files and finds the ways through the blocks by trying them.
 #![tactic(auto)]
 
-mod blocks;
-mod instructions;
-mod words;
-
-use blocks::blocks_of;
 use low_ir::Function;
+use low_lines::function_of;
 use low_live::{Interval, intervals_of};
 use std::alloc::Global;
 use std::io;
 use wcc_base::Memory;
-use words::registers_of;
 
-fn function_of(alloc: Global, registers: u32, rest: &str) -> Result<Function, Memory> {
-    let (parameters, code) = rest.split_once("; ").unwrap_or((rest, ""));
-    Ok(Function {
-        parameters: registers_of(alloc, parameters)?,
-        registers,
-        loops: Vec::new(alloc),
-        blocks: blocks_of(alloc, code)?,
-    })
-}
-
-fn intervals_in(
-    alloc: Global,
-    registers: u32,
-    rest: &str,
-) -> Result<Vec<Option<Interval>>, Memory> {
-    let function = function_of(alloc, registers, rest)?;
+fn intervals_in(alloc: Global, function: Function) -> Result<Vec<Option<Interval>>, Memory> {
     let found = intervals_of(alloc, &function);
     drop(function);
     found
@@ -59,11 +38,10 @@ fn line_of(alloc: Global, intervals: &[Option<Interval>]) -> Result<String, Memo
 }
 
 fn answer_to(alloc: Global, line: &str) -> Result<String, Memory> {
-    let (registers, rest) = line.split_once("; ").unwrap_or((line, ""));
-    match registers.parse::<u32>() {
-        Err(_) => Ok(format!(in alloc; "no function: {line}")?),
-        Ok(registers) => {
-            let intervals = intervals_in(alloc, registers, rest)?;
+    match function_of(alloc, line)? {
+        None => Ok(format!(in alloc; "no function: {line}")?),
+        Some(function) => {
+            let intervals = intervals_in(alloc, function)?;
             line_of(alloc, &intervals)
         }
     }

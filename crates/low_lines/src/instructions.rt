@@ -72,12 +72,13 @@ pub fn instr_of(text: &str) -> Option<Instr> {
     }
 }
 
-/// A call of the first function: where its value goes, if a register stands there, and its arguments.
+/// A call: the number of its function, where its value goes, if a register stands there, and its arguments.
 pub fn call_of(alloc: Global, text: &str) -> Result<Instr, Memory> {
-    let (into, rest) = text.split_once(' ').unwrap_or((text, ""));
+    let (function, rest) = text.split_once(' ').unwrap_or((text, ""));
+    let (into, arguments) = rest.split_once(' ').unwrap_or((rest, ""));
     Ok(Instr::Call {
-        function: 0,
-        arguments: operands_of(alloc, rest)?,
+        function: function.parse::<u32>().ok().unwrap_or(0),
+        arguments: operands_of(alloc, arguments)?,
         into: register_of(into),
     })
 }

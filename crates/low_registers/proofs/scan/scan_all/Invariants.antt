@@ -1,0 +1,9 @@
+use Rattle.std.proofs.Common.{◌≤◌, take}
+use Rattle.low_registers.specs.Scans.{Scanned}
+use Rattle.low_registers.proofs.scan.scan_all.Given as goal
+
+abbrev pub invariant-loop-each : goal.invariant-loop-each
+invariant-loop-each l = record {
+  scanned : Scanned l.fn.registers l.order (take l.each-index l.order) l.scan;
+  slots : l.scan.slots ≤ l.each-index;
+}

@@ -1,0 +1,6 @@
+pub mod Spills
+pub mod Orders
+pub mod Scans
+pub mod Masks
+pub mod Views
+pub mod Fitting
