@@ -1,0 +1,5 @@
+pub mod Written
+pub mod Counts
+pub mod Named
+pub mod Facts
+pub mod Limited
