@@ -40,11 +40,10 @@ class Written(NamedTuple):
     title: str
     bound: str
     restriction: str
-    without: str
 
 
-PRAGMAS = Written("Pragmas", "#pragma loopbound min {} max {}", "#pragma flowrestriction 1*{} <= {}*main", "")
-MACROS = Written("Annotations", "LOOPBOUND({}, {})", "RESTRICTION(1*{} <= {}*main)", ", and -D NO_RESTRICTIONS leaves them out")
+PRAGMAS = Written("Pragmas", "#pragma loopbound min {} max {}", "#pragma flowrestriction 1*{} <= {}*main")
+MACROS = Written("Annotations", "LOOPBOUND({}, {})", "RESTRICTION(1*{} <= {}*main)")
 # A line marker of <wcc.h>, by which a source has its macros.
 WITH_MACROS = re.compile(rb'^# \d+ "(?:[^"\n]*/)?wcc\.h"', re.M)
 
@@ -250,8 +249,6 @@ class Report:
         if bounds or restrictions:
             yield from ["", f"{write.title} that say so. They are seen and not proved: another input may break them."]
         yield from (f"  before {place}: {write.bound.format(*bound)}" for place, bound in bounds)
-        if restrictions:
-            yield f"  `compile` takes no restrictions yet{write.without}; `eval` does:"
         yield from (f"  at file level: {write.restriction.format(*bound)}" for bound in restrictions)
         if len(restrictions) > MOST["restrictions"]:
             yield f"  A source takes at most {MOST['restrictions']} restrictions."

@@ -7,8 +7,12 @@
  * Value:  the number of stuffed bits.
  *
  * The bounds: the head of a frame has 1 + 11 + 3 + 4 = 19 bits, a byte 8, of which there are up to 8, and the checksum 15.
- * Each has a loop of its own: one loop for fields of 1 to 15 bits would have a bound of 15 for all of them.
+ * Each has a loop of its own: one loop for fields of 1 to 15 bits would have a bound of 15 for all of them. The first bit of
+ * a frame begins a run, and each further stuffed bit begins another: so a stuffed bit comes behind four bits at least, and
+ * the first one behind five.
  */
+
+#pragma flowrestriction 4*stuff + 1*put_frame <= 1*put_bit
 
 static unsigned char data[8];
 static int crc, last, run, stuffed;
@@ -20,6 +24,7 @@ static void put_bit(int bit)
     run = bit == last ? run + 1 : 1;
     last = bit;
     if (run == 5) {
+        #pragma marker stuff
         last = !bit;
         run = 1;
         stuffed++;

@@ -9,12 +9,12 @@
  * The parser takes one byte at a time and is never further behind than that, so the loop over the line is the only one
  * that waits for input: it ends at the latest after 200 bytes, and its body starts at least once, since it is there that
  * the end is seen. A frame that is written has 1 to 8 bytes of data, since a length of another value never gets past the
- * state 1. A good frame takes at least 4 bytes of the line, so there are at most 50; and all their data came through the
- * line, so no more than 200 bytes of it are written.
+ * state 1. A frame takes three bytes of the line beside its data, whether its checksum is good or bad, and a bad length
+ * takes two: together these are no more than the 200 bytes that came. What is written was data.
  */
 
-#pragma flowrestriction 1*good <= 50*main
-#pragma flowrestriction 1*data_out <= 200*main
+#pragma flowrestriction 1*data_in + 3*good + 3*bad_sum + 2*bad_length <= 200*main
+#pragma flowrestriction 1*data_out <= 1*data_in
 
 static unsigned char data[8];
 static int state;                       /* 0 waits for 0xAA, 1 for the length, 2 for data, 3 for the checksum */
@@ -50,6 +50,7 @@ static void take(unsigned char byte)
         break;
     case 1:
         if (byte < 1 || byte > 8) {
+            #pragma marker bad_length
             reject('L');
             break;
         }
@@ -59,6 +60,7 @@ static void take(unsigned char byte)
         state = 2;
         break;
     case 2:
+        #pragma marker data_in
         data[taken++] = byte;
         sum += byte;
         if (taken == length)
@@ -66,6 +68,7 @@ static void take(unsigned char byte)
         break;
     case 3:
         if (byte != sum) {
+            #pragma marker bad_sum
             reject('C');
             break;
         }

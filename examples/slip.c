@@ -5,10 +5,12 @@
  * Output: the bytes of each whole packet without escapes, behind its length; a packet of more than 16 bytes is dropped.
  * Value:  the number of packets that were dropped, too long or with a wrong escape.
  *
- * The bounds: a byte is one step, and a packet that ends is put out at once, up to 16 bytes. As a packet that is put out
- * took at least as many steps, all packets together have at most 127 bytes: the bounds of loops don't say so, and let each of
- * 128 bytes end a packet of 16.
+ * The bounds: a byte is one step, and a packet that ends is put out at once, up to 16 bytes. A packet that is put out took at
+ * least a step for each of its bytes and one for its end, so all packets together have at most 128 bytes and ends. The bounds
+ * of loops don't say so, and let each of 128 bytes end a packet of 16; the restriction does.
  */
+
+#pragma flowrestriction 1*put + 1*whole <= 128*main
 
 static unsigned char packet[16];
 static int length, is_escaped, is_bad;
@@ -20,10 +22,13 @@ static int end_packet(void)
     int i;
 
     if (!is_bad && length > 0) {
+        #pragma marker whole
         putchar(length);
         #pragma loopbound min 1 max 16
-        for (i = 0; i < length; i++)
+        for (i = 0; i < length; i++) {
+            #pragma marker put
             putchar(packet[i]);
+        }
     }
     length = 0;
     is_escaped = 0;

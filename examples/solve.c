@@ -7,12 +7,15 @@
  * Value:  the number of systems that were solved.
  *
  * The bounds: the step k of two has rows behind k and columns behind k, so 2 and 1 rows, 3 and 2 columns: the bounds of
- * loops allow 2 rows and 3 columns in both. Going back has one row less each time, too.
+ * loops allow 2 rows and 3 columns in both, and restrictions say that both have 3 rows and 8 places together.
  *
  * Ranges: all bytes are halved when they are read, to 64. So an entry is at most 2 * 64^2 = 2^13 behind the first step, two
  * products of such ones are at most 2^27, and what they are divided by leaves at most 6 * 64^3. An unknown is at most 128
  * before it is multiplied.
  */
+
+#pragma flowrestriction 1*row <= 3*solve
+#pragma flowrestriction 1*cleared <= 8*solve
 
 static int m[12];       /* rows of four */
 
@@ -24,9 +27,12 @@ static int eliminate(int k, int before)
 
     #pragma loopbound min 1 max 2
     for (i = k + 1; i < 3; i++) {
+        #pragma marker row
         #pragma loopbound min 2 max 3
-        for (j = k + 1; j < 4; j++)
+        for (j = k + 1; j < 4; j++) {
+            #pragma marker cleared
             m[i * 4 + j] = (pivot * m[i * 4 + j] - m[i * 4 + k] * m[k * 4 + j]) / before;
+        }
     }
     return pivot;
 }

@@ -7,12 +7,13 @@
  * Value:  the number of restarts.
  *
  * The bounds: there are three tasks. The loop over the ticks ends at the latest after 120, and its body starts at least
- * once, since it is there that the end of the input is seen. A restart clears the misses of its task, and a miss takes at
- * least `deadline` ticks, 2, 5 and 10 here, so the tasks are restarted at most every 6, 15 and 30 ticks: 20 + 8 + 4 = 32
- * times in 120 ticks.
+ * once, since it is there that the end of the input is seen. A miss takes at least `deadline` ticks, 2, 5 and 10 here: so
+ * there are at most 60 + 24 + 12 = 96 in 120 ticks. A restart clears the misses of its task, and comes at every third one
+ * at most: 20 + 8 + 4 = 32 times.
  */
 
-#pragma flowrestriction 1*restart <= 32*main
+#pragma flowrestriction 1*miss <= 96*main
+#pragma flowrestriction 3*restart <= 1*miss
 
 static const unsigned char deadline[3] = {2, 5, 10};
 static unsigned char silent[3];         /* ticks since the last report or miss */
@@ -30,6 +31,7 @@ static int watch(int task, int has_reported)
     }
     if (++silent[task] < deadline[task])
         return 0;
+    #pragma marker miss
     silent[task] = 0;
     signs = 0x01;
     if (++misses[task] == 3) {

@@ -86,8 +86,11 @@ class Call:
         return at if at <= len(self.lines.source) else None
 
     def asked(self):
-        """The words by which the line is looked up: what is broken, and whether a source ends too early, among them."""
+        """The words by which the line is looked up: what is broken, and whether a source ends too early, among them; of a bound its
+        kind before its number."""
         line = list(self.line)
+        if line[0] == "cycles":
+            line[1:] = reversed(line[1:])
         source = b"" if self.at is None else self.lines.source
         if line[0] == "broken":
             is_pragma = source[self.at or 0:].startswith((b"#", b"_Pragma"))

@@ -368,10 +368,6 @@ def unknown_name(files, at):
             return
 
 
-def first_restriction(files, _):
-    yield "restriction", files.at(next(it.at for it in tree.nodes_of(unit(files)) if isinstance(it, tree.Restriction)))
-
-
 # Faults of files
 
 def unread(files, _):
@@ -420,5 +416,5 @@ FINDERS = {
     "refused pragma": pragma_fault, "refused name": unknown_name, "undefined": run_to, "broken": run_to,
     "limit depth": too_deep, "limit nodes": largest_part, "limit parameters": many_parameters,
     "limit most": heaviest, "limit globals": largest_object(False), "limit locals": largest_object(True),
-    "form": first_restriction, "read fault": unread, "write fault": unwritten,
+    "read fault": unread, "write fault": unwritten,
 }

@@ -24,8 +24,8 @@
 #define MARKER(name) WCC_PRAGMA(marker name)
 
 /*
- * What counts of markers and functions keep in a whole run, as 1*inner <= 10*main. Each name has a number before it.
- * `compile` takes no restrictions yet: with NO_RESTRICTIONS, as by `prepare -D NO_RESTRICTIONS`, there are none.
+ * What counts of markers and functions keep in a whole run, as 1*inner <= 10*main. Each name has a number before it. With
+ * NO_RESTRICTIONS, as by `prepare -D NO_RESTRICTIONS`, there are none, to see what they are worth.
  */
 #ifdef NO_RESTRICTIONS
 #define RESTRICTION(...)

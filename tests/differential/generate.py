@@ -987,6 +987,22 @@ class Generator:
             else:
                 yield f"flowrestriction 1*{one} <= {counts[one]}*main + {factor}*{other}"
 
+    def tight_restrictions(self, counts):
+        """Up to eight relations of all operators that these counts keep, most of them without room."""
+        names = sorted(it for it in counts if counts[it] < 100000)
+        for _ in range(self.number(0, 8)):
+            one, other = self.pick(names), self.pick(names)
+            a, b, more = self.number(1, 9), self.number(0, 9), self.number(0, 2) * self.number(0, 3)
+            kept = a * counts[one] + b * counts[other]
+            yield "flowrestriction " + self.pick([
+                f"{a}*{one} + {b}*{other} <= {min(kept + more, 1000000)}*main",
+                f"{a}*{one} <= {min(a * counts[one] + more, 1000000)}*main",
+                f"{a}*{one} + {b}*{other} >= {min(max(kept - more, 0), 1000000)}*main",
+                f"{max(counts[other], 1)}*{one} <= {counts[one] + more}*{other}" if counts[other] else f"{a}*{other} <= 0*{one}",
+                f"{counts[other]}*{one} = {counts[one]}*{other}",
+                f"{a}*{one} = {min(a * counts[one], 1000000)}*main",
+            ])
+
 
 def program(seed, tag=""):
     """The source and the input of this seed."""
@@ -997,6 +1013,14 @@ def program(seed, tag=""):
     if counts:
         source += "".join(f"#pragma {it}\n" for it in generator.restrictions(counts))
     return source.encode(), data
+
+
+def restricted(seed):
+    """The same with more restrictions, which its run keeps where it ends."""
+    source, data = program(seed)
+    counts = answer(source, data).counts
+    pragmas = Generator(f"restricted {seed}").tight_restrictions(counts) if counts else ()
+    return source + "".join(f"#pragma {it}\n" for it in pragmas).encode(), data
 
 
 if __name__ == "__main__":

@@ -28,7 +28,7 @@ COMMANDS = (
     ("compile thermistor.c b.elf b.txt --derive", ("b.elf", "b.txt")),
     ("compile fft.c b.elf b.txt --table costs.toml", ("b.elf", "b.txt")),
     (f"compile fft.c b.elf b.txt {PASSES}", ("b.elf", "b.txt")),
-    ("compile frame.c b.elf b.txt", ()),
+    ("compile frame.c b.elf b.txt", ("b.elf", "b.txt")),
     ("compile broken.c b.elf b.txt", ()),
     ("run crc16.elf a.in b.out", ("b.out",)),
     ("check pid.elf pid.txt", ()),

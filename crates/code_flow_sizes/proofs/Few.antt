@@ -19,11 +19,9 @@ use Rattle.code_flow_system.specs.declared.moves.Move.{Move}
 use Rattle.code_flow_system.specs.declared.moves.Way.{Way}
 use Rattle.code_flow_system.specs.declared.moves.Way.TheVariants.{Next, Branches, Jumps, Calls, Ends, Strays}
 use Rattle.code_flow_system.proofs.ReachLemmas.{fetched_of}
-use Rattle.code_flow.specs.Places.{all_places}
 use Rattle.code_flow.proofs.CollectLemmas.{moves_of_has}
-use Rattle.code_flow.proofs.PlaceLemmas.{IsWord, instruction_word}
-use Rattle.code_flow_sizes.specs.Laws.{HasFew}
-use Rattle.code_flow_sizes.proofs.Ranks.{Rises, few, move_rises, rank_below, rank_rises, word_rank}
+use Rattle.code_flow_sizes.specs.Laws.{EndsWithin, HasFew}
+use Rattle.code_flow_sizes.proofs.Ranks.{IsCode, Rises, few, instruction_code, move_rises, rank_below, rank_rises, word_rank}
 
 -- lists of potentials
 
@@ -39,12 +37,12 @@ given (t ∷ ts) (suc k) d lt = by_test (t.0 == (slice_index_or ts k d).0) (give
     by_test true h = refl
     by_test false h = h
 
-terms_rise : (ts : Terms) → AddressesAscend ts → All (λ (t : ℕ × ℤ). IsWord t.0) ts → Rises (λ (t : ℕ × ℤ). word_rank t.0) ts
-terms_rise [] ascend words = tt
-terms_rise (t ∷ ts) ascend words =
-    let here = All-head (λ (u : ℕ × ℤ). IsWord u.0) t ts words in
-    let rest = All-tail (λ (u : ℕ × ℤ). IsWord u.0) t ts words in
-    (λ k d lt. rank_rises t.0 (slice_index_or ts k d).0 here (rest k d lt) (ascend.0 k d lt), terms_rise ts ascend.1 rest)
+terms_rise : (n : ℕ) (ts : Terms) → AddressesAscend ts → All (λ (t : ℕ × ℤ). IsCode n t.0) ts → Rises (λ (t : ℕ × ℤ). word_rank t.0) ts
+terms_rise n [] ascend words = tt
+terms_rise n (t ∷ ts) ascend words =
+    let here = All-head (λ (u : ℕ × ℤ). IsCode n u.0) t ts words in
+    let rest = All-tail (λ (u : ℕ × ℤ). IsCode n u.0) t ts words in
+    (λ k d lt. rank_rises n t.0 (slice_index_or ts k d).0 here (rest k d lt) (ascend.0 k d lt), terms_rise n ts ascend.1 rest)
 
 -- moves of an address
 
@@ -92,19 +90,19 @@ number_at c a k h = by_fetch (c.fetch a) h
     by_fetch None h = cc
     by_fetch (Some i) h = number_on (way_of (c.exit a) (fetch_before c a) a i) a k i h
 
-module _ (image : Image) (claims : Claims) (t : Table) (s : System) (c : Cert) (loadable : AreLoadable image.segments) (is : IsSystemOf image claims s) (form : IsInForm claims c) (accepted : Accepts t s c) where
+module _ (n : ℕ) (image : Image) (claims : Claims) (t : Table) (s : System) (c : Cert) (loadable : AreLoadable image.segments) (ends : All (EndsWithin n) image.segments) (is : IsSystemOf image claims s) (form : IsInForm claims c) (accepted : Accepts t s c) where
   abbrev code : Code
   code = code_of image claims
 
-  word_at : (a : ℕ) → has_moves s.moves a ≡ true → IsWord a
+  word_at : (a : ℕ) → has_moves s.moves a ≡ true → IsCode n a
   word_at a h =
       let m = moves_of_has s.moves a h in
       let i = fetched_of code m.0.at (is.code m.0.at (is.reached m.0 m.1)).moves in
-      subst IsWord m.2 (instruction_word image m.0.at i.0 loadable i.1)
+      subst (IsCode n) m.2 (instruction_code n image m.0.at i.0 loadable ends i.1)
 
   -- what the flow lists
   record IsListed (p : Part) : Type 0 where
-    word : IsWord p.at
+    word : IsCode n p.at
     number : p.number < 2
 
   listed : (p : Part) → has_move s.moves p.at p.number ≡ true → IsListed p
@@ -136,16 +134,16 @@ module _ (image : Image) (claims : Claims) (t : Table) (s : System) (c : Cert) (
   parts_rise (p ∷ ps) ascend all =
       let here = All-head IsListed p ps all in
       let rest = All-tail IsListed p ps all in
-      (λ k d lt. let q = slice_index_or ps k d in move_rises p.at q.at p.number q.number here.word (rest k d lt).word here.number (ascend.0 k d lt), parts_rise ps ascend.1 rest)
+      (λ k d lt. let q = slice_index_or ps k d in move_rises n p.at q.at p.number q.number here.word (rest k d lt).word here.number (ascend.0 k d lt), parts_rise ps ascend.1 rest)
 
-  pub has_few : HasFew c
+  pub has_few : HasFew n c
   has_few =
-      let words : All (λ (u : ℕ × ℤ). IsWord u.0) c.potentials = λ k d lt. let a = (slice_index_or c.potentials k d).0 in word_at a (accepted.present a ∙ given c.potentials k d lt) in
+      let words : All (λ (u : ℕ × ℤ). IsCode n u.0) c.potentials = λ k d lt. let a = (slice_index_or c.potentials k d).0 in word_at a (accepted.present a ∙ given c.potentials k d lt) in
       let all : All IsListed c.flow.parts = λ k d lt. listed (slice_index_or c.flow.parts k d) (in_system k d lt) in
       record {
-        potentials = few (λ (u : ℕ × ℤ). word_rank u.0) all_places c.potentials (λ k d lt. rank_below (slice_index_or c.potentials k d).0 (words k d lt)) (terms_rise c.potentials form.ascending words);
-        parts = few (λ (p : Part). 2 * word_rank p.at + p.number) (2 * all_places) c.flow.parts (λ k d lt. below (slice_index_or c.flow.parts k d) (all k d lt)) (parts_rise c.flow.parts form.parts_ascend all);
+        potentials = few (λ (u : ℕ × ℤ). word_rank u.0) n c.potentials (λ k d lt. rank_below n (slice_index_or c.potentials k d).0 (words k d lt)) (terms_rise n c.potentials form.ascending words);
+        parts = few (λ (p : Part). 2 * word_rank p.at + p.number) (2 * n) c.flow.parts (λ k d lt. below (slice_index_or c.flow.parts k d) (all k d lt)) (parts_rise c.flow.parts form.parts_ascend all);
       }
     where
-      below : (p : Part) → IsListed p → 2 * word_rank p.at + p.number < 2 * all_places
-      below p h = let low = rank_below p.at h.word in let two = h.number in omega (arith, low, two)
+      below : (p : Part) → IsListed p → 2 * word_rank p.at + p.number < 2 * n
+      below p h = let low = rank_below n p.at h.word in let two = h.number in omega (arith, low, two)

@@ -1,11 +1,18 @@
--- How many there are of what ascends, and the ranks of words of code.
-use Rattle.std.proofs.Common.{◌≡◌, ℕ, suc, ◌+◌, ◌-◌, ◌*◌, ◌/◌, ◌%◌, ◌<◌, ◌≤◌, ◌⊎◌, inl, inr, List, [], ◌∷◌, length, true, ap, arith, All}
-use Rattle.std.specs.Prelude.{nat_lt, if◌then◌else◌}
+-- How many there are of what ascends, and the words of code.
+use Rattle.std.proofs.Common.{◌≡◌, ℕ, suc, ◌+◌, ◌-◌, ◌*◌, ◌/◌, ◌%◌, ◌<◌, ◌≤◌, ◌⊎◌, inl, inr, Bool, true, false, List, [], ◌∷◌, length, Option, Some, None, refl, ap, arith, All}
+use Rattle.std.specs.Prelude.{◌==◌, ◌&&◌, nat_le, if◌then◌else◌}
+use Rattle.std.proofs.lemmas.Bool.{and_parts}
 use Rattle.std.proofs.lemmas.Bool.Decides.{nat_tests}
 use Rattle.std.proofs.lemmas.List.Elements.{All-head, All-tail, All-weaker}
-use Rattle.code_flow_system.specs.Claims.{is_aligned}
-use Rattle.code_flow.specs.Places.{all_places}
-use Rattle.code_flow.proofs.PlaceLemmas.{IsWord}
+use Rattle.rv_core.specs.declared.image.Segment.{Segment}
+use Rattle.rv_core.specs.declared.row.Width.TheVariants.{Word}
+use Rattle.rv_core.specs.Code.{decoded, instruction_in, word_in}
+use Rattle.rv_core.specs.Images.{AreLoadable, AreSegments, Image}
+use Rattle.rv_core.specs.Instructions.{Instruction}
+use Rattle.rv_core.specs.Machine.{fetched}
+use Rattle.rv_core.specs.Memory.{block_of, holds_span, loaded, number_at, read_from}
+use Rattle.rv_core.proofs.Framing.{block_of-length}
+use Rattle.code_flow_sizes.specs.Laws.{EndsWithin}
 
 -- each has a greater rank than those before it
 abbrev pub Rises : {X : Type 0} → (X → ℕ) → List X → Type 0
@@ -26,45 +33,63 @@ few rank n xs high rises =
     let all = few_from rank n 0 xs (omega arith) (λ k d lt. omega arith) high rises in
     omega (arith, all)
 
--- the number of a word of flash or scratchpad
+-- a whole word of code among the first of flash
+pub record IsCode (n a : ℕ) : Type 0 where
+  pub aligned : a % 4 ≡ 0
+  pub below : a + 4 ≤ 4 * n
+
 abbrev pub word_rank : ℕ → ℕ
-word_rank a = if nat_lt a 0x80_0000 then a / 4 else 0x20_0000 + (a - 0x1000_0000) / 4
+word_rank a = a / 4
 
-abbrev Lies : ℕ → Type 0
-Lies a = (a + 4 ≤ 0x80_0000) ⊎ ((0x1000_0000 ≤ a) × (a + 4 ≤ 0x1001_0000))
+pub rank_below : (n a : ℕ) → IsCode n a → word_rank a < n
+rank_below n a h = let low = h.below in let whole = h.aligned in omega (arith, low, whole)
 
-in_flash : (a : ℕ) → a + 4 ≤ 0x80_0000 → word_rank a ≡ a / 4
-in_flash a h = grind (arith, nat_tests)
-
-in_scratchpad : (a : ℕ) → 0x1000_0000 ≤ a → word_rank a ≡ 0x20_0000 + (a - 0x1000_0000) / 4
-in_scratchpad a h = grind (arith, nat_tests)
-
-whole : (a : ℕ) → is_aligned a ≡ true → a % 4 ≡ 0
-whole a h = grind (arith, nat_tests)
-
-pub rank_below : (a : ℕ) → IsWord a → word_rank a < all_places
-rank_below a h = of h.lies
-  where
-    of : Lies a → word_rank a < all_places
-    of (inl flash) = let is = in_flash a flash in omega (arith, is, flash)
-    of (inr spm) = let is = in_scratchpad a spm.0 in let low = spm.0 in let high = spm.1 in omega (arith, is, low, high)
-
-pub rank_rises : (a b : ℕ) → IsWord a → IsWord b → a < b → word_rank a < word_rank b
-rank_rises a b h k less = of h.lies k.lies
-  where
-    first : a % 4 ≡ 0
-    first = whole a h.aligned
-
-    second : b % 4 ≡ 0
-    second = whole b k.aligned
-
-    of : Lies a → Lies b → word_rank a < word_rank b
-    of (inl x) (inl y) = let e = in_flash a x in let f = in_flash b y in omega (arith, e, f, first, second, less)
-    of (inl x) (inr y) = let e = in_flash a x in let f = in_scratchpad b y.0 in omega (arith, e, f, x)
-    of (inr x) (inl y) = let low = x.0 in absurd (omega (arith, low, y, less))
-    of (inr x) (inr y) = let e = in_scratchpad a x.0 in let f = in_scratchpad b y.0 in let low = x.0 in omega (arith, e, f, first, second, less, low)
+pub rank_rises : (n a b : ℕ) → IsCode n a → IsCode n b → a < b → word_rank a < word_rank b
+rank_rises n a b h k less = let first = h.aligned in let second = k.aligned in omega (arith, first, second, less)
 
 -- a move of a word, by the word and its number
-pub move_rises : (a b m n : ℕ) → IsWord a → IsWord b → m < 2 → (a < b) ⊎ ((a ≡ b) × (m < n)) → 2 * word_rank a + m < 2 * word_rank b + n
-move_rises a b m n h k two (inl less) = let rises = rank_rises a b h k less in omega (arith, rises, two)
-move_rises a b m n h k two (inr same) = let e = ap word_rank same.0 in let less = same.1 in omega (arith, e, less)
+pub move_rises : (n a b i j : ℕ) → IsCode n a → IsCode n b → i < 2 → (a < b) ⊎ ((a ≡ b) × (i < j)) → 2 * word_rank a + i < 2 * word_rank b + j
+move_rises n a b i j h k two (inl less) = let rises = rank_rises n a b h k less in omega (arith, rises, two)
+move_rises n a b i j h k two (inr same) = let e = ap word_rank same.0 in let less = same.1 in omega (arith, e, less)
+
+-- an instruction of an image stands at such a word
+
+held : (n a w : ℕ) (ss : List Segment) → AreSegments ss → All (EndsWithin n) ss → read_from (λ b. b.exec) Word (loaded ss) a ≡ Some w → a + 4 ≤ 4 * n
+held n a w [] valid ends h = cc
+held n a w (s ∷ ss) valid ends h = by_test ((block_of s).exec && holds_span (block_of s) a 4) refl h (held n a w ss valid.1 (All-tail (EndsWithin n) s ss ends))
+  where
+    le_from : (i j : ℕ) → nat_le i j ≡ true → i ≤ j
+    le_from i j k = grind (arith, nat_tests)
+
+    here : ((block_of s).exec && holds_span (block_of s) a 4) ≡ true → a + 4 ≤ 4 * n
+    here k =
+        let both = and_parts s.exec (holds_span (block_of s) a 4) k in
+        let span = and_parts (nat_le s.at a) (nat_le (a + 4) (s.at + length (block_of s).bytes)) both.1 in
+        let long = block_of-length s valid.0.filled in
+        let from = le_from s.at a span.0 in
+        let to = le_from (a + 4) (s.at + length (block_of s).bytes) span.1 in
+        let end = (All-head (EndsWithin n) s ss ends).code both.0 (omega (arith, from, to, long)) in
+        omega (arith, to, long, end)
+
+    by_test : (b : Bool) → ((block_of s).exec && holds_span (block_of s) a 4) ≡ b → (if b then Some (number_at Word (block_of s).bytes (a - (block_of s).at)) else read_from (λ b. b.exec) Word (loaded ss) a) ≡ Some w
+        → (read_from (λ b. b.exec) Word (loaded ss) a ≡ Some w → a + 4 ≤ 4 * n) → a + 4 ≤ 4 * n
+    by_test true e is later = here e
+    by_test false e is later = later is
+
+fetched_code : (n a w : ℕ) (ss : List Segment) → AreSegments ss → All (EndsWithin n) ss → fetched (loaded ss) a ≡ Some w → IsCode n a
+unfolding fetched
+fetched_code n a w ss valid ends h = by_test (a % 4 == 0) refl h
+  where
+    whole : (a % 4 == 0) ≡ true → a % 4 ≡ 0
+    whole e = grind (arith, nat_tests)
+
+    by_test : (b : Bool) → (a % 4 == 0) ≡ b → (if b then read_from (λ b. b.exec) Word (loaded ss) a else None) ≡ Some w → IsCode n a
+    by_test true e is = record { aligned = whole e; below = held n a w ss valid ends is }
+    by_test false e is = cc
+
+pub instruction_code : (n : ℕ) (image : Image) (a : ℕ) (i : Instruction) → AreLoadable image.segments → All (EndsWithin n) image.segments → instruction_in image a ≡ Some i → IsCode n a
+instruction_code n image a i loadable ends h = by_word (word_in image a) refl h
+  where
+    by_word : (o : Option ℕ) → word_in image a ≡ o → decoded o ≡ Some i → IsCode n a
+    by_word None e is = cc
+    by_word (Some w) e is = fetched_code n a w image.segments loadable.each ends e

@@ -1,8 +1,8 @@
 //! How many lines a certificate takes.
 //!
-//! Proved, by a call with an empty body: [`certificates_are_few`]. A certificate that is accepted for the system of an image has
-//! no more potentials than flash and scratchpad have words, and its flow lists no more than two moves of each: instructions stand
-//! in those regions alone, and an address has two moves at most.
+//! Proved, by a call with an empty body: [`certificates_are_few`]. Where the code of an image ends behind so many words of flash, a
+//! certificate that is accepted for the image's system has no more potentials than these words, and its flow lists no more than two
+//! moves of each: instructions stand in code alone, and an address has two moves at most.
 //!
 //! The crate knows nothing of texts, nor of how a certificate is found.
 #![tactic(auto)]

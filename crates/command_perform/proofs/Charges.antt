@@ -11,7 +11,8 @@ use Rattle.command_perform.specs.Words.{Compile, Check, Run}
 use Rattle.command_perform.specs.Outputs.{Outputs, outputs_of}
 use Rattle.command_perform.specs.Ends.{IsEnd, IsRefusal}
 use Rattle.command_perform.specs.Commands.{job_of, Refuses, Makes}
-use Rattle.command_perform.specs.Compiling.{RefusesCompile, MakesImage}
+use Rattle.command_perform.specs.Compiling.{MakesImage}
+use Rattle.command_perform.specs.Sources.{RefusesProgram}
 use Rattle.command_perform.specs.Checking.{RefusesCheck, MakesYes}
 use Rattle.command_perform.specs.Running.{RefusesImage, MakesOutput}
 use Rattle.command_perform.specs.Tables.{AreCosts, RefusesTables, Charged, IsUncharged}
@@ -41,12 +42,12 @@ compile_made : (asked : CompileRequest) (contents : List (List ℕ)) (source : L
 compile_made asked contents source costs made c m = subst (λ (k : List (List ℕ)). Makes (Compile asked) k made) (sym c.contents_are) (costs, c.are_costs, m)
 
 compile_refused : (asked : CompileRequest) (contents : List (List ℕ)) (source : List ℕ) (costs : Table) (s : Status) → Charged contents (source ∷ []) costs
-    → (s ≡ status.Memory) ⊎ (IsRefusal s × RefusesCompile asked.derive source s) → (s ≡ status.Memory) ⊎ (IsRefusal s × Refuses (Compile asked) contents s)
+    → (s ≡ status.Memory) ⊎ (IsRefusal s × RefusesProgram asked.derive source s) → (s ≡ status.Memory) ⊎ (IsRefusal s × Refuses (Compile asked) contents s)
 compile_refused asked contents source costs s c (inl memory) = inl memory
 compile_refused asked contents source costs s c (inr x) = inr (x.0, subst (λ (k : List (List ℕ)). Refuses (Compile asked) k s) (sym c.contents_are) (inr (costs, c.are_costs, x.1)))
 
 pub compile_charged : (asked : CompileRequest) (contents : List (List ℕ)) (source : List ℕ) (costs : Table) (r : Result Made Status) → Charged contents (source ∷ []) costs
-    → MatchResult r (λ m. IsEnd m.status × MakesImage asked costs source (outputs_of m)) (λ s. (s ≡ status.Memory) ⊎ (IsRefusal s × RefusesCompile asked.derive source s))
+    → MatchResult r (λ m. IsEnd m.status × MakesImage asked costs source (outputs_of m)) (λ s. (s ≡ status.Memory) ⊎ (IsRefusal s × RefusesProgram asked.derive source s))
     → MatchResult r (λ m. IsEnd m.status × Makes (Compile asked) contents (outputs_of m)) (λ s. (s ≡ status.Memory) ⊎ (IsRefusal s × Refuses (Compile asked) contents s))
 compile_charged asked contents source costs (Ok m) c x = (x.0, compile_made asked contents source costs (outputs_of m) c x.1)
 compile_charged asked contents source costs (Err s) c x = compile_refused asked contents source costs s c x

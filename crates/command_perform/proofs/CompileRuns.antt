@@ -1,5 +1,5 @@
 -- What the steps of compiling say together, and in which way alone a source can be compiled or refused.
-use Rattle.std.proofs.Common.{◌≡◌, ◌⊎◌, ◌≤◌, ℕ, List, ◌∷◌, length, Option, Some, None, refl, sym, ap, subst, ◌∙◌, inl, inr, ⊎_elim, Bool}
+use Rattle.std.proofs.Common.{◌≡◌, ◌⊎◌, ◌≤◌, ℕ, List, ◌∷◌, length, Option, Some, None, refl, sym, ap, subst, inl, inr, ⊎_elim, Bool}
 use Rattle.std.specs.Prelude.{◌^◌, IsSomeAnd}
 use Rattle.wcc_base.specs.Outside.{Files, StoreState, bytes_of}
 use Rattle.wcc_base.specs.declared.status.Status.{Status}
@@ -8,7 +8,6 @@ use Rattle.rv_core.specs.Table.{Table}
 use Rattle.c_lexer.specs.declared.LexFault.TheVariants as lexing
 use Rattle.c_parser.specs.declared.fault.ParseFault.TheVariants as parsing
 use Rattle.types_rules.specs.declared.fault.TypeFault.TheVariants as typing
-use Rattle.facts_definitions.specs.declared.facts.Facts.{Facts}
 use Rattle.facts_definitions.specs.declared.facts.FlowFault.TheVariants as flows
 use Rattle.types_calls.specs.declared.ranks.CallFault.TheVariants as calling
 use Rattle.facts_front.specs.declared.refusal.Refusal.{Refusal as FrontRefusal}
@@ -20,8 +19,8 @@ use Rattle.report_text.specs.Lines.{report_text}
 use Rattle.report_text.specs.Reports.{Report}
 use Rattle.rv_core.specs.Images.{Image}
 use Rattle.promise_compiler.specs.declared.refusal.Refusal.{Refusal}
-use Rattle.promise_compiler.specs.declared.refusal.Refusal.TheVariants.{Front, Form, Memory}
-use Rattle.promise_compiler.specs.Refusals.{Fails, IsRestricted}
+use Rattle.promise_compiler.specs.declared.refusal.Refusal.TheVariants.{Front, Memory}
+use Rattle.promise_compiler.specs.Refusals.{Fails}
 use Rattle.promise_compiler.specs.Lengths.{AreShort}
 use Rattle.facts_laws.proofs.Sources as laws
 use Rattle.promise_report.specs.Compiled.{IsCompiled}
@@ -31,7 +30,7 @@ use Rattle.command_perform.specs.Words.{Named, Compile}
 use Rattle.command_perform.specs.Lines.{cycles_line}
 use Rattle.command_perform.specs.Outputs.{Outputs}
 use Rattle.command_perform.specs.Sources.{refusal_status, RefusesProgram}
-use Rattle.command_perform.specs.Compiling.{RefusesCompile, compile_status, Compiles, IsUnrestricted}
+use Rattle.command_perform.specs.Compiling.{compile_status, Compiles, IsCompilable}
 use Rattle.command_perform.specs.Ends.{IsRefusal}
 use Rattle.command_perform.specs.Gathering.{Fit, contents_of}
 use Rattle.command_perform.specs.Tables.{wanted_table}
@@ -66,26 +65,24 @@ front_status derive source (front.Flow (flows.TooOften most)) r = tt
 front_status derive source (front.Flow flows.Memory) r = absurd (r.0 refl)
 front_status derive source front.Memory r = absurd r
 
-front_refuses : (derive : Bool) (source : List ℕ) (s : Status) → IsFront s → RefusesProgram derive source s → IsRefusal s × RefusesCompile derive source s
+front_refuses : (derive : Bool) (source : List ℕ) (s : Status) → IsFront s → RefusesProgram derive source s → IsRefusal s × RefusesProgram derive source s
 front_refuses derive source (status.Refused code detail at) i r = (tt, r)
 front_refuses derive source (status.Limit which found) i r = (tt, r)
 front_refuses derive source s i r = absurd i
 
 -- why a source isn't compiled, as a status
-pub refuses_compile : (derive : Bool) (source : List ℕ) (refusal : Refusal) (s : Status) → s ≡ compile_status refusal → Fails derive source refusal → (s ≡ status.Memory) ⊎ (IsRefusal s × RefusesCompile derive source s)
+pub refuses_compile : (derive : Bool) (source : List ℕ) (refusal : Refusal) (s : Status) → s ≡ compile_status refusal → Fails derive source refusal → (s ≡ status.Memory) ⊎ (IsRefusal s × RefusesProgram derive source s)
 refuses_compile derive source (Front f) s e r =
     let program : RefusesProgram derive source (refusal_status f) = record { refusal = f; refused = r; status_is = refl } in
-    inr (subst (λ (k : Status). IsRefusal k × RefusesCompile derive source k) (sym e) (front_refuses derive source (refusal_status f) (front_status derive source f r) program))
-refuses_compile derive source Form s e r = inr (subst (λ (k : Status). IsRefusal k × RefusesCompile derive source k) (sym e) (tt, r))
+    inr (subst (λ (k : Status). IsRefusal k × RefusesProgram derive source k) (sym e) (front_refuses derive source (refusal_status f) (front_status derive source f r) program))
 refuses_compile derive source Memory s e r = inl e
 
 -- what is built, as bytes
 pub compiles : (derive : Bool) (costs : Table) (source : List ℕ) (image : Image) (report : Report) (t : Texts) → t.image ≡ text_of image → t.report ≡ report_text report → t.line ≡ cycles_line report.cert.cycles report.kind
-    → IsCompiled derive costs source (text_of image) (report_text report) report → (IsRestricted derive source → ⊥) → report.cert.cycles ≤ 2 ^ 62 → (length source ≤ 1048576 → AreShort (text_of image) (report_text report)) → Compiles derive costs source t
-compiles derive costs source image report t i r l c u b s = record {
+    → IsCompiled derive costs source (text_of image) (report_text report) report → report.cert.cycles ≤ 2 ^ 62 → (length source ≤ 1048576 → AreShort (text_of image) (report_text report)) → Compiles derive costs source t
+compiles derive costs source image report t i r l c b s = record {
   report = report;
   compiled = subst (λ (k : List ℕ). IsCompiled derive costs source t.image k report) (sym r) (subst (λ (k : List ℕ). IsCompiled derive costs source k (report_text report) report) (sym i) c);
-  unrestricted = u;
   small = b;
   short = λ k. subst (λ (x : List ℕ). AreShort t.image x) (sym r) (subst (λ (x : List ℕ). AreShort x (report_text report)) (sym i) (s k));
   line_is = l;
@@ -95,57 +92,34 @@ compiles derive costs source image report t i r l c u b s = record {
 pub compiled_holds : (derive : Bool) (costs : Table) (source : List ℕ) (t : Texts) → Compiles derive costs source t → IsAccepted costs t.image t.report
 compiled_holds derive costs source t c = record { report = c.report; system = c.compiled.system; holds = c.compiled.holds }
 
--- a refusal is that of a restriction, or that of a source without a program
+-- a source that has a program isn't refused
 
-by_cause : (derive : Bool) (source : List ℕ) (s : Status) → RefusesCompile derive source s → ((s ≡ status.Form) × IsRestricted derive source) ⊎ RefusesProgram derive source s
-by_cause derive source status.Form r = inl (refl, r)
-by_cause derive source s r = inr r
-
-both_kinds : (derive : Bool) (source : List ℕ) → IsRestricted derive source → IsUnrestricted derive source → ⊥
-both_kinds derive source r u =
-    let same = laws.one_source derive source r.names u.names r.program u.program r.facts u.facts r.is_source u.is_source in
-    r.restricted (ap (λ (f : Facts). f.restrictions) same.2 ∙ u.unrestricted)
-
-restricted_passes : (derive : Bool) (source : List ℕ) (s : Status) → length source ≤ 1048576 → IsRestricted derive source → RefusesProgram derive source s → ⊥
-restricted_passes derive source s short r p = laws.not_both derive source r.names r.program r.facts p.refusal short r.is_source p.refused
-
-pub unrestricted_passes : (derive : Bool) (source : List ℕ) (s : Status) → length source ≤ 1048576 → IsUnrestricted derive source → RefusesCompile derive source s → ⊥
-unrestricted_passes derive source s short u r =
-    ⊎_elim (λ x. both_kinds derive source x.1 u) (λ p. laws.not_both derive source u.names u.program u.facts p.refusal short u.is_source p.refused) (by_cause derive source s r)
+pub compilable_passes : (derive : Bool) (source : List ℕ) (s : Status) → length source ≤ 1048576 → IsCompilable derive source → RefusesProgram derive source s → ⊥
+compilable_passes derive source s short w r = laws.not_both derive source w.names w.program w.facts r.refusal short w.is_source r.refused
 
 compiled_passes : (derive : Bool) (costs : Table) (source : List ℕ) (t : Texts) (s : Status) → length source ≤ 1048576 → Compiles derive costs source t → RefusesProgram derive source s → ⊥
-compiled_passes derive costs source t s short c p = laws.not_both derive source c.compiled.names c.compiled.program c.compiled.facts p.refusal short c.compiled.is_source p.refused
+compiled_passes derive costs source t s short c r = laws.not_both derive source c.compiled.names c.compiled.program c.compiled.facts r.refusal short c.compiled.is_source r.refused
 
 status_of : (made other : Outputs) → made ≡ other → made.status ≡ other.status
 status_of made other e = ap (λ (o : Outputs). o.status) e
 
 -- each kind of source leaves one way to end
 
-unrestricted_only : (asked : CompileRequest) (source : List ℕ) (tables : List (List ℕ)) → length source ≤ 1048576 → IsOfSource (IsUnrestricted asked.derive) (source ∷ tables) → CanOnly (Compile asked) (source ∷ tables) status.Done
-unrestricted_only asked source tables short c = record {
-  refuses = λ t r. absurd (⊎_elim (λ x. no_table_fault tables c.0 t c.1 x) (λ x. unrestricted_passes asked.derive source t short c.2 x.2) r);
+compilable_only : (asked : CompileRequest) (source : List ℕ) (tables : List (List ℕ)) → length source ≤ 1048576 → IsOfSource (IsCompilable asked.derive) (source ∷ tables) → CanOnly (Compile asked) (source ∷ tables) status.Done
+compilable_only asked source tables short c = record {
+  refuses = λ t r. absurd (⊎_elim (λ x. no_table_fault tables c.0 t c.1 x) (λ x. compilable_passes asked.derive source t short c.2 x.2) r);
   makes = λ made m. status_of made _ m.2.made_is;
-}
-
-restricted_only : (asked : CompileRequest) (source : List ℕ) (tables : List (List ℕ)) → length source ≤ 1048576 → IsOfSource (IsRestricted asked.derive) (source ∷ tables) → CanOnly (Compile asked) (source ∷ tables) status.Form
-restricted_only asked source tables short c = record {
-  refuses = λ t r. ⊎_elim (λ x. absurd (no_table_fault tables c.0 t c.1 x)) (λ x. ⊎_elim (λ y. y.0) (λ y. absurd (restricted_passes asked.derive source t short c.2 y)) (by_cause asked.derive source t x.2)) r;
-  makes = λ made m. absurd (m.2.compiles.unrestricted c.2);
 }
 
 refused_only : (asked : CompileRequest) (source : List ℕ) (tables : List (List ℕ)) (s : Status) → length source ≤ 1048576 → IsOfSource (λ k. RefusesProgram asked.derive k s) (source ∷ tables) → CanOnly (Compile asked) (source ∷ tables) s
 refused_only asked source tables s short c = record {
-  refuses = λ t r. ⊎_elim (λ x. absurd (no_table_fault tables c.0 t c.1 x)) (λ x. ⊎_elim (λ y. absurd (restricted_passes asked.derive source s short y.1 c.2)) (λ y. one_status asked.derive source t s short y c.2) (by_cause asked.derive source t x.2)) r;
+  refuses = λ t r. ⊎_elim (λ x. absurd (no_table_fault tables c.0 t c.1 x)) (λ x. one_status asked.derive source t s short x.2 c.2) r;
   makes = λ made m. absurd (compiled_passes asked.derive m.0 source m.2.texts s short m.2.compiles c.2);
 }
 
-pub unrestricted_ends : (asked : CompileRequest) (files : Option Files) (old : StoreState) → old.files ≡ files → IsSomeAnd files (λ fs. Fit (wanted_of (Compile asked)) fs × IsOfSource (IsUnrestricted asked.derive) (contents_of (wanted_of (Compile asked)) fs)) → CanEnd (Some (Named (Compile asked))) old status.Done
-unrestricted_ends asked None old e c = absurd c
-unrestricted_ends asked (Some fs) old e c = rw e (c.0, unrestricted_only asked (bytes_of fs asked.source) (contents_of (wanted_table asked.table) fs) c.0.0 c.1)
-
-pub restricted_ends : (asked : CompileRequest) (files : Option Files) (old : StoreState) → old.files ≡ files → IsSomeAnd files (λ fs. Fit (wanted_of (Compile asked)) fs × IsOfSource (IsRestricted asked.derive) (contents_of (wanted_of (Compile asked)) fs)) → CanEnd (Some (Named (Compile asked))) old status.Form
-restricted_ends asked None old e c = absurd c
-restricted_ends asked (Some fs) old e c = rw e (c.0, restricted_only asked (bytes_of fs asked.source) (contents_of (wanted_table asked.table) fs) c.0.0 c.1)
+pub compilable_ends : (asked : CompileRequest) (files : Option Files) (old : StoreState) → old.files ≡ files → IsSomeAnd files (λ fs. Fit (wanted_of (Compile asked)) fs × IsOfSource (IsCompilable asked.derive) (contents_of (wanted_of (Compile asked)) fs)) → CanEnd (Some (Named (Compile asked))) old status.Done
+compilable_ends asked None old e c = absurd c
+compilable_ends asked (Some fs) old e c = rw e (c.0, compilable_only asked (bytes_of fs asked.source) (contents_of (wanted_table asked.table) fs) c.0.0 c.1)
 
 pub refused_ends : (asked : CompileRequest) (s : Status) (files : Option Files) (old : StoreState) → old.files ≡ files → IsSomeAnd files (λ fs. Fit (wanted_of (Compile asked)) fs × IsOfSource (λ k. RefusesProgram asked.derive k s) (contents_of (wanted_of (Compile asked)) fs)) → CanEnd (Some (Named (Compile asked))) old s
 refused_ends asked s None old e c = absurd c

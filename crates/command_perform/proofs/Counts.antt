@@ -47,5 +47,4 @@ pub refusal_counts : (T : Type 0) (s : Status) (n : ℕ) → IsRefusal s → rea
 refusal_counts T (status.Refused code detail at) n i = refl
 refusal_counts T (status.No code detail at) n i = refl
 refusal_counts T (status.Limit which found) n i = refl
-refusal_counts T status.Form n i = refl
 refusal_counts T s n i = absurd i

@@ -54,7 +54,6 @@ refusal_answers : (c : Asked) (old new : StoreState) (out out' : SinkState) (s :
 refusal_answers c old new out out' (status.Refused code detail at) i r e = ((r, e), (r, e))
 refusal_answers c old new out out' (status.No code detail at) i r e = ((r, e), (r, e))
 refusal_answers c old new out out' (status.Limit which found) i r e = ((inr r, e), (inr r, e))
-refusal_answers c old new out out' status.Form i r e = ((r, e), (r, e))
 refusal_answers c old new out out' s i r e = absurd i
 
 whole_answers : (c : Asked) (old new : StoreState) (out out' : SinkState) (made : Outputs) (s : Status) → made.status ≡ s → IsEnd s → MakesIn c old.files made → new.files ≡ all_put made.files old.files → NoneFailed old new → ((out'.written ≡ told_append made.lines out.written) × (out'.faults ≡ out.faults) → Answers (Some c) old new out out' s) × (Rose out.faults out'.faults → Answers (Some c) old new out out' (status_after_fault s))

@@ -8,7 +8,7 @@ numbers_are_kept zero some few = absurd (omega (arith, some))
 numbers_are_kept (suc m) some few =
     let d = numbered_done m few in
     record {
-      plain = record { names = d.names; program = d.program; facts = d.facts; is_source = d.is_source; unrestricted = d.unrestricted };
+      whole = record { names = d.names; program = d.program; facts = d.facts; is_source = d.is_source };
       output = d.output;
       value = d.value;
       counts = d.counts;

@@ -5,6 +5,7 @@ pub mod Steps
 pub mod RunRuns
 pub mod Charges
 pub mod Endings
+pub mod Building
 pub mod Succeeding
 pub mod Leaving
 pub mod Evaluations

@@ -31,7 +31,7 @@ use Rattle.command_perform.specs.Running.{run_of, run_limits, Simulates}
 use Rattle.command_perform.specs.Numbered.{numbered_job, numbered_outputs, MakesNumbered, IsKept}
 use Rattle.command_perform.specs.Ends.{IsEnd}
 use Rattle.command_perform.specs.Promises.{CanOnly, CanEnd}
-use Rattle.command_perform.proofs.CompileRuns.{unrestricted_passes}
+use Rattle.command_perform.proofs.CompileRuns.{compilable_passes}
 
 -- what is compiled loads as an image
 pub loads : (source : List ℕ) (t : Texts) → Compiles false default_table source t → IsLoadable t.image
@@ -63,7 +63,7 @@ same_meaning source names others program other facts more run h k d =
 kept_exits : (source : List ℕ) (t : Texts) → Compiles false default_table source t → IsKept source [] → (f : Finish) × ExitsWithin (run_of (numbered_job t.image)) (run_limits (numbered_job t.image)) f
 kept_exits source t c k =
     let i = c.compiled in
-    let r = i.runs [] (All-nil (λ (b : ℕ). b < 256)) k.output k.value k.counts (same_meaning source i.names k.plain.names i.program k.plain.program i.facts k.plain.facts _ i.is_source k.plain.is_source k.done) in
+    let r = i.runs [] (All-nil (λ (b : ℕ). b < 256)) k.output k.value k.counts (same_meaning source i.names k.whole.names i.program k.whole.program i.facts k.whole.facts _ i.is_source k.whole.is_source k.done) in
     let f = finish k.output k.value (mrun (setup i.image default_table []) r.0).state.cycles in
     let w : ExitsWithin (setup i.image default_table []) (limits (2 ^ 62) 16_777_216) f = record {
       exits = record { count = r.0; finishes = record { ends = r.1.ends; prints = r.1.prints; takes = refl } };
@@ -80,7 +80,7 @@ made_done asked made k m =
 
 pub numbered_only : (asked : MakeRequest) → asked.number ≤ 100 → IsKept (numbered_text asked.number) [] → CanOnly (Make asked) [] status.Done
 numbered_only asked few k = record {
-  refuses = λ t r. absurd (unrestricted_passes false (numbered_text asked.number) t (omega (arith, short asked.number few)) k.plain r);
+  refuses = λ t r. absurd (compilable_passes false (numbered_text asked.number) t (omega (arith, short asked.number few)) k.whole r);
   makes = λ made m. made_done asked made k m;
 }
 

@@ -11,7 +11,7 @@ use Rattle.command_perform.specs.Gathering.{Wants}
 use Rattle.command_perform.specs.Outputs.{Outputs}
 use Rattle.command_perform.specs.Tables.{wanted_table, AreCosts, RefusesWith}
 use Rattle.command_perform.specs.Sources.{RefusesProgram}
-use Rattle.command_perform.specs.Compiling.{RefusesCompile, MakesImage}
+use Rattle.command_perform.specs.Compiling.{MakesImage}
 use Rattle.command_perform.specs.Checking.{RefusesCheck, MakesYes}
 use Rattle.command_perform.specs.Running.{Job, RefusesImage, MakesOutput, CanExit}
 use Rattle.command_perform.specs.Evaluating.{MakesRun}
@@ -48,12 +48,12 @@ CanExitRun asked contents = ⊥
 
 -- these contents are refused with this status
 abbrev pub Refuses : Command → List (List ℕ) → Status → Type 0
-Refuses (Compile asked) (source ∷ tables) s = RefusesWith tables (λ costs. RefusesCompile asked.derive source s) s
+Refuses (Compile asked) (source ∷ tables) s = RefusesWith tables (λ costs. RefusesProgram asked.derive source s) s
 Refuses (Check asked) (image ∷ report ∷ tables) s = RefusesWith tables (λ costs. RefusesCheck costs image report s) s
 Refuses (Run asked) (image ∷ input ∷ tables) s = RefusesWith tables (λ costs. RefusesImage image s) s
 Refuses (Eval asked) (source ∷ input ∷ []) s = RefusesProgram asked.derive source s
 Refuses (Report asked) (report ∷ []) s = RefusesReport report s
-Refuses (Make asked) [] s = RefusesCompile false (numbered_text asked.number) s
+Refuses (Make asked) [] s = RefusesProgram false (numbered_text asked.number) s
 Refuses command contents s = ⊥
 
 -- of these contents this is made

@@ -8,31 +8,24 @@ use Rattle.types_tree.specs.Tree.{Program}
 use Rattle.facts_front.specs.Fronts.{IsSourceBy}
 use Rattle.report_text.specs.Reports.{Report}
 use Rattle.promise_compiler.specs.declared.refusal.Refusal.{Refusal}
-use Rattle.promise_compiler.specs.declared.refusal.Refusal.TheVariants.{Front, Form, Memory}
-use Rattle.promise_compiler.specs.Refusals.{IsRestricted}
+use Rattle.promise_compiler.specs.declared.refusal.Refusal.TheVariants.{Front, Memory}
 use Rattle.promise_compiler.specs.Lengths.{AreShort}
 use Rattle.promise_report.specs.Compiled.{IsCompiled}
 use Rattle.command_words.specs.Requests.{CompileRequest}
 use Rattle.command_perform.specs.declared.compile.Texts.{Texts}
 use Rattle.command_perform.specs.Lines.{cycles_line}
 use Rattle.command_perform.specs.Outputs.{Outputs}
-use Rattle.command_perform.specs.Sources.{refusal_status, RefusesProgram}
+use Rattle.command_perform.specs.Sources.{refusal_status}
 
--- a source that has a restriction is of a form that isn't compiled yet; any other refusal is that of a source that has no program with facts
-abbrev pub RefusesCompile : (derive : Bool) → List ℕ → Status → Type 0
-RefusesCompile derive source status.Form = IsRestricted derive source
-RefusesCompile derive source s = RefusesProgram derive source s
-
+-- a source that isn't compiled has no program with facts
 abbrev pub compile_status : Refusal → Status
 compile_status (Front refusal) = refusal_status refusal
-compile_status Form = status.Form
 compile_status Memory = status.Memory
 
 -- with these costs, the image and the report keep what is promised of the source, and the line says the bound and its kind
 pub record Compiles (derive : Bool) (costs : Table) (source : List ℕ) (t : Texts) : Type 0 where
   pub report : Report
   pub compiled : IsCompiled derive costs source t.image t.report report
-  pub unrestricted : ¬ IsRestricted derive source
   -- no run that keeps within the bound ends at a limit of cycles
   pub small : report.cert.cycles ≤ 2 ^ 62
   -- of a source within its limit, both texts are within theirs
@@ -52,10 +45,9 @@ pub record MakesImage (asked : CompileRequest) (costs : Table) (source : List �
   pub compiles : Compiles asked.derive costs source texts
   pub made_is : made ≡ compiled_outputs asked texts
 
--- the source has a program with facts, and no restriction among them
-pub record IsUnrestricted (derive : Bool) (source : List ℕ) : Type 0 where
+-- the source has a program with facts
+pub record IsCompilable (derive : Bool) (source : List ℕ) : Type 0 where
   pub names : List (List ℕ)
   pub program : Program
   pub facts : Facts
   pub is_source : IsSourceBy derive source names program facts
-  pub unrestricted : facts.restrictions ≡ []

@@ -38,7 +38,6 @@ abbrev pub IsRefusal : Status → Type 0
 IsRefusal (status.Refused code detail at) = Unit {0}
 IsRefusal (status.No code detail at) = Unit {0}
 IsRefusal (status.Limit which found) = Unit {0}
-IsRefusal status.Form = Unit {0}
 IsRefusal s = ⊥
 
 -- the statuses of what is made

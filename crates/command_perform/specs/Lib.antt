@@ -3,6 +3,7 @@ pub mod Lines
 pub mod StatusLines
 pub mod Outputs
 pub mod Sources
+pub mod Settings
 pub mod Compiling
 pub mod Running
 pub mod Numbered
@@ -16,6 +17,7 @@ pub mod Responding
 pub mod Finishing
 pub mod Ends
 pub mod Promises
+pub mod Building
 pub mod Checkable
 pub mod Making
 pub mod Asked

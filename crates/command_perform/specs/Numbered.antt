@@ -12,7 +12,7 @@ use Rattle.command_words.specs.Requests.{MakeRequest}
 use Rattle.command_perform.specs.declared.compile.Texts.{Texts}
 use Rattle.command_perform.specs.Lines.{made_line, ran_line, run_line}
 use Rattle.command_perform.specs.Outputs.{Outputs}
-use Rattle.command_perform.specs.Compiling.{Compiles, IsUnrestricted}
+use Rattle.command_perform.specs.Compiling.{Compiles, IsCompilable}
 use Rattle.command_perform.specs.Running.{Job, Simulates, run_status}
 
 -- the image is run on the empty input, for at most 2^62 cycles
@@ -40,13 +40,13 @@ pub record MakesNumbered (asked : MakeRequest) (made : Outputs) : Type 0 where
   pub simulates : Simulates (numbered_job texts.image) last ending
   pub made_is : made ≡ numbered_outputs asked texts last ending
 
--- a source without restrictions whose run on this input is defined, keeps its annotations, and puts at most 16,777,216 bytes
+-- a source whose run on this input is defined, keeps its annotations, and puts at most 16,777,216 bytes
 pub record IsKept (source input : List ℕ) : Type 0 where
-  pub plain : IsUnrestricted false source
+  pub whole : IsCompilable false source
   pub output : List ℕ
   pub value : ℤ
   pub counts : List ℕ
-  pub done : meaning plain.program plain.names plain.facts input ≡ Done output value counts
+  pub done : meaning whole.program whole.names whole.facts input ≡ Done output value counts
   pub fits : length output ≤ 16_777_216
 
 -- that of each number from 1 to 100 is, on the empty input

@@ -59,9 +59,8 @@ failed_line code detail at =
     else (if code == 13 then row (codes "no empty\n" ∷ [])
     else row (codes "no share " ∷ address_text at ∷ codes "\n" ∷ [])))))))))))))
 
--- the line of a status. What was made has lines of its own, so Done and Stopped have none here
+-- the line of a status. What was made has lines of its own, so that of Done and that of Stopped are empty
 abbrev pub line_of : Status → List ℕ
-line_of status.Done = []
 line_of (status.Refused code detail at) = row (codes "refused " ∷ refused_text code detail ∷ codes " at " ∷ decimal at ∷ codes "\n" ∷ [])
 line_of status.Usage = row (codes "usage\n" ∷ [])
 line_of (status.Limit which found) = row (codes "limit " ∷ bound_text which ∷ codes " " ∷ decimal found ∷ codes "\n" ∷ [])
@@ -69,5 +68,4 @@ line_of status.ReadFault = row (codes "read fault\n" ∷ [])
 line_of status.WriteFault = row (codes "write fault\n" ∷ [])
 line_of status.Memory = row (codes "memory\n" ∷ [])
 line_of (status.No code detail at) = failed_line code detail at
-line_of (status.Stopped kind code at cycles) = []
-line_of status.Form = row (codes "form\n" ∷ [])
+line_of s = []

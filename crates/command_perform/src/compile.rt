@@ -9,7 +9,10 @@ ghost use Rattle.command_perform.specs.Words.{Compile};
 ghost use Rattle.command_perform.specs.Commands.{wanted_of, Refuses, Makes};
 ghost use Rattle.command_perform.specs.Ends.{IsEnd, IsRefusal};
 ghost use Rattle.command_perform.specs.Lines.{cycles_line};
-ghost use Rattle.command_perform.specs.Compiling.{RefusesCompile, compile_status, Compiles, compiled_outputs, MakesImage};
+ghost use Rattle.command_perform.specs.Compiling.{compile_status, Compiles, compiled_outputs, MakesImage};
+ghost use Rattle.command_perform.specs.Sources.{RefusesProgram};
+ghost use Rattle.command_perform.specs.Settings.{settings_of};
+ghost use Rattle.command_perform.specs.Building.{BuildsImage, BuildsOf};
 ghost use Rattle.command_perform.specs.Outputs.{outputs_of};
 
 use crate::lines::cycles_line;
@@ -54,7 +57,6 @@ fn status_of(refusal: Refusal) -> Status
 {
     match refusal {
         Refusal::Front(refusal) => refusal_status(refusal),
-        Refusal::Form => Status::Form,
         Refusal::Memory => Status::Memory,
     }
 }
@@ -66,8 +68,9 @@ pub fn compiled<C: Compiler>(
     source: &[u8],
     options: Options,
 ) -> Result<Texts, Status>
-    ensures { MatchResult result (Compiles options.derive (table_of options.costs) source.now)
-        (λ s. (s ≡ status.Memory) ⊎ (IsRefusal s × RefusesCompile options.derive source.now s)) }
+    ensures made { MatchResult result (Compiles options.derive (table_of options.costs) source.now)
+        (λ s. (s ≡ status.Memory) ⊎ (IsRefusal s × RefusesProgram options.derive source.now s)) }
+    ensures built { IfOk result (λ t. C.builds options source.now t.image t.report) }
 {
     match compiler.compile(alloc, source, &options) {
         Ok(built) => {
@@ -115,8 +118,9 @@ fn compile_with<'a, C: Compiler>(
     source: Items<u8>,
     costs: Costs,
 ) -> Result<Made<'a>, Status>
-    ensures { MatchResult result (λ m. IsEnd m.status × MakesImage (compile_request asked.entry) (table_of costs) source (outputs_of m))
-        (λ s. (s ≡ status.Memory) ⊎ (IsRefusal s × RefusesCompile (compile_request asked.entry).derive source s)) }
+    ensures made { MatchResult result (λ m. IsEnd m.status × MakesImage (compile_request asked.entry) (table_of costs) source (outputs_of m))
+        (λ s. (s ≡ status.Memory) ⊎ (IsRefusal s × RefusesProgram (compile_request asked.entry).derive source s)) }
+    ensures built { IfOk result (λ m. BuildsImage C.builds (settings_of (compile_request asked.entry) (table_of costs)) source (λ t. outputs_of m ≡ compiled_outputs (compile_request asked.entry) t)) }
 {
     let options = Options {
         costs,
@@ -141,8 +145,9 @@ pub fn make_compiled<'a, C: Compiler>(
     contents: Vec<Items<u8>>,
 ) -> Result<Made<'a>, Status>
     requires { length contents.items ≡ length (wanted_of (Compile (compile_request asked))) }
-    ensures { MatchResult result (λ m. IsEnd m.status × Makes (Compile (compile_request asked.entry)) contents.items (outputs_of m))
+    ensures made { MatchResult result (λ m. IsEnd m.status × Makes (Compile (compile_request asked.entry)) contents.items (outputs_of m))
         (λ s. (s ≡ status.Memory) ⊎ (IsRefusal s × Refuses (Compile (compile_request asked.entry)) contents.items s)) }
+    ensures built { IfOk result (λ m. BuildsOf C.builds (Compile (compile_request asked.entry)) contents.items (outputs_of m)) }
 {
     match charged_one(alloc, asked.table, contents) {
         Ok((source, costs)) => compile_with(compiler, alloc, asked, source, costs),

@@ -4,7 +4,6 @@ ghost use Rattle.wcc_base.specs.Outside.{Files, StoreState, bytes_of};
 ghost use Rattle.wcc_base.specs.declared.status.Status.TheVariants as status;
 ghost use Rattle.rv_core.specs.Table.{Table};
 ghost use Rattle.report_check.specs.Checks.{IsAccepted};
-ghost use Rattle.promise_compiler.specs.Refusals.{IsRestricted};
 ghost use Rattle.meaning_semantics.specs.declared.source_run.SourceRun.{SourceRun};
 ghost use Rattle.wcc_base.specs.declared.status.Status.{Status};
 ghost use Rattle.command_words.specs.Requests.{CompileRequest, CheckRequest, RunRequest, EvalRequest, ReportRequest, MakeRequest, RespondRequest};
@@ -13,7 +12,7 @@ ghost use Rattle.command_perform.specs.Evaluating.{run_outputs, IsRun, MakesRun,
 ghost use Rattle.command_perform.specs.Outputs.{Outputs};
 ghost use Rattle.command_perform.specs.Sources.{RefusesProgram};
 ghost use Rattle.command_perform.specs.declared.compile.Texts.{Texts};
-ghost use Rattle.command_perform.specs.Compiling.{Compiles, IsUnrestricted};
+ghost use Rattle.command_perform.specs.Compiling.{Compiles, IsCompilable};
 ghost use Rattle.command_perform.specs.Gathering.{Fit, contents_of};
 ghost use Rattle.command_perform.specs.Commands.{wanted_of, IsOfSource, CanAccept, CanExitRun};
 ghost use Rattle.response_analysis.specs.declared.task.Task.{Task};
@@ -23,11 +22,10 @@ ghost use Rattle.command_perform.specs.Reporting.{CanSummarize};
 ghost use Rattle.command_perform.specs.Responding.{AreTasksOf, CanRespond, RunsEndInTime};
 ghost use Rattle.command_perform.specs.Promises.{CanEnd};
 
-/// A source has a program without restrictions, one with a restriction, or none, and `compile` can
-/// only end as it does, with the costs of a table that isn't refused. What it writes holds.
+/// A source has a program with facts, or is refused in one way, and `compile` can only end so, with the
+/// costs of a table that isn't refused. What it writes holds.
 pub fn compilation_is_done()
-    ensures unrestricted { (asked : CompileRequest) (old : StoreState) → IsSomeAnd old.files (λ fs. Fit (wanted_of (Compile asked)) fs × IsOfSource (IsUnrestricted asked.derive) (contents_of (wanted_of (Compile asked)) fs)) → CanEnd (Some (Named (Compile asked))) old status.Done }
-    ensures restricted { (asked : CompileRequest) (old : StoreState) → IsSomeAnd old.files (λ fs. Fit (wanted_of (Compile asked)) fs × IsOfSource (IsRestricted asked.derive) (contents_of (wanted_of (Compile asked)) fs)) → CanEnd (Some (Named (Compile asked))) old status.Form }
+    ensures compilable { (asked : CompileRequest) (old : StoreState) → IsSomeAnd old.files (λ fs. Fit (wanted_of (Compile asked)) fs × IsOfSource (IsCompilable asked.derive) (contents_of (wanted_of (Compile asked)) fs)) → CanEnd (Some (Named (Compile asked))) old status.Done }
     ensures refused { (asked : CompileRequest) (old : StoreState) (s : Status) → IsSomeAnd old.files (λ fs. Fit (wanted_of (Compile asked)) fs × IsOfSource (λ source. RefusesProgram asked.derive source s) (contents_of (wanted_of (Compile asked)) fs)) → CanEnd (Some (Named (Compile asked))) old s }
     ensures holds { (derive : Bool) (costs : Table) (source : List ℕ) (t : Texts) → Compiles derive costs source t → IsAccepted costs t.image t.report }
 {}

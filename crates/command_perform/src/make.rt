@@ -1,7 +1,8 @@
 // The second step of a command: what it makes of the contents of its files.
-ghost use Rattle.std.specs.Prelude.{◌≡◌, ◌⊎◌, length, MatchResult};
+ghost use Rattle.std.specs.Prelude.{◌≡◌, ◌⊎◌, length, IfOk, MatchResult};
 ghost use Rattle.wcc_base.specs.declared.status.Status.TheVariants as status;
 ghost use Rattle.command_perform.specs.Asked.{command_of};
+ghost use Rattle.command_perform.specs.Building.{BuildsOf};
 ghost use Rattle.command_perform.specs.Commands.{wanted_of, Refuses, Makes};
 ghost use Rattle.command_perform.specs.Ends.{IsEnd, IsRefusal};
 ghost use Rattle.command_perform.specs.Outputs.{outputs_of};
@@ -45,9 +46,10 @@ pub fn make<'a, C: Compiler>(
     contents: Vec<Items<u8>>,
 ) -> Result<Made<'a>, Status>
     requires { length contents.items ≡ length (wanted_of (command_of command)) }
-    ensures { MatchResult result
+    ensures made { MatchResult result
         (λ m. IsEnd m.status × Makes (command_of command.entry) contents.items (outputs_of m))
         (λ s. (s ≡ status.Memory) ⊎ (IsRefusal s × Refuses (command_of command.entry) contents.items s)) }
+    ensures built { IfOk result (λ m. BuildsOf C.builds (command_of command.entry) contents.items (outputs_of m)) }
 {
     match command {
         Command::Compile(asked) => make_compiled(compiler, alloc, asked, contents),

@@ -9,8 +9,11 @@ ghost use Rattle.command_words.specs.Held.{make_request};
 ghost use Rattle.command_perform.specs.Ends.{IsEnd, IsRefusal};
 ghost use Rattle.command_perform.specs.Lines.{all_shown, made_line, run_line};
 ghost use Rattle.command_perform.specs.Running.{Simulates, run_status};
-ghost use Rattle.command_perform.specs.Compiling.{RefusesCompile, Compiles};
+ghost use Rattle.command_perform.specs.Compiling.{Compiles};
+ghost use Rattle.command_perform.specs.Sources.{RefusesProgram};
 ghost use Rattle.command_perform.specs.Numbered.{numbered_job, numbered_outputs, MakesNumbered};
+ghost use Rattle.command_perform.specs.Settings.{plain_settings};
+ghost use Rattle.command_perform.specs.Building.{BuildsImage, IsNumbered};
 ghost use Rattle.command_perform.specs.Outputs.{outputs_of};
 
 use crate::compile::{Texts, compiled};
@@ -152,7 +155,8 @@ fn tried<'a>(
 ) -> Result<Made<'a>, Memory>
     requires source { source ≡ numbered_text asked.number }
     requires compiled { Compiles false default_table source texts }
-    ensures { IfOk result (λ m. IsEnd m.status × MakesNumbered (make_request asked.entry) (outputs_of m)) }
+    ensures made { IfOk result (λ m. IsEnd m.status × MakesNumbered (make_request asked.entry) (outputs_of m)) }
+    ensures outputs { IfOk result (λ m. IsNumbered (make_request asked.entry) texts (outputs_of m)) }
 {
     checked(alloc, &texts)?;
     let ran = run(alloc, texts.image.as_slice())?;
@@ -165,8 +169,9 @@ pub fn make_numbered<'a, C: Compiler>(
     alloc: Global,
     asked: MakeRequest<'a>,
 ) -> Result<Made<'a>, Status>
-    ensures { MatchResult result (λ m. IsEnd m.status × MakesNumbered (make_request asked.entry) (outputs_of m))
-        (λ s. (s ≡ status.Memory) ⊎ (IsRefusal s × RefusesCompile false (numbered_text asked.entry.number) s)) }
+    ensures made { MatchResult result (λ m. IsEnd m.status × MakesNumbered (make_request asked.entry) (outputs_of m))
+        (λ s. (s ≡ status.Memory) ⊎ (IsRefusal s × RefusesProgram false (numbered_text asked.entry.number) s)) }
+    ensures built { IfOk result (λ m. BuildsImage C.builds plain_settings (numbered_text asked.entry.number) (λ t. IsNumbered (make_request asked.entry) t (outputs_of m))) }
 {
     let source = match command_numbered::write(alloc, asked.number) {
         Ok(source) => Items::new(source),

@@ -1,8 +1,9 @@
 // A command from its words to its status.
-ghost use Rattle.std.specs.Prelude.{◌≡◌, ◌⊎◌, map, string_bytes, MatchResult};
+ghost use Rattle.std.specs.Prelude.{◌≡◌, ◌⊎◌, map, string_bytes, IfOk, MatchResult};
 ghost use Rattle.wcc_base.specs.declared.status.Status.TheVariants as status;
 ghost use Rattle.command_perform.specs.Words.{asked_by, IsInRange, Named};
 ghost use Rattle.command_perform.specs.Asked.{command_of, asked_of};
+ghost use Rattle.command_perform.specs.Building.{AreBuilt, BuildsIn};
 ghost use Rattle.command_perform.specs.Outputs.{outputs_of};
 ghost use Rattle.command_perform.specs.Gathering.{OnlyRead};
 ghost use Rattle.command_perform.specs.Ends.{IsEnd, MakesIn, Fails, EndsWith};
@@ -27,6 +28,7 @@ fn work_on_files<'a, C: Compiler, S: Store>(
     ensures made { MatchResult result
         (λ m. IsEnd m.status × MakesIn (Named (command_of command.entry)) (S.state store.old).files (outputs_of m))
         (λ s. Fails (Named (command_of command.entry)) (S.state store.old).files s) }
+    ensures built { IfOk result (λ m. BuildsIn C.builds (Named (command_of command.entry)) (S.state store.old).files (outputs_of m)) }
     ensures reads { OnlyRead (S.state store.old) (S.state store.new) result }
 {
     match gather(alloc, store, command) {
@@ -45,6 +47,7 @@ fn work<'a, C: Compiler, S: Store>(
     ensures made { MatchResult result
         (λ m. IsEnd m.status × MakesIn (asked_of asked.entry) (S.state store.old).files (outputs_of m))
         (λ s. Fails (asked_of asked.entry) (S.state store.old).files s) }
+    ensures built { IfOk result (λ m. BuildsIn C.builds (asked_of asked.entry) (S.state store.old).files (outputs_of m)) }
     ensures reads { OnlyRead (S.state store.old) (S.state store.new) result }
 {
     match asked {
@@ -63,6 +66,7 @@ pub fn perform<C: Compiler, S: Store, O: Sink>(
     out: &mut O,
 ) -> Status
     ensures ends { EndsWith (asked_by (map string_bytes words.now)) (S.state store.old) (S.state store.new) (O.state out.old) (O.state out.new) result }
+    ensures built { result ≡ status.Done → AreBuilt C.builds (asked_by (map string_bytes words.now)) (S.state store.old) (S.state store.new) }
     ensures range { (result ≡ status.Memory) ⊎ IsInRange (asked_by (map string_bytes words.now)) }
 {
     match read_command(alloc, words) {

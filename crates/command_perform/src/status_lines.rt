@@ -156,8 +156,7 @@ pub fn report_status<O: Sink>(out: &mut O, status: Status) -> Status
         Status::ReadFault => report(out, status, &[Part::Word("read fault\n")]),
         Status::WriteFault => report(out, status, &[Part::Word("write fault\n")]),
         Status::Memory => report(out, status, &[Part::Word("memory\n")]),
-        Status::Form => report(out, status, &[Part::Word("form\n")]),
         Status::No { code, detail, at } => report(out, status, &failed_parts(code, detail, at)),
-        Status::Done | Status::Stopped { .. } => report(out, status, &[]),
+        Status::Done | Status::Stopped { .. } | Status::Form => report(out, status, &[]),
     }
 }

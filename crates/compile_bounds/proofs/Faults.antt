@@ -1,7 +1,8 @@
 -- No claim that is handed on is bad, and what is reached of the image of a laid program is code.
 use Rattle.std.proofs.Common.{◌≡◌, false, List, None, refl, All}
 use Rattle.rv_core.specs.Images.{Image}
-use Rattle.code_flow_system.specs.Claims.{never_flaws}
+use Rattle.code_flow_system.specs.Claims.{fact_flaws, never_flaws}
+use Rattle.code_flow_system.specs.declared.claims.FactClaim.{FactClaim}
 use Rattle.code_flow_system.specs.declared.claims.Never.{Never}
 use Rattle.code_flow.specs.CodeFaults.{IsFault}
 use Rattle.code_flow.specs.declared.finding.CodeFault.{CodeFault}
@@ -14,7 +15,8 @@ use Rattle.compile_claims.specs.Named.{named}
 use Rattle.compile_claims.proofs.Systems.{no_code_same, none_bad}
 
 module _ (l : Laid) (image : Image) (has : HasClaims l image) where
-  pub only_memory : (es : List LoopEntry) (ns : List Never) → All (λ flaw. flaw ≡ false) (never_flaws None ns) → (fault : CodeFault) → IsFault image (named es ns (claims_of l)) fault → fault ≡ Memory
-  only_memory es ns own (BadClaim n) h = absurd (none_bad es ns image (claims_of l) refl has.sound (λ k exit. no_false l image has.laid k exit) own n h.holds)
-  only_memory es ns own (NotCode a) h = let none = no_code_same es ns image (claims_of l) a h in absurd (none.no_code (has.reached a none.reached))
-  only_memory es ns own Memory h = refl
+  module _ (es : List LoopEntry) (ns : List Never) (fs : List FactClaim) where
+    pub only_memory : All (λ flaw. flaw ≡ false) (never_flaws None ns) → All (λ flaw. flaw ≡ false) (fact_flaws fs) → (fault : CodeFault) → IsFault image (named es ns fs (claims_of l)) fault → fault ≡ Memory
+    only_memory own facts (BadClaim n) h = absurd (none_bad es ns fs image (claims_of l) refl has.sound (λ k exit. no_false l image has.laid k exit) own facts n h.holds)
+    only_memory own facts (NotCode a) h = let none = no_code_same es ns fs image (claims_of l) a h in absurd (none.no_code (has.reached a none.reached))
+    only_memory own facts Memory h = refl

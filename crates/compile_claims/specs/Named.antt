@@ -3,6 +3,7 @@ use Rattle.std.specs.Prelude.{◌≡◌, ℕ, suc, List, map, IsPermutation}
 use Rattle.std.specs.List.{flat_map}
 use Rattle.std.specs.List.Sorted.{IsNonDecreasingBy}
 use Rattle.code_flow_system.specs.Claims.{Claims}
+use Rattle.code_flow_system.specs.declared.claims.FactClaim.{FactClaim}
 use Rattle.code_flow_system.specs.declared.claims.LoopClaim.{LoopClaim}
 use Rattle.code_flow_system.specs.declared.claims.Never.{Never}
 use Rattle.high_ir.specs.declared.copies.NeverMark.{NeverMark}
@@ -31,11 +32,11 @@ pub record AreNevers (places : List (List ℕ)) (marks : List NeverMark) (ns : L
   pub all : IsPermutation (flat_map (nevers_at places) marks) ns
   pub ascending : IsNonDecreasingBy (λ (n : Never). n.at) ns
 
--- claims with other loops and other addresses that are never visited
-abbrev pub named : List LoopEntry → List Never → Claims → Claims
-named es ns c = record { exits = c.exits; nevers = ns; regions = c.regions; loops = map (by_entries es) c.loops; facts = c.facts }
+-- claims with other loops, other addresses that are never visited, and other restrictions
+abbrev pub named : List LoopEntry → List Never → List FactClaim → Claims → Claims
+named es ns fs c = record { exits = c.exits; nevers = ns; regions = c.regions; loops = map (by_entries es) c.loops; facts = fs }
 
 -- the claims on the image of a program as they are handed on, by what became in it of the marks and loops of the source
 pub record AreHanded (whole : Listing) (places : List (List ℕ)) (own made : Claims) : Type 0 where
-  pub claims : made ≡ named whole.loops made.nevers own
+  pub claims : made ≡ named whole.loops made.nevers made.facts own
   pub nevers : AreNevers places whole.nevers made.nevers

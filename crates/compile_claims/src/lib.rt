@@ -2,13 +2,14 @@
 //!
 //! The layout names a loop by its number in the program that was laid; a report names it by that of the source, which are
 //! numbered from 1 on, and by the factor that says how many of its starts are one. Where a pass left marks that no kept run
-//! passes, each of their addresses has a claim, with the loop and the factor of the mark. Nothing else changes.
+//! passes, each of their addresses has a claim, with the loop and the factor of the mark. And the restrictions of the source are
+//! put in. Nothing else changes.
 //!
 //! Proved: [`by_source`] gives the claims that `specs/Named.antt` defines, from the lists of the addresses at which marks stand
 //! ([`places_at`]). By laws without bodies nothing that is known of the claims gets lost: the image has the same flow system but for
 //! these ([`systems_are_same`]), or none for the same reason ([`none_is_bad`], [`no_code_is_same`]); a search can be made in it where
-//! it could be made before ([`bounds_are_same`]), and a run that visits none of the addresses keeps the claims as it keeps those
-//! ([`runs_keep_same`]).
+//! it could be made before and the restrictions come to little ([`bounds_are_same`]), and a run that visits none of the addresses and
+//! keeps the restrictions keeps the claims as it keeps those ([`runs_keep_same`]).
 //!
 //! The crate knows no image, no report and no pass.
 #![tactic(auto)]

@@ -7,7 +7,7 @@ ghost use Rattle.high_pass.specs.Listing.{listing_of, loop_entry};
 ghost use Rattle.compile_claims.specs.Named.{AreHanded, by_entries, nevers_at, renamed};
 
 use super::nevers::nevers_of;
-use code_flow_system::{Claims, LoopClaim};
+use code_flow_system::{Claims, FactClaim, LoopClaim};
 use high_ir::{Copies, LoopCopies};
 use high_pass::origin::{Origin, origins_of};
 use std::alloc::Global;
@@ -59,29 +59,30 @@ fn loops_named(
     Ok(named)
 }
 
-/// The claims as they are handed on: each loop by that of the source of which it is a copy, and each address of a never mark;
-/// `copies` lists the copies of each loop and the never marks, `loops` is how many loops there are, `places` has the addresses
-/// of each mark.
+/// The claims as they are handed on: each loop by that of the source of which it is a copy, each address of a never mark, and
+/// these restrictions; `copies` lists the copies of each loop and the never marks, `loops` is how many loops there are, `places`
+/// has the addresses of each mark.
 pub fn by_source(
     alloc: Global,
     claims: &Claims,
     copies: &Copies,
     loops: u32,
     places: &[Items<u32>],
+    facts: Vec<FactClaim>,
 ) -> Result<Claims, Memory>
     requires there { All (λ c. c.source < loops) claims.now.loops }
     requires listed { All (λ e. All (λ l. l.id < loops) e.new) (listing_of copies.now).loops }
     requires small { All (λ e. e.old < 4294967295) copies.now.loops.items }
     requires nevers { All (λ v. v.old < 4294967295) copies.now.nevers.items }
-    requires few { claim_count claims.now + length (flat_map (nevers_at places.now) copies.now.nevers.items) < 2 ^ 32 }
+    requires few { claim_count claims.now + length (flat_map (nevers_at places.now) copies.now.nevers.items) + length facts.items < 2 ^ 32 }
     requires plain { claims.now.nevers ≡ [] }
-    requires facts { claims.now.facts ≡ [] }
-    ensures { IfOk result (AreHanded (listing_of copies.now) places.now claims.now) }
+    requires none { claims.now.facts ≡ [] }
+    ensures handed { IfOk result (AreHanded (listing_of copies.now) places.now claims.now) }
+    ensures facts { IfOk result (λ made. made.facts ≡ facts.items) }
 {
     let named = loops_named(alloc, claims.loops(), &copies.loops, loops)?;
     let nevers = nevers_of(alloc, places, &copies.nevers)?;
     let exits = Vec::from_slice(alloc, claims.exits())?;
     let regions = Vec::from_slice(alloc, claims.regions())?;
-    let facts = Vec::new(alloc);
     Ok(Claims::new(exits, nevers, regions, named, facts))
 }

@@ -1,12 +1,12 @@
 -- Where the marks of what is made stand, and that the claims on never marks are sound.
-use Rattle.std.proofs.Common.{◌≡◌, ⊎_elim, ℕ, ◌+◌, ◌%◌, ◌<◌, ◌≤◌, Bool, true, false, List, [], ◌∷◌, ◌++◌, length, map, Option, Some, None, refl, sym, ap, ◌∙◌, subst, All, arith}
-use Rattle.std.specs.Prelude.{◌&&◌, get_or, not, slice_index_or, IsPermutation}
-use Rattle.std.specs.List.{flat_map, range_with_len}
+use Rattle.std.proofs.Common.{◌≡◌, ⊎_elim, ℕ, ◌+◌, ◌%◌, ◌<◌, ◌≤◌, Bool, true, false, List, [], ◌∷◌, ◌++◌, map, Option, Some, None, refl, sym, ap, ◌∙◌, subst, All, arith}
+use Rattle.std.specs.Prelude.{◌&&◌, get_or, not, IsPermutation}
+use Rattle.std.specs.List.{flat_map}
 use Rattle.std.specs.List.Sorted.{IsNonDecreasing, IsNonDecreasingBy}
 use Rattle.std.proofs.lemmas.Bool.{cases_lt, eq-eqb, lt-ltb}
 use Rattle.std.proofs.lemmas.List.{get_or-map, get_or_past, length-map, map-append}
 use Rattle.std.proofs.lemmas.List.Concat.{flat_map-cons}
-use Rattle.std.proofs.lemmas.List.Elements.{All-append, All-cons, All-head, All-map, All-nil, All-tail}
+use Rattle.std.proofs.lemmas.List.Elements.{All-append, All-cons, All-head, All-nil, All-tail}
 use Rattle.std.proofs.lemmas.List.FromFn.{get_or-map-range_with_len, length-map-range_with_len}
 use Rattle.std.proofs.lemmas.List.Sorted.{All-permutation, IsPermutation-map}
 use Rattle.code_flow_system.specs.Claims.{Claims, is_above, is_aligned, never_flaws}
@@ -14,8 +14,7 @@ use Rattle.code_flow_system.specs.declared.claims.Never.{Never}
 use Rattle.facts_definitions.specs.declared.facts.Facts.{Facts}
 use Rattle.types_tree.specs.Tree.{Program}
 use Rattle.high_ir.specs.declared.copies.NeverMark.{NeverMark}
-use Rattle.high_pass.specs.Listing.{Listing}
-use Rattle.high_pass.proofs.Elements.{at_or}
+use Rattle.high_pass.specs.Listing.{Listing, MarkEntry}
 use Rattle.claims_definition.specs.Laws.{IsPlaceOf}
 use Rattle.claims_definition.specs.Listed.{Laid, places_of}
 use Rattle.claims_image.specs.Images.{laid_of}
@@ -28,7 +27,7 @@ use Rattle.compile_kept.specs.Limits.{nothing}
 use Rattle.compile_made.specs.Made.{IsMade, copies_of, high_of}
 use Rattle.compile_made.specs.declared.made.Made.{Made}
 use Rattle.compile_handed.specs.Handed.{AreHandedOn}
-use Rattle.compile_handed.proofs.Places.{nevers_once, rise_aligned, rise_ascends, strictly, times, times-permuted, together_once}
+use Rattle.compile_handed.proofs.Places.{copies_once, nevers_once, rise_aligned, rise_ascends, strictly, times, times-permuted, together_once}
 
 abbrev mark_of : NeverMark → ℕ
 mark_of v = v.mark
@@ -51,7 +50,7 @@ all_addresses places (v ∷ vs) =
     ∙ ap (λ l. places_at places v.mark ++ l) (all_addresses places vs)
     ∙ sym (flat_map-cons (places_at places) v.mark (map mark_of vs))
 
-each_of : (P : ℕ → Type 0) (places : List (List ℕ)) → ((mark : ℕ) → All P (places_at places mark)) → (marks : List ℕ) → All P (flat_map (places_at places) marks)
+pub each_of : (P : ℕ → Type 0) (places : List (List ℕ)) → ((mark : ℕ) → All P (places_at places mark)) → (marks : List ℕ) → All P (flat_map (places_at places) marks)
 each_of P places each [] = All-nil P
 each_of P places each (m ∷ ms) = subst (All P) (sym (flat_map-cons (places_at places) m ms)) (All-append P (places_at places m) (flat_map (places_at places) ms) (each m) (each_of P places each ms))
 
@@ -98,34 +97,39 @@ module _ (names : List (List ℕ)) (program : Program) (facts : Facts) (m : Made
   abbrev n : ℕ
   n = m.code.low.marks
 
-  -- what holds of the addresses of each mark of the program, and of none, holds of those that are listed
-  each_list : (P : List ℕ → Type 0) → ((mark : ℕ) → P (places_of l mark)) → P [] → (mark : ℕ) → P (places_at places mark)
-  each_list P some none mark = subst (λ lists. P (places_at lists mark)) (sym made.in_memory.laid.lists.places)
-      (at_or P (places_below l n) mark [] (All-map P (places_of l) (range_with_len 0 n) (λ k d lt. some (slice_index_or (range_with_len 0 n) k d))) none)
-
-  -- the addresses of each mark ascend
-  pub rising : (mark : ℕ) → Ascend (places_at places mark)
-  rising = each_list Ascend (λ mark. rise_ascends 0 (places_of l mark) (made.in_memory.keeps_low.marks mark).rise) tt
-
-  -- and are those of instructions
-  aligned : (mark : ℕ) → All (λ a. a % 4 ≡ 0) (places_at places mark)
-  aligned = each_list (All (λ a. a % 4 ≡ 0)) (λ mark. rise_aligned 0 (places_of l mark) (made.in_memory.keeps_low.marks mark).rise) (All-nil (λ a. a % 4 ≡ 0))
-
-  -- and are places of it
-  pub own_places : (mark : ℕ) → All (IsPlaceOf l mark) (places_at places mark)
-  own_places mark =
-      subst (λ lists. All (IsPlaceOf l mark) (places_at lists mark)) (sym made.in_memory.laid.lists.places)
+  -- what holds of the addresses of a mark in the image, and of none, holds of those that are listed
+  pub each_list : (P : ℕ → List ℕ → Type 0) → ((mark : ℕ) → P mark (places_of l mark)) → ((mark : ℕ) → P mark []) → (mark : ℕ) → P mark (places_at places mark)
+  each_list P some none mark =
+      subst (λ lists. P mark (places_at lists mark)) (sym made.in_memory.laid.lists.places)
       (⊎_elim
-      (λ (low : mark < n). subst (All (IsPlaceOf l mark)) (sym (get_or-map-range_with_len (places_of l) 0 n mark mark [] low (plain mark))) (made.in_memory.keeps_low.marks mark).each)
+      (λ (low : mark < n). subst (P mark) (sym (get_or-map-range_with_len (places_of l) 0 n mark mark [] low (plain mark))) (some mark))
       (λ (past : n ≤ mark).
-      subst (All (IsPlaceOf l mark)) (sym (get_or_past (places_below l n) mark [] (subst (λ k. k ≤ mark) (sym (length-map-range_with_len (places_of l) 0 n)) past))) (All-nil (IsPlaceOf l mark)))
+      subst (P mark) (sym (get_or_past (places_below l n) mark [] (subst (λ k. k ≤ mark) (sym (length-map-range_with_len (places_of l) 0 n)) past))) (none mark))
       (cases_lt mark n))
     where
       plain : (k : ℕ) → 0 + k ≡ k
       plain k = omega arith
 
+  -- the addresses of each mark ascend
+  pub rising : (mark : ℕ) → Ascend (places_at places mark)
+  rising = each_list (λ mark. Ascend) (λ mark. rise_ascends 0 (places_of l mark) (made.in_memory.keeps_low.marks mark).rise) (λ mark. tt)
+
+  -- and are those of instructions
+  pub aligned : (mark : ℕ) → All (λ a. a % 4 ≡ 0) (places_at places mark)
+  aligned = each_list (λ mark. All (λ a. a % 4 ≡ 0)) (λ mark. rise_aligned 0 (places_of l mark) (made.in_memory.keeps_low.marks mark).rise) (λ mark. All-nil (λ a. a % 4 ≡ 0))
+
+  -- and are places of it
+  pub own_places : (mark : ℕ) → All (IsPlaceOf l mark) (places_at places mark)
+  own_places = each_list (λ mark. All (IsPlaceOf l mark)) (λ mark. (made.in_memory.keeps_low.marks mark).each) (λ mark. All-nil (IsPlaceOf l mark))
+
   abbrev listing : Listing
   listing = copies_of m
+
+  -- no address belongs to two copies of a mark
+  pub copies_apart : All (λ (e : MarkEntry). (a : ℕ) → times a (flat_map (places_at places) e.new) ≤ 1) listing.marks
+  copies_apart i d lt a =
+      let e = get_or listing.marks i d in
+      together_once (IsPlaceOf l) made.in_memory.keeps_low.apart (places_at places) own_places rising a e.new (copies_once listing (high_of m).marks made.carried.carries.lists.marks i d lt)
 
   abbrev marks : List ℕ
   marks = map mark_of listing.nevers

@@ -1,6 +1,6 @@
 //! From the bytes of a source to its image in memory, a call for each stage.
 //!
-//! [`read`] gives the typed program of a source without restrictions, with its facts; [`planned`] its plan, a program in the
+//! [`read`] gives the typed program of a source, with its facts; [`planned`] its plan, a program in the
 //! high form; [`lowered`] the last program in the low form, with a place for each register; [`laid`] the image. Each stage hands
 //! on what it was made of, and keeps a record of `compile_kept` or `compile_made`.
 //!

@@ -26,7 +26,7 @@ use Rattle.image_definition.specs.Images.{image_in}
 use Rattle.lower_program.specs.Kept.{IsKept, Keeps}
 use Rattle.simulation_kept.specs.Laws.{run_of}
 use Rattle.layout_kept.specs.Kept.{KeepsRun}
-use Rattle.compile_image_law.specs.Laws.{EndsWithin, IsCompiled, passed}
+use Rattle.compile_image_law.specs.Laws.{EndsWithin, IsCompiled, ShowsIt, passed}
 
 -- sums of counts
 sum_counted : (f : ℕ → ℤ) (g : ℕ → ℕ) → ((k : ℕ) → f k ≡ pos (g k)) → (ks : List ℕ) → int_sum_by f ks ≡ pos (sum_by g ks)
@@ -37,7 +37,7 @@ sum_counted f g same (k ∷ ks) =
     ∙ pos-+ℤ-pos (g k) (sum_by g ks)
     ∙ ap pos (sym (sum_by-cons g k ks))
 
-module _ (made : Listing) (shown : Shown) (p : Program) (q : Low) (pl : Placement) (ps : List Placing) (s : System) (t : Table) (c : Cert) (compiled : IsCompiled p made q pl ps s t c) (input : List ℕ) (bytes : All (λ b. b < 256) input) where
+module _ (old : Behaviour) (made : Listing) (shown : Shown) (p : Program) (q : Low) (pl : Placement) (ps : List Placing) (s : System) (t : Table) (c : Cert) (compiled : IsCompiled old p made q pl ps s t c) (input : List ℕ) (bytes : All (λ b. b < 256) input) (is : old.runs input ≡ Some shown) where
   abbrev a : Assignment
   a = assignment ps
 
@@ -59,18 +59,14 @@ module _ (made : Listing) (shown : Shown) (p : Program) (q : Low) (pl : Placemen
       let ends = ran.ends in
       let mark : (k : ℕ) → passed pl over (run_of pl over t input n) k ≡ pos (count_of k r.trace) = λ k.
       ran.passes k ∙ ap pos (ap (count_by (λ x. x == k)) kept.marks) in
-      let nevers : All (λ v. passed pl over (run_of pl over t input n) v.mark ≡ pos 0) made.nevers = λ k d lt. mark _ ∙ ap pos (alike.nevers k d lt) in
-      let keeps = compiled.kept (run_of pl over t input n) nevers (ran.claims compiled.own compiled.has_own) in
-      record {
-        shows = record {
-          ending = ends.ending ∙ ap (λ v. Exited (signed v)) alike.value;
-          output = ends.output ∙ kept.output ∙ alike.output;
-          counts = λ k d lt. sum_counted (passed pl over (run_of pl over t input n)) (λ m. count_of m r.trace) mark _ ∙ ap pos (sym (alike.counts k d lt));
-          nevers = nevers;
-        };
-        keeps = keeps;
-        within = in_time n keeps;
-      }
+      let shows : ShowsIt made shown pl over (run_of pl over t input n) = record {
+        ending = ends.ending ∙ ap (λ v. Exited (signed v)) alike.value;
+        output = ends.output ∙ kept.output ∙ alike.output;
+        counts = λ k d lt. sum_counted (passed pl over (run_of pl over t input n)) (λ m. count_of m r.trace) mark _ ∙ ap pos (sym (alike.counts k d lt));
+        nevers = λ k d lt. mark _ ∙ ap pos (alike.nevers k d lt);
+      } in
+      let keeps = compiled.kept input shown (run_of pl over t input n) is shows (ran.claims compiled.own compiled.has_own) in
+      record { shows = shows; keeps = keeps; within = in_time n keeps }
 
   by_run : (o : Option Run) → RunsAlike made (Some shown) o → IsKept q input o → (n : ℕ) × EndsWithin made shown pl over s.claims t input c.cycles n
   by_run None alike kept = absurd alike
@@ -78,5 +74,5 @@ module _ (made : Listing) (shown : Shown) (p : Program) (q : Low) (pl : Placemen
       let ran = compiled.keeps_low.runs t input bytes kept.steps r.value kept.world kept.good in
       (ran.0, of_run r alike kept ran.0 ran.1)
 
-  pub image_shows : (old : Behaviour) → Carries old p made → old.runs input ≡ Some shown → (n : ℕ) × EndsWithin made shown pl over s.claims t input c.cycles n
-  image_shows old carries is = by_run (hrun p input) (subst (λ o. RunsAlike made o (hrun p input)) is (carries.runs input)) (compiled.keeps_program.runs compiled.whole input bytes)
+  pub image_shows : Carries old p made → (n : ℕ) × EndsWithin made shown pl over s.claims t input c.cycles n
+  image_shows carries = by_run (hrun p input) (subst (λ o. RunsAlike made o (hrun p input)) is (carries.runs input)) (compiled.keeps_program.runs compiled.whole input bytes)

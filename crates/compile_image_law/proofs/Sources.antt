@@ -19,7 +19,7 @@ use Rattle.image_frames.specs.Memories.{Placement}
 use Rattle.compile_image_law.specs.Laws.{EndsAsMain, EndsWithin, IsCompiled}
 use Rattle.compile_image_law.proofs.Shown.{image_shows}
 
-module _ (source : typed.Program) (names : List (List ℕ)) (facts : Facts) (p : Program) (made : Listing) (q : Low) (pl : Placement) (ps : List Placing) (s : System) (t : Table) (cert : Cert) (carries : Carries (source_behaviour source names facts) p made) (compiled : IsCompiled p made q pl ps s t cert)
+module _ (source : typed.Program) (names : List (List ℕ)) (facts : Facts) (p : Program) (made : Listing) (q : Low) (pl : Placement) (ps : List Placing) (s : System) (t : Table) (cert : Cert) (carries : Carries (source_behaviour source names facts) p made) (compiled : IsCompiled (source_behaviour source names facts) p made q pl ps s t cert)
     (input : List ℕ) (bytes : All (λ b. b < 256) input) (output : List ℕ) (value : ℤ) (counts : List ℕ) where
   as_main : (shown : Shown) → MeansAlike (Done output value counts) (Some shown) → (n : ℕ) → EndsWithin made shown pl (placed (assignment ps) q) s.claims t input cert.cycles n → EndsAsMain made output value counts pl (placed (assignment ps) q) s.claims t input cert.cycles n
   as_main shown alike n h = record {
@@ -33,7 +33,7 @@ module _ (source : typed.Program) (names : List (List ℕ)) (facts : Facts) (p :
   by_shown : (o : Option Shown) → source_shown source names facts input ≡ o → MeansAlike (Done output value counts) o → (n : ℕ) × EndsAsMain made output value counts pl (placed (assignment ps) q) s.claims t input cert.cycles n
   by_shown None is alike = absurd alike
   by_shown (Some shown) is alike =
-      let h = image_shows made shown p q pl ps s t cert compiled input bytes (source_behaviour source names facts) carries is in
+      let h = image_shows (source_behaviour source names facts) made shown p q pl ps s t cert compiled input bytes is carries in
       (h.0, as_main shown alike h.0 h.1)
 
   pub source_shows : meaning source names facts input ≡ Done output value counts → (n : ℕ) × EndsAsMain made output value counts pl (placed (assignment ps) q) s.claims t input cert.cycles n

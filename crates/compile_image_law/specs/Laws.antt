@@ -47,12 +47,12 @@ pub record EndsWithin (c : Listing) (shown : Shown) (pl : Placement) (p : Placed
   pub keeps : KeepsClaims claims (run_of pl p t input n)
   pub within : (run_of pl p t input n).state.cycles ≤ cycles
 
--- a run that keeps the claims on the image, and passes no never mark, keeps these claims as well
-abbrev pub AreKept : Listing → Placement → Placed → Claims → Type 0
-AreKept made pl p claims = (r : Run) → All (λ v. passed pl p r v.mark ≡ pos 0) made.nevers → KeepsClaims (claims_on pl p) r → KeepsClaims claims r
+-- a run that keeps the claims on the image, and shows what was shown on an input, keeps these claims as well
+abbrev pub AreKept : Behaviour → Listing → Placement → Placed → Claims → Type 0
+AreKept old made pl p claims = (input : List ℕ) (shown : Shown) (r : Run) → old.runs input ≡ Some shown → ShowsIt made shown pl p r → KeepsClaims (claims_on pl p) r → KeepsClaims claims r
 
 -- a program in the high form and its low program, whose image keeps it, and the flow system of that under other claims, with an accepted certificate
-pub record IsCompiled (p : Program) (made : Listing) (q : Low) (pl : Placement) (ps : List Placing) (s : System) (t : Table) (c : Cert) : Type 0 where
+pub record IsCompiled (old : Behaviour) (p : Program) (made : Listing) (q : Low) (pl : Placement) (ps : List Placing) (s : System) (t : Table) (c : Cert) : Type 0 where
   pub whole : IsWhole p
   pub keeps_program : KeepsProgram p q
   pub keeps_low : KeepsLow pl ps q
@@ -61,14 +61,14 @@ pub record IsCompiled (p : Program) (made : Listing) (q : Low) (pl : Placement) 
   pub has_own : HasSystem pl (placed (assignment ps) q) own
   -- and one under those
   pub system : IsSystemOf (image_in pl (placed (assignment ps) q)) s.claims s
-  pub kept : AreKept made pl (placed (assignment ps) q) s.claims
+  pub kept : AreKept old made pl (placed (assignment ps) q) s.claims
   pub scale : 0 < c.scale
   pub accepted : Accepts t s c
 
 -- whatever is shown on an input of bytes
 abbrev pub ImagesShow : Type 0
 ImagesShow =
-    (old : Behaviour) (p : Program) (made : Listing) (q : Low) (pl : Placement) (ps : List Placing) (s : System) (t : Table) (c : Cert) → Carries old p made → IsCompiled p made q pl ps s t c
+    (old : Behaviour) (p : Program) (made : Listing) (q : Low) (pl : Placement) (ps : List Placing) (s : System) (t : Table) (c : Cert) → Carries old p made → IsCompiled old p made q pl ps s t c
     → (input : List ℕ) → All (λ b. b < 256) input → (shown : Shown) → old.runs input ≡ Some shown → (n : ℕ) × EndsWithin made shown pl (placed (assignment ps) q) s.claims t input c.cycles n
 
 -- a run of the machine ends as main does, with its value and its output, passed the copies of each function and marker together as
@@ -83,5 +83,5 @@ pub record EndsAsMain (made : Listing) (output : List ℕ) (value : ℤ) (counts
 -- whatever a source means on an input of bytes
 abbrev pub SourcesShow : Type 0
 SourcesShow =
-    (source : typed.Program) (names : List (List ℕ)) (facts : Facts) (p : Program) (made : Listing) (q : Low) (pl : Placement) (ps : List Placing) (s : System) (t : Table) (cert : Cert) → Carries (source_behaviour source names facts) p made → IsCompiled p made q pl ps s t cert
+    (source : typed.Program) (names : List (List ℕ)) (facts : Facts) (p : Program) (made : Listing) (q : Low) (pl : Placement) (ps : List Placing) (s : System) (t : Table) (cert : Cert) → Carries (source_behaviour source names facts) p made → IsCompiled (source_behaviour source names facts) p made q pl ps s t cert
     → (input : List ℕ) → All (λ b. b < 256) input → (output : List ℕ) (value : ℤ) (counts : List ℕ) → meaning source names facts input ≡ Done output value counts → (n : ℕ) × EndsAsMain made output value counts pl (placed (assignment ps) q) s.claims t input cert.cycles n

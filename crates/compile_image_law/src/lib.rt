@@ -4,7 +4,7 @@
 //! image keeps its low program, each run that is kept of what it carries on is one of the machine on the same input of bytes: it exits
 //! with the same value and output, passes the copies of each mark together as often as was counted and no never mark, keeps the claims
 //! of the certificate's flow system, and takes no more cycles than the accepted certificate says. These claims are any that a run
-//! keeps which keeps those on the image and passes no never mark. So the forward simulations from the source to the machine are one:
+//! keeps which keeps those on the image and shows what was shown. So the forward simulations from the source to the machine are one:
 //! where main ends, the machine ends as it does.
 //!
 //! The crate knows not how any of them is proved.

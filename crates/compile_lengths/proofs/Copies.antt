@@ -14,6 +14,7 @@ use Rattle.high_pass.specs.Listing.{HasEachBelow, Listing, MarkEntry, listed_mar
 use Rattle.high_pass.proofs.Counting.{sum_by-HasEachBelow, sum_by-flat_map}
 use Rattle.compile_claims.specs.Named.{never_at, nevers_at}
 use Rattle.compile_claims.specs.Places.{places_at}
+use Rattle.compile_facts.specs.Told.{places_many}
 use Rattle.compile_lines.specs.CopyLines.{AreLinesOf}
 use Rattle.compile_names.specs.Laws.{IsNamed}
 use Rattle.report_sizes.specs.Room.{copies_room}
@@ -22,19 +23,15 @@ use Rattle.simulation_marks.proofs.Sums.{summed, upto}
 use Rattle.compile_lengths.proofs.Names.{ids_length}
 use Rattle.compile_lengths.proofs.Sums.{first_numbers}
 
--- their names, and their addresses
+-- their names
 
 abbrev names_in : List CopyLine → ℕ
 names_in [] = 0
 names_in (c ∷ cs) = length c.name + names_in cs
 
-abbrev pub places_in : List CopyLine → ℕ
-places_in [] = 0
-places_in (c ∷ cs) = length c.places + places_in cs
-
-room_split : (cs : List CopyLine) → copies_room cs ≡ 6 * length cs + (names_in cs + 9 * places_in cs)
+room_split : (cs : List CopyLine) → copies_room cs ≡ 6 * length cs + (names_in cs + 9 * places_many cs)
 room_split [] = omega arith
-room_split (c ∷ cs) = let rest = room_split cs in omega (arith, rest)
+room_split (c ∷ cs) = let rest = room_split cs in let all = sum_by-cons (λ (x : CopyLine). length x.places) c cs in omega (arith, rest, all)
 
 -- a row of numbers, by two names
 ranged : (g : ℕ → ℕ) (a n : ℕ) → sum_by g (range_with_len a n) ≡ summed g (upto a n)
@@ -83,7 +80,7 @@ module _ (names : List (List ℕ)) (places : List (List ℕ)) where
   abbrev entry_places : MarkEntry → ℕ
   entry_places e = sum_by places_of e.new
 
-  places_few : (ids : List NameId) (es : List MarkEntry) (cs : List CopyLine) → AreLinesOf names places ids es cs → places_in cs ≤ sum_by entry_places es
+  places_few : (ids : List NameId) (es : List MarkEntry) (cs : List CopyLine) → AreLinesOf names places ids es cs → places_many cs ≤ sum_by entry_places es
   places_few [] es [] h = omega arith
   places_few [] es (c ∷ cs) h = absurd h
   places_few (id ∷ ids) [] cs h = absurd h
@@ -92,30 +89,9 @@ module _ (names : List (List ℕ)) (places : List (List ℕ)) where
       let one = length_permutation (flat_map (places_at places) e.new) c.places h.0.places_are in
       let own = marks_places e.new in
       let rest = places_few ids es cs h.1 in
+      let line = sum_by-cons (λ (x : CopyLine). length x.places) c cs in
       let all = sum_by-cons entry_places e es in
-      omega (arith, one, own, rest, all)
-
-  -- no mark is listed twice
-  marks_few : (c : Listing) (n : ℕ) → HasEachBelow n (listed_marks c) → sum_by entry_places c.marks ≤ sum_by (λ (l : List ℕ). length l) places
-  marks_few c n each =
-      let copies = flat_map (λ (e : MarkEntry). e.new) c.marks in
-      let nevers = map (λ v. v.mark) c.nevers in
-      let flat = sum_by-flat_map places_of (λ (e : MarkEntry). e.new) c.marks in
-      let both = sum_by-append places_of copies nevers in
-      let once = sum_by-HasEachBelow places_of n (listed_marks c) each in
-      let row = ranged places_of 0 n in
-      let all : summed places_of (upto 0 n) ≤ sum_by (λ (l : List ℕ). length l) places = first_numbers (λ (l : List ℕ). length l) [] refl n places in
-      omega (arith, flat, both, once, row, all)
-
-  pub copies_few : (c : Listing) (n : ℕ) → HasEachBelow n (listed_marks c) → (ids : List NameId) (cs : List CopyLine) → AreLinesOf names places ids c.marks cs → All (IsNamed names) ids
-      → copies_room cs ≤ 7 * ids_length names ids + 9 * sum_by (λ (l : List ℕ). length l) places
-  copies_few c n each ids cs h named =
-      let split = room_split cs in
-      let own = names_same ids c.marks cs h in
-      let many = lines_few ids c.marks cs h named in
-      let few = places_few ids c.marks cs h in
-      let all = marks_few c n each in
-      omega (arith, split, own, many, few, all)
+      omega (arith, one, own, rest, line, all)
 
   -- one for each address of a never mark
   all_nevers : (vs : List NeverMark) → length (flat_map (nevers_at places) vs) ≡ sum_by places_of (map (λ (v : NeverMark). v.mark) vs)
@@ -128,13 +104,33 @@ module _ (names : List (List ℕ)) (places : List (List ℕ)) where
       let all = sum_by-cons places_of v.mark (map (λ (x : NeverMark). x.mark) vs) in
       omega (arith, parts, both, own, rest, all)
 
-  pub nevers_few : (c : Listing) (n : ℕ) → HasEachBelow n (listed_marks c) → length (flat_map (nevers_at places) c.nevers) ≤ sum_by (λ (l : List ℕ). length l) places
-  nevers_few c n each =
+  -- no mark is listed twice
+  marks_few : (c : Listing) (n : ℕ) → HasEachBelow n (listed_marks c) → sum_by entry_places c.marks + length (flat_map (nevers_at places) c.nevers) ≤ sum_by (λ (l : List ℕ). length l) places
+  marks_few c n each =
       let copies = flat_map (λ (e : MarkEntry). e.new) c.marks in
       let nevers = map (λ (v : NeverMark). v.mark) c.nevers in
+      let flat = sum_by-flat_map places_of (λ (e : MarkEntry). e.new) c.marks in
       let same = all_nevers c.nevers in
       let both = sum_by-append places_of copies nevers in
       let once = sum_by-HasEachBelow places_of n (listed_marks c) each in
       let row = ranged places_of 0 n in
       let all : summed places_of (upto 0 n) ≤ sum_by (λ (l : List ℕ). length l) places = first_numbers (λ (l : List ℕ). length l) [] refl n places in
-      omega (arith, same, both, once, row, all)
+      omega (arith, flat, same, both, once, row, all)
+
+  pub nevers_few : (c : Listing) (n : ℕ) → HasEachBelow n (listed_marks c) → length (flat_map (nevers_at places) c.nevers) ≤ sum_by (λ (l : List ℕ). length l) places
+  nevers_few c n each = let few = marks_few c n each in omega (arith, few)
+
+  -- the addresses of copies and of never marks, together
+  pub addresses_few : (c : Listing) (n : ℕ) → HasEachBelow n (listed_marks c) → (ids : List NameId) (cs : List CopyLine) → AreLinesOf names places ids c.marks cs
+      → places_many cs + length (flat_map (nevers_at places) c.nevers) ≤ sum_by (λ (l : List ℕ). length l) places
+  addresses_few c n each ids cs h =
+      let few = places_few ids c.marks cs h in
+      let all = marks_few c n each in
+      omega (arith, few, all)
+
+  pub copies_few : (ids : List NameId) (es : List MarkEntry) (cs : List CopyLine) → AreLinesOf names places ids es cs → All (IsNamed names) ids → copies_room cs ≤ 7 * ids_length names ids + 9 * places_many cs
+  copies_few ids es cs h named =
+      let split = room_split cs in
+      let own = names_same ids es cs h in
+      let many = lines_few ids es cs h named in
+      omega (arith, split, own, many)

@@ -1,5 +1,5 @@
 -- How much a program in memory has of what is reported.
-use Rattle.std.proofs.Common.{◌≡◌, ℕ, ◌+◌, ◌≤◌, List, [], ◌∷◌, ◌++◌, length, map, length-append, Option, Some, None, refl, sym, ap, subst, arith}
+use Rattle.std.proofs.Common.{◌≡◌, ℕ, ◌+◌, ◌≤◌, List, [], ◌∷◌, ◌++◌, length, map, length-append, Option, Some, None, refl, sym, ap, subst, arith, All}
 use Rattle.std.specs.Prelude.{sum_by}
 use Rattle.std.proofs.lemmas.List.{length-map}
 use Rattle.std.proofs.lemmas.List.Concat.{flat_map-cons}
@@ -17,6 +17,7 @@ use Rattle.low_ir.specs.Programs.{low_of}
 use Rattle.low_ir.specs.declared.places.LowReg.{LowReg}
 use Rattle.lower_budget.specs.Costs.{marks_at, marks_in}
 use Rattle.elf_image.specs.Text.{text_of}
+use Rattle.code_flow_sizes.specs.Laws.{EndsWithin}
 use Rattle.claims_definition.specs.Listed.{Laid, claims_of}
 use Rattle.claims_image.specs.Images.{laid_of}
 use Rattle.claims_places.specs.Places.{places_below}
@@ -32,6 +33,7 @@ use Rattle.compile_kept.specs.Limits.{IsLimited, nothing}
 use Rattle.compile_sizes.proofs.Functions.{functions_few}
 use Rattle.compile_sizes.proofs.Sizes.{slotted_fit}
 use Rattle.compile_told.proofs.Unplaced.{moves_none}
+use Rattle.compile_lengths.proofs.Ends.{code_ends}
 use Rattle.compile_lengths.proofs.Images.{globals_few, text_length}
 
 -- each loop is an operation
@@ -119,6 +121,10 @@ module _ (p : Program) (is_high : IsHigh p) (limited : IsLimited p) (code : LowR
       let less = (h.keeps_low.small (moves_none over)).instructions in
       let most = sizes.room.code in
       omega (arith, less, most)
+
+  -- code ends behind so many words
+  pub ends : All (EndsWithin 1589248) (image_in nothing over).segments
+  ends = code_ends 1589248 over instructions
 
   pub low_functions : length q.functions ≤ 256
   low_functions =

@@ -4,5 +4,7 @@ pub mod Names
 pub mod Copies
 pub mod Shares
 pub mod Images
+pub mod Ends
+pub mod Facts
 pub mod Counts
 pub mod Texts

@@ -1,5 +1,5 @@
 -- The texts of what a source becomes are short.
-use Rattle.std.proofs.Common.{◌≡◌, ℕ, ◌+◌, ◌^◌, ◌<◌, ◌≤◌, List, ◌++◌, length, sym, ap, ◌∙◌, subst, arith}
+use Rattle.std.proofs.Common.{◌≡◌, ℕ, ◌+◌, ◌*◌, ◌^◌, ◌<◌, ◌≤◌, List, ◌++◌, length, sym, ap, ◌∙◌, subst, arith, All}
 use Rattle.std.specs.Prelude.{sum_by}
 use Rattle.std.specs.List.{flat_map}
 use Rattle.std.proofs.lemmas.List.{length-map}
@@ -8,10 +8,11 @@ use Rattle.rv_core.specs.Images.{AreLoadable, Image}
 use Rattle.rv_core.specs.Table.{Table}
 use Rattle.elf_image.specs.Text.{text_of}
 use Rattle.code_flow_system.specs.Claims.{Claims, claim_count}
-use Rattle.code_flow_sizes.specs.Laws.{HasFew}
+use Rattle.code_flow_sizes.specs.Laws.{EndsWithin, HasFew}
 use Rattle.code_flow_sizes.proofs.Few.{has_few}
 use Rattle.facts_definitions.specs.declared.facts.Facts.{Facts}
 use Rattle.facts_front.specs.Fronts.{IsSource}
+use Rattle.facts_restrictions.proofs.Limited.{are_limited}
 use Rattle.types_tree.specs.Tree.{Program}
 use Rattle.high_pass.specs.Listing.{LoopEntry}
 use Rattle.low_ir.specs.Placings.{assignment_of, placed_of}
@@ -26,15 +27,18 @@ use Rattle.report_text.specs.Lines.{report_text}
 use Rattle.report_text.specs.Reports.{Report}
 use Rattle.promise_compiler.specs.Lengths.{AreShort}
 use Rattle.compile_claims.specs.Named.{by_entries, named, nevers_at}
+use Rattle.compile_facts.specs.Laws.{AreFactClaims}
+use Rattle.compile_facts.specs.Told.{places_many}
 use Rattle.compile_made.specs.declared.made.Made.{Made}
 use Rattle.compile_made.specs.Made.{IsMade, copies_of, high_of}
 use Rattle.compile_names.proofs.Counted.{counted_named}
 use Rattle.compile_reports.specs.Reported.{IsReported}
 use Rattle.compile_reports.proofs.Openings.{functions_counted}
-use Rattle.compile_reports.proofs.Reports.{is_report}
+use Rattle.compile_reports.proofs.Reports.{is_report, restricted}
 use Rattle.compile_kept.specs.Limits.{IsLimited, nothing}
-use Rattle.compile_lengths.proofs.Copies.{copies_few, nevers_few}
-use Rattle.compile_lengths.proofs.Counts.{claims_loops, exits_few, image_short, low_functions, places_few, regions_few}
+use Rattle.compile_lengths.proofs.Copies.{addresses_few, copies_few, nevers_few}
+use Rattle.compile_lengths.proofs.Counts.{claims_loops, ends, exits_few, image_short, low_functions, places_few, regions_few}
+use Rattle.compile_lengths.proofs.Facts.{columns_few, facts_few}
 use Rattle.compile_lengths.proofs.Names.{functions_short, ids_append, ids_length, markers_short}
 use Rattle.compile_lengths.proofs.Shares.{shares_few}
 
@@ -50,13 +54,13 @@ module _ (names : List (List ℕ)) (program : Program) (facts : Facts) (m : Made
       let same : sum_by (λ (l : List ℕ). length l) places ≡ sum_by (λ (l : List ℕ). length l) (places_below (laid_of nothing (placed_of m.code)) m.code.low.marks) = ap (λ ls. sum_by (λ (l : List ℕ). length l) ls) made.in_memory.laid.lists.places in
       omega (arith, few, standing, same)
 
-  pub claims_counted : claim_count m.laid.claimed.claims + length (flat_map (nevers_at m.laid.lists.places.items) (copies_of m).nevers) < 2 ^ 32
+  pub claims_counted : claim_count m.laid.claimed.claims + length (flat_map (nevers_at m.laid.lists.places.items) (copies_of m).nevers) + 32 < 2 ^ 32
   claims_counted =
       let nevers = nevers_counted in
       let exits = exits_few (high_of m) made.carried.is_high made.carried.limited m.code made.lowered m.laid made.in_memory in
       let regions = regions_few (high_of m) made.carried.is_high made.carried.limited m.code made.lowered m.laid made.in_memory in
       let loops = claims_loops (high_of m) made.carried.is_high made.carried.limited m.code made.lowered m.laid made.in_memory in
-      subst (λ (c : Claims). claim_count c + length (flat_map (nevers_at m.laid.lists.places.items) (copies_of m).nevers) < 2 ^ 32) (sym made.in_memory.laid.claimed.claims) (omega (arith, nevers, exits, regions, loops))
+      subst (λ (c : Claims). claim_count c + length (flat_map (nevers_at m.laid.lists.places.items) (copies_of m).nevers) + 32 < 2 ^ 32) (sym made.in_memory.laid.claimed.claims) (omega (arith, nevers, exits, regions, loops))
 
 module _ (source : List ℕ) (names : List (List ℕ)) (program : Program) (facts : Facts) (m : Made) (t : Table) (r : Report) (small : length source ≤ 1048576) (is : IsSource source names program facts) (made : IsMade names program facts m) (reported : IsReported t names facts m r) (typed : IsTyped r) where
   abbrev own : Laid
@@ -68,15 +72,18 @@ module _ (source : List ℕ) (names : List (List ℕ)) (program : Program) (fact
   limited : IsLimited (high_of m)
   limited = made.carried.limited
 
-  claims_are : r.claims ≡ named es r.claims.nevers (claims_of own)
-  claims_are = reported.claims.claims ∙ ap (named es r.claims.nevers) made.in_memory.laid.claimed.claims
+  claims_are : r.claims ≡ named es r.claims.nevers r.claims.facts (claims_of own)
+  claims_are = reported.claims.claims ∙ ap (named es r.claims.nevers r.claims.facts) made.in_memory.laid.claimed.claims
 
-  nevers : length r.claims.nevers ≤ 98304
-  nevers =
+  -- the addresses of copies and those that are never visited
+  addresses : places_many r.names + length r.claims.nevers ≤ 98304
+  addresses =
       let places = m.laid.lists.places.items in
-      let few = nevers_counted names program facts m made in
-      let same = length_permutation (flat_map (nevers_at places) (copies_of m).nevers) r.claims.nevers reported.claims.nevers.all in
-      omega (arith, few, same)
+      let few = addresses_few names places (copies_of m) (high_of m).marks made.carried.carries.lists.marks (facts.functions ++ facts.markers) r.names reported.lines in
+      let standing = places_few (high_of m) made.carried.is_high limited m.code made.lowered m.laid made.in_memory m.code.low.marks in
+      let same : sum_by (λ (l : List ℕ). length l) places ≡ sum_by (λ (l : List ℕ). length l) (places_below own m.code.low.marks) = ap (λ ls. sum_by (λ (l : List ℕ). length l) ls) made.in_memory.laid.lists.places in
+      let nevers = length_permutation (flat_map (nevers_at places) (copies_of m).nevers) r.claims.nevers reported.claims.nevers.all in
+      omega (arith, few, standing, same, nevers)
 
   exits : length r.claims.exits ≤ 1589248
   exits = subst (λ (c : Claims). length c.exits ≤ 1589248) (sym claims_are) (exits_few (high_of m) made.carried.is_high limited m.code made.lowered m.laid made.in_memory)
@@ -98,13 +105,27 @@ module _ (source : List ℕ) (names : List (List ℕ)) (program : Program) (fact
       let markers = markers_short source names program facts is in
       omega (arith, both, functions, markers, small)
 
-  copies : copies_room r.names ≤ 15564800
+  copies : copies_room r.names ≤ 14680064 + 9 * places_many r.names
   copies =
-      let places = m.laid.lists.places.items in
-      let few = copies_few names places (copies_of m) (high_of m).marks made.carried.carries.lists.marks (facts.functions ++ facts.markers) r.names reported.lines (counted_named source names program facts is) in
-      let standing = places_few (high_of m) made.carried.is_high limited m.code made.lowered m.laid made.in_memory m.code.low.marks in
-      let same : sum_by (λ (l : List ℕ). length l) places ≡ sum_by (λ (l : List ℕ). length l) (places_below own m.code.low.marks) = ap (λ ls. sum_by (λ (l : List ℕ). length l) ls) made.in_memory.laid.lists.places in
-      omega (arith, few, standing, same, ids_few)
+      let few = copies_few names m.laid.lists.places.items (facts.functions ++ facts.markers) (copies_of m).marks r.names reported.lines (counted_named source names program facts is) in
+      omega (arith, few, ids_few)
+
+  -- restrictions over these addresses, and the columns of a search
+  restrictions_few : length facts.restrictions ≤ 32
+  restrictions_few = (are_limited source names program facts is).few
+
+  told : AreFactClaims facts r.names r.claims.facts
+  told = restricted source names program facts m t r is made reported
+
+  restrictions : facts_room r.claims.facts ≤ 1632 + 1280 * places_many r.names
+  restrictions = facts_few facts r.names r.claims.facts restrictions_few told
+
+  columns : columns_room r.columns ≤ 258800
+  columns =
+      let count = told.count in
+      let few = reported.columns.few in
+      let room = columns_few (length r.claims.facts) r.columns (omega (arith, restrictions_few, count)) (is_report source names program facts m t r is made reported).columns in
+      omega (arith, few, room)
 
   shares : shares_room r.shares ≤ 1065025
   shares =
@@ -114,22 +135,21 @@ module _ (source : List ℕ) (names : List (List ℕ)) (program : Program) (fact
       let called = functions_short source names program facts is in
       omega (arith, few, functions, called, small)
 
-  certificate : HasFew r.cert
+  certificate : HasFew 1589248 r.cert
   certificate =
       let loadable = subst (λ (i : Image). AreLoadable i.segments) (sym made.in_memory.laid.image) made.in_memory.keeps_low.loadable in
-      has_few m.laid.image r.claims t reported.system r.cert loadable reported.is_system reported.form reported.accepted
+      let end = subst (λ (i : Image). All (EndsWithin 1589248) i.segments) (sym made.in_memory.laid.image) (ends (high_of m) made.carried.is_high limited m.code made.lowered m.laid made.in_memory) in
+      has_few 1589248 m.laid.image r.claims t reported.system r.cert loadable end reported.is_system reported.form reported.accepted
 
   pub short : AreShort (text_of m.laid.image) (report_text r)
   short =
       let image = image_short (high_of m) made.carried.is_high limited m.code made.lowered m.laid made.in_memory in
       let same = ap (λ i. length (text_of i)) made.in_memory.laid.image in
       let report = is_report source names program facts m t r is made reported in
-      let facts_none = ap (λ (c : Claims). facts_room c.facts) claims_are in
-      let columns = ap columns_room reported.columns in
       let text = text_short r report typed in
       let potentials = certificate.potentials in
       let parts = certificate.parts in
       record {
         image = omega (arith, image, same);
-        report = omega (arith, text, copies, exits, nevers, regions, loops, facts_none, columns, potentials, parts, shares);
+        report = omega (arith, text, copies, exits, addresses, regions, loops, restrictions, columns, potentials, parts, shares);
       }

@@ -22,7 +22,7 @@ TextsAreShort =
     (source : List ℕ) (names : List (List ℕ)) (program : Program) (facts : Facts) (m : Made) (t : Table) (r : Report) → length source ≤ 1048576 → IsSource source names program facts → IsMade names program facts m → IsReported t names facts m r → IsTyped r
     → AreShort (text_of m.laid.image) (report_text r)
 
--- what is made has few claims, with those on never marks
+-- what is made has few claims, with those on never marks and 32 on restrictions
 abbrev pub ClaimsAreFew : Type 0
 ClaimsAreFew =
-    (names : List (List ℕ)) (program : Program) (facts : Facts) (m : Made) → IsMade names program facts m → claim_count m.laid.claimed.claims + length (flat_map (nevers_at m.laid.lists.places.items) (copies_of m).nevers) < 2 ^ 32
+    (names : List (List ℕ)) (program : Program) (facts : Facts) (m : Made) → IsMade names program facts m → claim_count m.laid.claimed.claims + length (flat_map (nevers_at m.laid.lists.places.items) (copies_of m).nevers) + 32 < 2 ^ 32

@@ -2,10 +2,11 @@
 //!
 //! Proved, by calls with empty bodies: [`texts_are_short`], and [`claims_are_few`], which says how many claims there are before
 //! they are made. The image of a source of at most 1,048,576 bytes has fewer than 8,388,608 bytes as a file, and the report on it
-//! fewer than 500,000,000, so that `check` reads both. A report has no more exits and lines of regions than the image has
-//! instructions, no more loops, addresses of copies and addresses that are never visited than the program has operations, as
-//! many potentials as addresses of code at most and twice as many parts of a flow; and its names are no longer than the source,
-//! in the copy lines of functions, in those of markers, and in the shares.
+//! fewer than 500,000,000, so that `check` reads both. A report has no more exits, lines of regions and potentials than the image
+//! has instructions, and twice as many parts of a flow at most; no more loops than the program has operations, nor addresses of
+//! copies together with those that are never visited; at most 32 restrictions, each side of which has no more terms than there are
+//! addresses of copies, with numbers of eight digits; and at most 200 columns. Its names are no longer than the source, in the copy
+//! lines of functions, in those of markers, and in the shares.
 //!
 //! The crate knows nothing of how texts are written.
 #![tactic(auto)]
@@ -17,7 +18,7 @@ pub fn texts_are_short()
     ensures { TextsAreShort }
 {}
 
-/// What is made has few claims, with those on never marks.
+/// What is made has few claims, with those on never marks and on restrictions.
 pub fn claims_are_few()
     ensures { ClaimsAreFew }
 {}

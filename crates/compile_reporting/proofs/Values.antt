@@ -1,24 +1,28 @@
 -- The value of the listed flow is small, and so are the cycles that are reported.
-use Rattle.std.proofs.Common.{◌≡◌, ℕ, suc, ◌*◌, ◌^◌, ◌<◌, ◌≤◌, ℤ, pos, negsuc, ◌*ℤ◌, ◌<ℤ◌, List, refl, ap, subst, arith}
+use Rattle.std.proofs.Common.{◌≡◌, ℕ, suc, ◌*◌, ◌^◌, ◌<◌, ◌≤◌, ℤ, pos, negsuc, ◌*ℤ◌, ◌<ℤ◌, List, [], ap, subst, arith}
 use Rattle.std.specs.Prelude.{unsigned_abs}
 use Rattle.std.proofs.Math.Nat.{div-lt_iff_lt-mul, lt_of_mul-lt-mul_left, mul-lt-mul_of_pos_left}
 use Rattle.std.proofs.lemmas.Int.{ints}
 use Rattle.rv_core.specs.Table.{Table}
 use Rattle.code_flow_system.specs.declared.cert.Cert.{Cert}
-use Rattle.code_flow_system.specs.declared.cert.Mark.{Mark}
-use Rattle.code_flow_system.specs.declared.cert.Mark.TheVariants.{Greatest, Empty, Neither}
+use Rattle.code_flow_system.specs.declared.cert.Mark.TheVariants.{Greatest}
 use Rattle.code_flow_system.specs.declared.shapes.LoopShape.{LoopShape}
 use Rattle.code_flow_system.specs.declared.shapes.Span.{Span}
 use Rattle.code_flow_system.specs.Bounds.{KeepsPromise}
 use Rattle.code_flow_system.specs.Certificates.{Accepts, FitsMark, IsInForm, KeepsMark, listed, potential, whole_part}
 use Rattle.code_flow_system.specs.Flows.{value}
-use Rattle.code_flow_system.specs.Loose.{FlowsAreLoose}
 use Rattle.code_flow_system.specs.Systems.{System}
+use Rattle.code_flow_system.proofs.LooseLemmas.{flows_are_loose}
 use Rattle.path_bound.proofs.BoundLemmas.{goes_back}
+use Rattle.path_answer.specs.declared.bounded.Column.{Column}
 use Rattle.path_answer.specs.declared.bounded.Kind.{Kind}
 use Rattle.path_answer.specs.declared.bounded.Kind.TheVariants as kinds
-use Rattle.path_search.specs.Conditions.{CanBound}
-use Rattle.path_search.specs.Kinds.{IsMarked}
+use Rattle.path_counts.specs.Free.{free}
+use Rattle.path_fact_columns.specs.Columns.{IsBest}
+use Rattle.path_fact_fit.specs.Conditions.{CanSearch}
+use Rattle.path_fact_kinds.specs.Kinds.{HasKind, IsBoundAlone}
+use Rattle.path_fact_kinds.specs.Searched.{AreSearched}
+use Rattle.path_pivot_laws.specs.Laws.{column_at}
 
 scaled : (s w u n : ℕ) → 0 < s → s * w ≡ u * n → w < u * 2 ^ 60 → n < 2 ^ 60 * s
 scaled s w u n some e lt =
@@ -46,10 +50,19 @@ nothing : (p : ℤ) (s : ℕ) → p <ℤ pos 0 → whole_part p s < 2 ^ 60
 nothing (pos n) s lt = absurd (omega (arith, ints, lt))
 nothing (negsuc n) s lt = omega arith
 
-module _ (t : Table) (s : System) (c : Cert) (ls : List LoopShape) (ps : List Span) (can : CanBound t s ls ps) (form : IsInForm s.claims c) (accepted : Accepts t s c) (promise : KeepsPromise t s c) (loose : FlowsAreLoose s) where
+-- the first column is a flow of the system without its restrictions
+column_below : (t : Table) (s : System) (ls : List LoopShape) (ps : List Span) (cs : List Column) → CanSearch t s ls ps → IsBest t s 1 [] (column_at cs 0) → (column_at cs 0).value <ℤ pos (2 ^ 60)
+column_below t s ls ps cs can best =
+    let x = best.column.amounts in
+    let loose = flows_are_loose (free s) (goes_back s s.claims.loops ls can.fit.fits.shapes can.fit.fits.loops) 1 x best.column.flow in
+    let is = ap (λ (c : Column). c.value) best.column.is in
+    let less = can.loose 1 x (record { positive = loose.positive; kept = loose.kept; loops = loose.loops }) in
+    omega (arith, ints, is, less)
+
+module _ (t : Table) (s : System) (c : Cert) (ls : List LoopShape) (ps : List Span) (can : CanSearch t s ls ps) (form : IsInForm s.claims c) (accepted : Accepts t s c) (promise : KeepsPromise t s c) where
   value_below : c.mark ≡ Greatest → value t s (listed c.flow.parts) <ℤ (pos c.flow.unit *ℤ pos (2 ^ 60))
   value_below e =
-      can.loose c.flow.unit (listed c.flow.parts) (loose (goes_back s s.claims.loops ls can.fit.fits.shapes can.fit.fits.loops) c.flow.unit (listed c.flow.parts) (promise.greatest e).flow)
+      can.loose c.flow.unit (listed c.flow.parts) (flows_are_loose s (goes_back s s.claims.loops ls can.fit.fits.shapes can.fit.fits.loops) c.flow.unit (listed c.flow.parts) (promise.greatest e).flow)
 
   pub value_small : c.mark ≡ Greatest → value t s (listed c.flow.parts) <ℤ pos (2 ^ 120)
   value_small e =
@@ -59,16 +72,26 @@ module _ (t : Table) (s : System) (c : Cert) (ls : List LoopShape) (ps : List Sp
       within : (v : ℤ) (u : ℕ) → v <ℤ (pos u *ℤ pos (2 ^ 60)) → u ≤ 2 ^ 48 → v <ℤ pos (2 ^ 120)
       within v u lt le = omega (arith, ints, lt, le)
 
-  by_mark : (m : Mark) (k : Kind) → c.mark ≡ m → IsMarked k m → whole_part (potential c s.entry) c.scale < 2 ^ 60
-  by_mark Greatest k e h = few (value t s (listed c.flow.parts)) (potential c s.entry) c.scale c.flow.unit form.scale.0 (promise.greatest e).value (value_below e)
-  by_mark Empty k e h = nothing (potential c s.entry) c.scale (subst (λ m. KeepsMark m t s c) e accepted.mark)
-  by_mark Neither kinds.Greatest e h = absurd (cc)
-  by_mark Neither kinds.Empty e h = absurd (cc)
-  by_mark Neither (kinds.Wide pivot) e h = absurd h
-  by_mark Neither (kinds.Spent columns pivots) e h = absurd h
+  -- a bound alone is no more than the value of the first column
+  bound_below : (cs : List Column) → IsBoundAlone s cs c → AreSearched t s cs → c.cycles < 2 ^ 60
+  bound_below cs alone searched =
+      let below = column_below t s ls ps cs can searched.first in
+      let most = alone.cycles in
+      omega (arith, ints, below, most)
 
-  pub cycles_below : (k : Kind) → IsMarked k c.mark → c.cycles ≤ 2 ^ 62
-  cycles_below k h =
-      let less = by_mark c.mark k refl h in
+  by_kind : (cs : List Column) (k : Kind) → HasKind t s cs c k → c.cycles < 2 ^ 60
+  by_kind cs kinds.Greatest h =
+      let less = few (value t s (listed c.flow.parts)) (potential c s.entry) c.scale c.flow.unit form.scale.0 (promise.greatest h).value (value_below h) in
       let is = accepted.value in
       omega (arith, less, is)
+  by_kind cs kinds.Empty h =
+      let less = nothing (potential c s.entry) c.scale (subst (λ m. KeepsMark m t s c) h accepted.mark) in
+      let is = accepted.value in
+      omega (arith, less, is)
+  by_kind cs (kinds.Wide pivot) h = bound_below cs h.0 h.1.searched
+  by_kind cs (kinds.Spent columns pivots) h = bound_below cs h.0 h.1.searched
+
+  pub cycles_below : (cs : List Column) (k : Kind) → HasKind t s cs c k → c.cycles ≤ 2 ^ 62
+  cycles_below cs k h =
+      let less = by_kind cs k h in
+      omega (arith, less)

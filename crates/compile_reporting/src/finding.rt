@@ -1,19 +1,18 @@
 // The bound of the image of a source, and its shares.
-ghost use Rattle.std.specs.Prelude.{◌≡◌, ◌≤◌, ◌^◌, pos, ◌<ℤ◌, [], map, IfOk};
+ghost use Rattle.std.specs.Prelude.{◌≡◌, ◌≤◌, ◌^◌, pos, ◌<ℤ◌, map, IfOk};
 ghost use Rattle.code_flow_system.specs.declared.cert.Mark.TheVariants as marks;
-ghost use Rattle.code_flow_system.specs.Certificates.{Accepts, IsInForm, listed};
+ghost use Rattle.code_flow_system.specs.Certificates.{IsInForm, listed};
 ghost use Rattle.code_flow_system.specs.Flows.{value};
 ghost use Rattle.code_flow_system.specs.Systems.{IsSystemOf};
-ghost use Rattle.path_search.specs.Kinds.{IsMarked};
+ghost use Rattle.path_fact_kinds.specs.Kinds.{HasKind, IsFound};
 ghost use Rattle.report_shares.specs.Shares.{with_sum};
 ghost use Rattle.rv_core.specs.Table.{table_of};
-ghost use Rattle.compile_handed.specs.Handed.{AreHandedOn};
 ghost use Rattle.compile_reports.specs.Reported.{AreShared};
 ghost use Rattle.compile_reporting.specs.Sources.{IsMadeOf, ranges_of};
-ghost use Rattle.compile_reporting.specs.Found.{HasBound, IsBound};
+ghost use Rattle.compile_reporting.specs.Found.{AreClaimsOf, HasBound, IsBound};
 
 use code_flow::{CodeFault, system};
-use code_flow_system::{Claims, System, flows_are_loose, weak_duality};
+use code_flow_system::{Claims, System, weak_duality};
 use compile_bounds::{made_can_be_bounded, made_have_systems};
 use compile_lines::shares_of;
 use compile_made::Made;
@@ -35,7 +34,7 @@ pub struct Found {
 /// The flow system of the image. Nothing but memory can be wanting.
 fn system_of(alloc: Global, source: &Source, made: &Made, claims: &Claims) -> Result<System, Memory>
     requires made { IsMadeOf source.now made.now }
-    requires claims { AreHandedOn made.now claims.now }
+    requires claims { AreClaimsOf source.now made.now claims.now }
     ensures { IfOk result (IsSystemOf made.now.laid.image claims.now) }
 {
     made_have_systems();
@@ -56,12 +55,9 @@ fn bounded_of(
     costs: &Costs,
 ) -> Result<Bounded, Memory>
     requires made { IsMadeOf source.now made.now }
-    requires claims { AreHandedOn made.now system.now.claims }
+    requires claims { AreClaimsOf source.now made.now system.now.claims }
     requires system { IsSystemOf made.now.laid.image system.now.claims system.now }
-    ensures form { IfOk result (λ b. IsInForm system.now.claims b.cert) }
-    ensures accepted { IfOk result (λ b. Accepts (table_of costs.now) system.now b.cert) }
-    ensures kind { IfOk result (λ b. IsMarked b.kind b.cert.mark) }
-    ensures columns { IfOk result (λ b. b.columns ≡ []) }
+    ensures found { IfOk result (IsFound (table_of costs.now) system.now) }
     ensures value { IfOk result (λ b. b.cert.mark ≡ marks.Greatest → value (table_of costs.now) system.now (listed b.cert.flow.parts) <ℤ pos (2 ^ 120)) }
     ensures cycles { IfOk result (λ b. b.cert.cycles ≤ 2 ^ 62) }
 {
@@ -71,7 +67,6 @@ fn bounded_of(
     let spans = &made.laid.lists.spans;
     let bounded = bound(alloc, system, shapes, spans, costs)?;
     weak_duality(system, costs, &bounded.cert);
-    flows_are_loose(system);
     Ok(bounded)
 }
 
@@ -84,7 +79,7 @@ fn shared(
     ranges: Vec<Share>,
 ) -> Vec<Share>
     requires form { IsInForm system.now.claims bounded.now.cert }
-    requires kind { IsMarked bounded.now.kind bounded.now.cert.mark }
+    requires kind { HasKind (table_of costs.now) system.now bounded.now.columns bounded.now.cert bounded.now.kind }
     requires value { bounded.now.cert.mark ≡ marks.Greatest → value (table_of costs.now) system.now (listed bounded.now.cert.flow.parts) <ℤ pos (2 ^ 120) }
     ensures { AreShared bounded.now.kind (map (with_sum (table_of costs.now) system.now bounded.now.cert.flow.parts) ranges.items) result.items }
 {
@@ -94,12 +89,10 @@ fn shared(
             fill_shares(system, costs, &bounded.cert.flow, &mut shares);
             shares
         }
-        Kind::Empty => {
+        Kind::Empty | Kind::Wide { .. } | Kind::Spent { .. } => {
             drop(ranges);
             Vec::new(alloc)
         }
-        Kind::Wide { .. } => unreachable!(),
-        Kind::Spent { .. } => unreachable!(),
     }
 }
 
@@ -124,7 +117,7 @@ fn find_in(
     costs: &Costs,
 ) -> Result<Found, Memory>
     requires made { IsMadeOf source.now made.now }
-    requires claims { AreHandedOn made.now system.now.claims }
+    requires claims { AreClaimsOf source.now made.now system.now.claims }
     requires system { IsSystemOf made.now.laid.image system.now.claims system.now }
     ensures { IfOk result (IsBound (table_of costs.now) source.now made.now system.now) }
 {
@@ -150,7 +143,7 @@ pub fn find(
     costs: &Costs,
 ) -> Result<Found, Memory>
     requires made { IsMadeOf source.now made.now }
-    requires claims { AreHandedOn made.now claims.now }
+    requires claims { AreClaimsOf source.now made.now claims.now }
     ensures { IfOk result (HasBound (table_of costs.now) source.now made.now claims.now) }
 {
     let system = system_of(alloc, source, made, claims)?;

@@ -1,11 +1,13 @@
 // What a report tells of the image of a source.
-ghost use Rattle.std.specs.Prelude.{◌++◌, IfOk};
+ghost use Rattle.std.specs.Prelude.{◌≡◌, ◌++◌, IfOk};
+ghost use Rattle.compile_facts.specs.Told.{AreFactsTold};
 ghost use Rattle.compile_handed.specs.Handed.{AreHandedOn};
 ghost use Rattle.compile_lines.specs.CopyLines.{AreLinesOf};
 ghost use Rattle.compile_reporting.specs.Sources.{IsMadeOf, names_of};
-ghost use Rattle.compile_reporting.specs.Found.{IsTold};
+ghost use Rattle.compile_reporting.specs.Found.{HasLines, IsTold};
 ghost use Rattle.compile_made.specs.Made.{copies_of};
 
+use crate::restricting::restricted;
 use code_flow_system::Claims;
 use compile_bounds::made_can_be_named;
 use compile_claims::by_source;
@@ -13,37 +15,50 @@ use compile_lengths::claims_are_few;
 use compile_lines::copy_lines;
 use compile_made::Made;
 use facts_front::Source;
+use facts_restrictions::restrictions_are_limited;
 use std::alloc::Global;
 use wcc_base::Memory;
 use wcc_report::CopyLine;
 
-/// The copy lines of functions and markers, and the claims by the loops of the source.
+/// The copy lines of functions and markers, and the claims by the loops and the restrictions of the source.
 #[derive(Drop)]
 pub struct Told {
     pub lines: Vec<CopyLine>,
     pub claims: Claims,
 }
 
-/// The claims on the image, by the loops of the source.
-fn claims_of(alloc: Global, source: &Source, made: &Made) -> Result<Claims, Memory>
-    requires { IsMadeOf source.now made.now }
-    ensures { IfOk result (AreHandedOn made.now) }
+/// The claims on the image, by the loops of the source, and by its restrictions over these lines.
+fn claims_of(
+    alloc: Global,
+    source: &Source,
+    made: &Made,
+    lines: &[CopyLine],
+) -> Result<Claims, Memory>
+    requires made { IsMadeOf source.now made.now }
+    requires lines { HasLines source.now made.now lines.now }
+    ensures handed { IfOk result (AreHandedOn made.now) }
+    ensures restricted { IfOk result (λ c. AreFactsTold source.now.facts lines.now c.facts) }
 {
     made_can_be_named();
     claims_are_few();
-    by_source(
+    restrictions_are_limited();
+    let facts = restricted(alloc, &source.facts, lines)?;
+    let claims = by_source(
         alloc,
         &made.laid.claimed.claims,
         &made.stages.last.copies,
         made.stages.last.program.loops,
         &made.laid.lists.places,
-    )
+        facts,
+    )?;
+    let _facts = claims.facts();
+    Ok(claims)
 }
 
 /// The copy lines of functions and markers.
 fn lines_of(alloc: Global, source: &Source, made: &Made) -> Result<Vec<CopyLine>, Memory>
     requires { IsMadeOf source.now made.now }
-    ensures { IfOk result (λ v. AreLinesOf (names_of source.now) made.now.laid.lists.places.items (source.now.facts.functions ++ source.now.facts.markers) (copies_of made.now).marks v.items) }
+    ensures { IfOk result (λ v. HasLines source.now made.now v.items) }
 {
     let mut counted = Vec::from_slice(alloc, source.facts.functions.as_slice())?;
     counted.extend_from_slice(source.facts.markers.as_slice())?;
@@ -62,7 +77,7 @@ pub fn tell(alloc: Global, source: &Source, made: &Made) -> Result<Told, Memory>
     ensures { IfOk result (IsTold source.now made.now) }
 {
     let lines = lines_of(alloc, source, made)?;
-    match claims_of(alloc, source, made) {
+    match claims_of(alloc, source, made, &lines) {
         Ok(claims) => Ok(Told { lines, claims }),
         Err(memory) => {
             drop(lines);

@@ -3,6 +3,7 @@ use Rattle.std.proofs.Common.{◌≡◌, ℕ, suc, List, length, refl, ap, ◌�
 use Rattle.rv_core.specs.Images.{Image}
 use Rattle.rv_core.specs.Table.{Table}
 use Rattle.code_flow_system.specs.Claims.{AreSound, Claims, flaws}
+use Rattle.code_flow_system.specs.declared.claims.FactClaim.{FactClaim}
 use Rattle.code_flow_system.specs.declared.claims.Never.{Never}
 use Rattle.code_flow_system.specs.Shapes.{Fits}
 use Rattle.code_flow_system.specs.Systems.{IsSystemOf, System}
@@ -42,16 +43,19 @@ module _ (names : List (List ℕ)) (program : Program) (facts : Facts) (m : Made
   abbrev pub ns : List Never
   ns = r.claims.nevers
 
-  pub claims_named : r.claims ≡ named es ns (claims_of laid)
-  claims_named = reported.claims.claims ∙ ap (named es ns) made.in_memory.laid.claimed.claims
+  abbrev pub fs : List FactClaim
+  fs = r.claims.facts
 
-  system_named : IsSystemOf (image_in nothing over) (named es ns (claims_of laid)) reported.system
+  pub claims_named : r.claims ≡ named es ns fs (claims_of laid)
+  claims_named = reported.claims.claims ∙ ap (named es ns fs) made.in_memory.laid.claimed.claims
+
+  system_named : IsSystemOf (image_in nothing over) (named es ns fs (claims_of laid)) reported.system
   system_named =
-      subst (λ image. IsSystemOf image (named es ns (claims_of laid)) reported.system) made.in_memory.laid.image
+      subst (λ image. IsSystemOf image (named es ns fs (claims_of laid)) reported.system) made.in_memory.laid.image
       (subst (λ claims. IsSystemOf m.laid.image claims reported.system) claims_named reported.is_system)
 
   -- functions fit the system
   pub spans_fit : Fits (under (claims_of laid) reported.system) m.laid.claimed.shapes.items (spans_from (placing laid) 0 (suc (length over.functions)))
   spans_fit =
       made.in_memory.keeps_low.claims.fits (under (claims_of laid) reported.system) m.laid.claimed.shapes.items
-      (system_same es ns (image_in nothing over) (claims_of laid) reported.system refl system_named) made.in_memory.laid.claimed.shapes
+      (system_same es ns fs (image_in nothing over) (claims_of laid) reported.system refl refl system_named) made.in_memory.laid.claimed.shapes

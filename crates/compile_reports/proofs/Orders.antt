@@ -1,5 +1,5 @@
 -- Claims of which none is bad are in the order of a report.
-use Rattle.std.proofs.Common.{◌≡◌, ℕ, ◌<◌, ◌≤◌, Bool, true, false, List, [], ◌∷◌, ◌++◌, Option, Some, None, map, refl, sym, subst, All, arith}
+use Rattle.std.proofs.Common.{◌≡◌, ℕ, ◌<◌, ◌≤◌, Bool, true, false, List, [], ◌∷◌, ◌++◌, Option, Some, None, map, refl, All, arith}
 use Rattle.std.specs.Prelude.{◌&&◌, ◌||◌, not, nat_le, nat_lt}
 use Rattle.std.proofs.lemmas.Bool.Decides.{nat_tests}
 use Rattle.std.proofs.lemmas.List.Elements.{All-cons, All-head, All-map, All-nil, All-tail, All-weaker}
@@ -124,8 +124,8 @@ laid_apart : (before : Option ℕ) (ws : List Within) → AreLaid before ws → 
 laid_apart before [] h = tt
 laid_apart before (w ∷ ws) h = (All-weaker (λ (v : Within). w.end ≤ v.first) (AreApart w) (λ v le. apart w v le) ws (laid_behind w.end ws h.2), laid_apart (Some w.end) ws h.2)
 
-pub sound_in_order : (c : Claims) → AreSound c → c.facts ≡ [] → AreInOrder c
-sound_in_order c sound none =
+pub sound_in_order : (c : Claims) → AreSound c → All IsFact c.facts → AreInOrder c
+sound_in_order c sound facts =
     let loops_on = loop_flaws None c.loops ++ fact_flaws c.facts in
     let regions_on = region_flaws None c.regions ++ loops_on in
     let nevers_on = never_flaws None c.nevers ++ regions_on in
@@ -140,5 +140,5 @@ sound_in_order c sound none =
       named = laid_named None c.regions laid;
       apart = laid_apart None c.regions laid;
       loops = ascends None (map header_of c.loops) (loops_rise None c.loops (All-append_front Holds (loop_flaws None c.loops) (fact_flaws c.facts) behind_regions));
-      facts = subst (All IsFact) (sym none) (All-nil IsFact);
+      facts = facts;
     }

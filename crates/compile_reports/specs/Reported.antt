@@ -6,13 +6,14 @@ use Rattle.code_flow_system.specs.Systems.{System, IsSystemOf}
 use Rattle.facts_definitions.specs.declared.facts.Facts.{Facts}
 use Rattle.path_answer.specs.declared.bounded.Kind.{Kind}
 use Rattle.path_answer.specs.declared.bounded.Kind.TheVariants.{Greatest, Empty, Wide, Spent}
-use Rattle.path_search.specs.Kinds.{IsMarked}
+use Rattle.path_fact_kinds.specs.Kinds.{HasColumns, HasKind}
 use Rattle.compile_lines.specs.CopyLines.{AreLinesOf}
 use Rattle.compile_lines.specs.Shares.{share_of}
 use Rattle.report_shares.specs.Shares.{with_sum}
 use Rattle.report_text.specs.declared.entries.Share.{Share}
 use Rattle.report_text.specs.Reports.{Report}
 use Rattle.compile_handed.specs.Handed.{AreHandedOn}
+use Rattle.compile_facts.specs.Told.{AreFactsTold}
 use Rattle.compile_made.specs.declared.made.Made.{Made}
 use Rattle.compile_made.specs.Made.{copies_of}
 
@@ -27,11 +28,12 @@ pub record IsReported (costs : Table) (names : List (List ℕ)) (facts : Facts) 
   pub version : r.version ≡ 2
   pub lines : AreLinesOf names m.laid.lists.places.items (facts.functions ++ facts.markers) (copies_of m).marks r.names
   pub claims : AreHandedOn m r.claims
-  pub columns : r.columns ≡ []
+  pub restricted : AreFactsTold facts r.names r.claims.facts
   -- the bound of the image's flow system under these claims
   pub system : System
   pub is_system : IsSystemOf m.laid.image r.claims system
   pub form : IsInForm r.claims r.cert
   pub accepted : Accepts costs system r.cert
-  pub marked : IsMarked r.kind r.cert.mark
+  pub columns : HasColumns costs system r.columns
+  pub kind : HasKind costs system r.columns r.cert r.kind
   pub shared : AreShared r.kind (map (λ s. with_sum costs system r.cert.flow.parts s) (map (share_of names facts.functions) m.laid.lists.ranges.items)) r.shares

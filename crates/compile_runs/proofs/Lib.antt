@@ -1,4 +1,4 @@
 pub mod Places
-pub mod Counting
 pub mod Nevers
+pub mod Restrictions
 pub mod Runs

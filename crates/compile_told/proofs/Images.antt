@@ -5,6 +5,7 @@ use Rattle.std.proofs.lemmas.List.Elements.{All-contains_itself, All-weaker}
 use Rattle.rv_core.specs.Images.{Image}
 use Rattle.rv_core.specs.Rows.{row_of}
 use Rattle.rv_core.specs.Table.{Table, accesses}
+use Rattle.code_flow_system.specs.declared.claims.FactClaim.{FactClaim}
 use Rattle.code_flow_system.specs.declared.claims.Never.{Never}
 use Rattle.code_flow_system.specs.declared.claims.Within.{Within}
 use Rattle.code_flow_system.specs.declared.moves.Move.{Move}
@@ -61,13 +62,16 @@ module _ (names : List (List ℕ)) (program : Program) (facts : Facts) (m : Made
     abbrev ns : List Never
     ns = r.claims.nevers
 
-    claims_are : r.claims ≡ named es ns (claims_of own)
-    claims_are = reported.claims.claims ∙ ap (named es ns) made.in_memory.laid.claimed.claims
+    abbrev fs : List FactClaim
+    fs = r.claims.facts
+
+    claims_are : r.claims ≡ named es ns fs (claims_of own)
+    claims_are = reported.claims.claims ∙ ap (named es ns fs) made.in_memory.laid.claimed.claims
 
     -- under the claims on the image, whose loops have numbers of their own
     own_system : IsSystemOf (image_in nothing over) (claims_of own) (under (claims_of own) s)
     own_system =
-        system_same es ns (image_in nothing over) (claims_of own) s refl
+        system_same es ns fs (image_in nothing over) (claims_of own) s refl refl
         (subst (λ (c : Claims). IsSystemOf (image_in nothing over) c s) claims_are (subst (λ (i : Image). IsSystemOf i r.claims s) image_is system))
 
     pub reported_lined : AreLined m.laid.image r s

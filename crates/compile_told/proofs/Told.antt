@@ -1,14 +1,12 @@
--- What is reported of a source without restrictions tells its facts.
+-- What is reported of a source tells its facts.
 use Rattle.std.proofs.Common.{◌≡◌, ℕ, ◌<◌, List, [], ◌++◌, length, map, Some, refl, sym, ap, ◌∙◌, subst, Contains, All}
 use Rattle.std.specs.Prelude.{option_map, slice_get, slice_index_or}
 use Rattle.std.proofs.lemmas.Option.{none-some, slice_get-get_or, slice_get-map}
 use Rattle.rv_core.specs.Table.{Table}
 use Rattle.code_flow_system.specs.Claims.{Claims}
-use Rattle.code_flow_system.specs.declared.claims.FactClaim.{FactClaim}
 use Rattle.code_flow_system.specs.declared.claims.LoopClaim.{LoopClaim}
 use Rattle.facts_definitions.specs.declared.facts.Facts.{Facts}
 use Rattle.facts_loops.specs.Loops.{source_loops}
-use Rattle.facts_definitions.specs.declared.facts.Restriction.{Restriction}
 use Rattle.facts_front.specs.Fronts.{IsSource}
 use Rattle.types_tree.specs.Tree.{Program}
 use Rattle.asm_items.specs.Placings.{base_of}
@@ -32,7 +30,7 @@ use Rattle.report_text.specs.Reports.{Report}
 use Rattle.compile_claims.specs.Named.{named as renamed}
 use Rattle.compile_made.specs.declared.made.Made.{Made}
 use Rattle.compile_made.specs.Made.{IsMade, copies_of, high_of}
-use Rattle.promise_report.specs.Facts.{AreFactLines, IsLoopLine, TellsFacts, places_told}
+use Rattle.promise_report.specs.Facts.{IsLoopLine, TellsFacts}
 use Rattle.compile_kept.specs.Limits.{nothing}
 use Rattle.compile_reports.specs.Reported.{AreShared, IsReported}
 use Rattle.compile_reports.proofs.Openings.{functions_counted}
@@ -63,8 +61,8 @@ module _ (source : List ℕ) (names : List (List ℕ)) (program : Program) (fact
   abbrev es : List LoopEntry
   es = (copies_of m).loops
 
-  claims_are : r.claims ≡ renamed es r.claims.nevers (claims_of own)
-  claims_are = reported.claims.claims ∙ ap (renamed es r.claims.nevers) made.in_memory.laid.claimed.claims
+  claims_are : r.claims ≡ renamed es r.claims.nevers r.claims.facts (claims_of own)
+  claims_are = reported.claims.claims ∙ ap (renamed es r.claims.nevers r.claims.facts) made.in_memory.laid.claimed.claims
 
   many : length facts.functions ≡ length (high_of m).functions
   many = functions_counted source names program facts is ∙ sym made.carried.carries.functions
@@ -94,8 +92,8 @@ module _ (source : List ℕ) (names : List (List ℕ)) (program : Program) (fact
         first = sym (ap (λ (h : Share). h.first) x.2) ∙ sym (ap (λ (h : Share). h.first) y.2) ∙ ap (λ h. h.first) (sym z.2);
       }
 
-  pub told : facts.restrictions ≡ [] → TellsFacts program names facts r
-  told plain =
+  pub told : TellsFacts program names facts r
+  told =
       let keeps = made.lowered.keeps_program in
       let kept = made.in_memory.keeps_low in
       let carries = made.carried.carries in
@@ -104,8 +102,7 @@ module _ (source : List ℕ) (names : List (List ℕ)) (program : Program) (fact
       let places = m.laid.lists.places.items in
       record {
         copies = names_told names places (facts.functions ++ facts.markers) marks r.names reported.lines;
-        facts_told = subst (λ (rs : List Restriction). AreFactLines facts (places_told facts r) rs r.claims.facts) (sym plain)
-            (subst (λ (cs : List FactClaim). AreFactLines facts (places_told facts r) [] cs) (sym (ap (λ (c : Claims). c.facts) claims_are)) tt);
+        facts_told = reported.restricted.each;
         loops = subst (λ (cs : List LoopClaim). All (IsLoopLine loops) cs) (sym (ap (λ (c : Claims). c.loops) claims_are))
             (loops_lined loops (source_behaviour program names facts) refl (high_of m) (copies_of m) carries made.carried.is_high q keeps a own refl kept.loops);
         nevers = nevers_lined loops (source_behaviour program names facts) refl places (copies_of m).nevers carries.nevers r.claims.nevers reported.claims.nevers;

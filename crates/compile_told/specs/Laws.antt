@@ -1,5 +1,5 @@
 -- What is reported of a source tells its facts, and where the accesses of the image go.
-use Rattle.std.specs.Prelude.{◌≡◌, ℕ, List, []}
+use Rattle.std.specs.Prelude.{◌≡◌, ℕ, List}
 use Rattle.rv_core.specs.Table.{Table}
 use Rattle.code_flow_system.specs.Systems.{System, IsSystemOf}
 use Rattle.report_text.specs.Reports.{Report}
@@ -12,10 +12,10 @@ use Rattle.compile_made.specs.declared.made.Made.{Made}
 use Rattle.compile_made.specs.Made.{IsMade}
 use Rattle.compile_reports.specs.Reported.{IsReported}
 
--- a source without restrictions is told in whole
+-- a source is told in whole
 abbrev pub ReportedTellFacts : Type 0
 ReportedTellFacts =
-    (source : List ℕ) (names : List (List ℕ)) (program : Program) (facts : Facts) (m : Made) (t : Table) (r : Report) → facts.restrictions ≡ [] → IsSource source names program facts → IsMade names program facts m → IsReported t names facts m r
+    (source : List ℕ) (names : List (List ℕ)) (program : Program) (facts : Facts) (m : Made) (t : Table) (r : Report) → IsSource source names program facts → IsMade names program facts m → IsReported t names facts m r
     → TellsFacts program names facts r
 
 -- each load and store lies in a line of regions, in which the image has bytes

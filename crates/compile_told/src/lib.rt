@@ -1,7 +1,7 @@
 //! What is reported of a source tells its facts.
 //!
 //! Proved, by calls with empty bodies, of the report on the image of a source: [`reported_tell_facts`], that its names, bounds of
-//! loops, addresses that are never visited and shares are those of the source, where that has no restriction;
+//! loops, restrictions, addresses that are never visited and shares are those of the source;
 //! [`reported_are_lined`], that each load and store lies in a line of regions; and of the image [`made_are_unplaced`].
 //!
 //! `proofs/Naming` shows that no two functions have one name, `proofs/Loops` of which loop of the source each claim is, `proofs/Nevers`
@@ -13,7 +13,7 @@
 
 ghost use Rattle.compile_told.specs.Laws.{MadeAreUnplaced, ReportedAreLined, ReportedTellFacts};
 
-/// The lines of the report are what a source without restrictions says.
+/// The lines of the report are what a source says.
 pub fn reported_tell_facts()
     ensures { ReportedTellFacts }
 {}

@@ -28,7 +28,7 @@ limited : (most : ℕ) (f x : Facts) (fault : FlowFault) (t : Bool) → nat_lt m
 limited most f x fault true e h = ltb-true most (2 ^ 40) e
 limited most f x fault false e h = absurd (err_ok fault x h)
 
-most_limited : (source : c.Program) (names : List (List ℕ)) (facts : Facts) → AreFacts source names facts → facts.most < 2 ^ 40
+pub most_limited : (source : c.Program) (names : List (List ℕ)) (facts : Facts) → AreFacts source names facts → facts.most < 2 ^ 40
 most_limited source names facts are =
     let most = most_main source names (bounds_in source are.derived) facts.ranks in
     let own = facts_of source names facts.ranks are.derived in

@@ -7,8 +7,6 @@ use wcc_base::Memory;
 pub enum Refusal {
     /// The source has no program with facts.
     Front(facts_front::Refusal),
-    /// The source has a restriction.
-    Form,
     /// Memory ran out.
     Memory,
 }

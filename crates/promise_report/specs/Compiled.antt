@@ -19,7 +19,9 @@ use Rattle.facts_definitions.specs.declared.facts.Facts.{Facts}
 use Rattle.facts_front.specs.Fronts.{IsSourceBy}
 use Rattle.types_tree.specs.Tree.{Program}
 use Rattle.path_answer.specs.declared.bounded.Kind.{Kind}
-use Rattle.path_answer.specs.declared.bounded.Kind.TheVariants.{Greatest, Empty}
+use Rattle.path_answer.specs.declared.bounded.Kind.TheVariants.{Greatest, Empty, Wide, Spent}
+use Rattle.path_fact_kinds.specs.Causes.{IsSpent, IsWide}
+use Rattle.path_fact_kinds.specs.Kinds.{IsBoundAlone}
 use Rattle.report_check.specs.Checks.{Holds, IsTextOf}
 use Rattle.report_text.specs.Reports.{Report}
 use Rattle.promise_report.specs.Facts.{TellsFacts}
@@ -60,13 +62,15 @@ pub record ClaimsAreFacts (program : Program) (names : List (List ℕ)) (facts :
   pub told : TellsFacts program names facts report
   pub lined : AreLined image report system
 
--- a flow reaches the bound, or there is none and the cycles are 0
+-- a flow reaches the bound, or there is none and the cycles are 0; or the restrictions stopped the search: at a number of that pivot,
+-- which was too wide, or when so many columns and pivots were made
 abbrev pub IsReached : Kind → Table → System → Report → Type 0
 IsReached Greatest costs system report = ReachesBound costs system report.cert
 IsReached Empty costs system report = HasNoFlow system × (report.cert.cycles ≡ 0)
-IsReached kind costs system report = ⊥
+IsReached (Wide pivot) costs system report = IsBoundAlone system report.columns report.cert × IsWide costs system report.columns pivot
+IsReached (Spent columns pivots) costs system report = IsBoundAlone system report.columns report.cert × IsSpent costs system report.columns columns pivots
 
--- the cycles are the greatest value of a flow, rounded down, or 0 where there is no flow
+-- the cycles are the greatest value of a flow, rounded down, or 0 where there is no flow, unless the report shows what stopped the search
 pub record CyclesAreGreatest (costs : Table) (system : System) (report : Report) : Type 0 where
   pub bound : BoundsFlows costs system report.cert
   pub reached : IsReached report.kind costs system report

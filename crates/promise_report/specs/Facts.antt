@@ -38,8 +38,11 @@ pub record IsNeverLine (loops : List SourceLoop) (c : Never) : Type 0 where
 abbrev pub places_in : List CopyLine → List (List ℕ)
 places_in cs = map (λ (c : CopyLine). c.places) cs
 
+abbrev pub places_by : Facts → List CopyLine → Places
+places_by facts lines = let n = length facts.functions in record { of_functions = places_in (take n lines); of_markers = places_in (drop n lines) }
+
 abbrev pub places_told : Facts → Report → Places
-places_told facts r = let n = length facts.functions in record { of_functions = places_in (take n r.names); of_markers = places_in (drop n r.names) }
+places_told facts r = places_by facts r.names
 
 -- a restriction, each name replaced by the sum of its addresses
 pub record IsFactLine (facts : Facts) (places : Places) (r : Restriction) (c : FactClaim) : Type 0 where

@@ -2,10 +2,9 @@
 use Rattle.std.proofs.Common.{◌≡◌, ◌≤◌, ◌<◌, ℕ, suc, ◌+◌, ◌*◌, ◌^◌, ℤ, pos, negsuc, List, [], ◌∷◌, ◌++◌, length, map, All, Bool, true, false, Option, Some, None, refl, sym, ap, subst, inl, inr, ◌∙◌, arith, length-append}
 use Rattle.std.proofs.Math.Nat.{add_comm, mul-suc, mul-zero}
 use Rattle.std.proofs.lemmas.Fmt.{length-decimal-le, length-decimal-le_wide}
-use Rattle.std.proofs.lemmas.Int.{ints}
 use Rattle.std.proofs.lemmas.List.Elements.{All-head, All-tail}
 use Rattle.std.specs.Fmt.{decimal, signed_decimal}
-use Rattle.std.specs.Prelude.{◌⊎◌, ◌<ℤ◌, codes}
+use Rattle.std.specs.Prelude.{◌⊎◌, codes}
 use Rattle.frac128.specs.Terms.{Terms}
 use Rattle.wcc_base.specs.declared.compare.Compare.{Compare}
 use Rattle.wcc_base.specs.declared.compare.Compare.TheVariants.{AtLeast, AtMost, Equal}
@@ -26,10 +25,10 @@ use Rattle.report_laws.specs.Typed.{IsTyped, IsTypedKind, IsTypedLoop, IsTypedNe
 use Rattle.report_words.specs.Words.{Word, Line, address_word, line_text, lines_text, spaced, term_word}
 use Rattle.report_text.specs.declared.entries.CopyLine.{CopyLine}
 use Rattle.report_text.specs.declared.entries.Share.{Share}
-use Rattle.report_text.specs.Forms.{IsColumn, IsFact, IsReport, IsShare, IsTerm}
+use Rattle.report_text.specs.Forms.{IsColumn, IsReport, IsShare}
 use Rattle.report_text.specs.Lines.{cert_lines, claim_lines, column_line, compare_word, copy_line, cycles_line, end_line, exit_line, fact_line, flow_line, head_lines, kind_line, letter, letters, loop_line, more_terms, never_line, paired, potential_line, region_line, report_text, scale_line, share_line, share_name, sum_words, unit_line, version_lines}
 use Rattle.report_text.specs.Reports.{Report}
-use Rattle.report_sizes.specs.Room.{columns_room, copies_room, facts_room, name_length, report_room, shares_room}
+use Rattle.report_sizes.specs.Room.{columns_room, copies_room, facts_room, name_length, report_room, shares_room, terms_room}
 
 -- words, lines and texts
 
@@ -165,21 +164,16 @@ nevers_length (c ∷ cs) (m ∷ ms) t s =
 
 -- sums of terms
 
-number_length : (z : ℤ) → (pos 0 <ℤ z) × (z <ℤ pos (2 ^ 32)) → length (signed_decimal z) ≤ 10
-number_length (pos n) h = let low : n < 2 ^ 32 = omega (arith, ints, h.1) in word_length n low
-number_length (negsuc n) h = absurd (omega (arith, ints, h.0))
+term_length : (t : ℕ × ℤ) → length (term_word t) ≡ 9 + length (signed_decimal t.1)
+term_length t = omega (arith, length-append (signed_decimal t.1) (42 ∷ address_word t.0), address_length t.0)
 
-term_length : (t : ℕ × ℤ) → IsTerm t → length (term_word t) ≤ 19
-term_length t h =
-    omega (arith, length-append (signed_decimal t.1) (42 ∷ address_word t.0), address_length t.0, number_length t.1 h)
+more_length : (ts : Terms) → total (more_terms ts) ≡ terms_room ts
+more_length [] = refl
+more_length (t ∷ ts) = omega (arith, term_length t, more_length ts)
 
-more_length : (ts : Terms) → All IsTerm ts → total (more_terms ts) ≤ 22 * length ts
-more_length [] h = omega arith
-more_length (t ∷ ts) h = omega (arith, term_length t (All-head IsTerm t ts h), more_length ts (All-tail IsTerm t ts h))
-
-sum_length : (ts : Terms) → All IsTerm ts → total (sum_words ts) ≤ 2 + 22 * length ts
-sum_length [] h = omega arith
-sum_length (t ∷ ts) h = omega (arith, term_length t (All-head IsTerm t ts h), more_length ts (All-tail IsTerm t ts h))
+sum_length : (ts : Terms) → total (sum_words ts) ≤ 2 + terms_room ts
+sum_length [] = omega arith
+sum_length (t ∷ ts) = omega (arith, term_length t, more_length ts)
 
 total_append : (xs ys : List Word) → total (xs ++ ys) ≡ total xs + total ys
 total_append [] ys = omega arith
@@ -190,27 +184,27 @@ compare_length AtMost = omega arith
 compare_length AtLeast = omega arith
 compare_length Equal = omega arith
 
-fact_length : (c : FactClaim) (m : ℤ) → IsFact c → IsSmall m → length (line_text (fact_line c m)) ≤ 51 + 22 * (length c.left + length c.right)
-fact_length c m h s =
+fact_length : (c : FactClaim) (m : ℤ) → IsSmall m → length (line_text (fact_line c m)) ≤ 51 + (terms_room c.left + terms_room c.right)
+fact_length c m s =
     omega (
       arith,
       line_length (codes "fact") (signed_decimal m ∷ (sum_words c.left ++ compare_word c.op ∷ sum_words c.right)),
       total_append (sum_words c.left) (compare_word c.op ∷ sum_words c.right),
       small_length m s,
-      sum_length c.left h.left,
+      sum_length c.left,
       compare_length c.op,
-      sum_length c.right h.right,
+      sum_length c.right,
     )
 
-facts_length : (cs : List FactClaim) (ms : List ℤ) → All IsFact cs → All IsSmall ms → length (lines_text (paired fact_line cs ms)) ≤ facts_room cs
-facts_length [] ms h s = omega arith
-facts_length (c ∷ cs) [] h s = omega arith
-facts_length (c ∷ cs) (m ∷ ms) h s =
+facts_length : (cs : List FactClaim) (ms : List ℤ) → All IsSmall ms → length (lines_text (paired fact_line cs ms)) ≤ facts_room cs
+facts_length [] ms s = omega arith
+facts_length (c ∷ cs) [] s = omega arith
+facts_length (c ∷ cs) (m ∷ ms) s =
     omega (
       arith,
       length-append (line_text (fact_line c m)) (lines_text (paired fact_line cs ms)),
-      fact_length c m (All-head IsFact c cs h) (All-head IsSmall m ms s),
-      facts_length cs ms (All-tail IsFact c cs h) (All-tail IsSmall m ms s),
+      fact_length c m (All-head IsSmall m ms s),
+      facts_length cs ms (All-tail IsSmall m ms s),
     )
 
 totals_length : (zs : List ℤ) → All IsSmall zs → total (map signed_decimal zs) ≤ 39 * length zs
@@ -288,9 +282,9 @@ head_length r i t =
       kind_length r.kind t.kind,
     )
 
-claims_length : (c : Claims) (k : Cert) → All IsWord c.exits → All IsTypedNever c.nevers → All IsTypedLoop c.loops → All IsFact c.facts → IsInForm c k
+claims_length : (c : Claims) (k : Cert) → All IsWord c.exits → All IsTypedNever c.nevers → All IsTypedLoop c.loops → IsInForm c k
     → length (lines_text (claim_lines c k)) ≤ room 14 c.exits + (room 76 c.nevers + (room 29 c.regions + (room 145 c.loops + facts_room c.facts)))
-claims_length c k e n l h i =
+claims_length c k e n l i =
     let exits = map exit_line c.exits in
     let nevers = paired never_line c.nevers k.nevers in
     let regions = map region_line c.regions in
@@ -306,7 +300,7 @@ claims_length c k e n l h i =
       nevers_length c.nevers k.nevers n i.small_nevers,
       regions_length c.regions,
       loops_length c.loops k.loops l i.small_loops,
-      facts_length c.facts k.facts h i.small_facts,
+      facts_length c.facts k.facts i.small_facts,
     )
 
 unit_small : (m : Mark) (unit : ℕ) (parts : List Part) → FitsMark m unit parts → unit < 2 ^ 63
@@ -349,7 +343,7 @@ short r i t =
       lines_append shares end,
       head_length r i t,
       copies_length r.names,
-      claims_length r.claims r.cert t.exits t.nevers t.loops i.claims.facts i.certificate,
+      claims_length r.claims r.cert t.exits t.nevers t.loops i.certificate,
       columns_length (length r.claims.facts) r.columns i.columns,
       cert_length r.claims r.cert i.certificate t.parts,
       shares_length r.shares i.shares,

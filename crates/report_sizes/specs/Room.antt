@@ -1,5 +1,7 @@
 -- How many bytes the text of a report has at most, by its lines.
 use Rattle.std.specs.Prelude.{ℕ, ◌+◌, ◌*◌, List, [], ◌∷◌, length, Option, None, Some}
+use Rattle.std.specs.Fmt.{signed_decimal}
+use Rattle.frac128.specs.Terms.{Terms}
 use Rattle.code_flow_system.specs.declared.claims.FactClaim.{FactClaim}
 use Rattle.path_answer.specs.declared.bounded.Column.{Column}
 use Rattle.report_text.specs.declared.entries.CopyLine.{CopyLine}
@@ -11,12 +13,16 @@ abbrev pub copies_room : List CopyLine → ℕ
 copies_room [] = 0
 copies_room (c ∷ cs) = 6 + (length c.name + (9 * length c.places + copies_room cs))
 
--- a fact line has at most 22 bytes for each term
+-- a term has its number, and twelve bytes
+abbrev pub terms_room : Terms → ℕ
+terms_room [] = 0
+terms_room (t ∷ ts) = 12 + (length (signed_decimal t.1) + terms_room ts)
+
 abbrev pub facts_room : List FactClaim → ℕ
 facts_room [] = 0
-facts_room (c ∷ cs) = 51 + (22 * (length c.left + length c.right) + facts_room cs)
+facts_room (c ∷ cs) = 51 + (terms_room c.left + (terms_room c.right + facts_room cs))
 
--- and a column line 39 for each total
+-- a column line has at most 39 bytes for each total
 abbrev pub columns_room : List Column → ℕ
 columns_room [] = 0
 columns_room (c ∷ cs) = 46 + (39 * length c.totals + columns_room cs)

@@ -1,14 +1,15 @@
 //! WCC, a compiler for hard real-time programs that reports a proved bound on their time.
 //!
-//! `wcc` is the top call: words, a store of files and a sink in, a status out. It compiles sources
-//! without restrictions, checks reports on images, runs images, evaluates sources, sums reports up,
-//! makes sources from numbers, and says how long tasks take beside each other. `main` gives it the
-//! real files and the standard output, and ends with the status's code.
+//! `wcc` is the top call: words, a store of files and a sink in, a status out. It compiles sources,
+//! checks reports on images, runs images, evaluates sources, sums reports up, makes sources from
+//! numbers, and says how long tasks take beside each other. `main` gives it the real files and the
+//! standard output, and ends with the status's code.
 //!
 //! Proved, for every store and every sink: at each status what became of the files and of the
 //! printed lines, and why; at Done that a written image does what its source does on every input on
 //! which the source is kept, within the printed cycles, which are the greatest that the written
-//! report allows, that `check` accepts what `compile` wrote, that cycles which are said to hold bound
+//! report allows unless it shows what stopped the search, that each pass had the number that the
+//! words say, that `check` accepts what `compile` wrote, that cycles which are said to hold bound
 //! each finished run that keeps the report's claims, on every input, and that what is printed of a
 //! run is what the machine does.
 #![tactic(auto)]

@@ -4,8 +4,10 @@ ghost use Rattle.wcc_base.specs.declared.status.Status.{Status};
 ghost use Rattle.command_perform.specs.Words.{asked_by};
 ghost use Rattle.command_perform.specs.Ends.{EndsWith};
 ghost use Rattle.command_perform.specs.Checkable.{IsCheckable};
+ghost use Rattle.command_perform.specs.Building.{AreBuilt};
 ghost use Rattle.command_perform.specs.Making.{MakeEnds};
 ghost use Rattle.command_perform.specs.Promises.{IsDone, Answers, CanEnd, NoFault};
+ghost use Rattle.wcc_compile.specs.Written.{IsWritten};
 
 use command_perform::perform;
 use std::alloc::Global;
@@ -22,10 +24,16 @@ pub fn wcc<S: Store, O: Sink>(alloc: Global, words: &[String], store: &mut S, ou
 
     // The promise: on every input on which its source is kept, a written image does what the source
     // does within the printed cycles, and the written report, whose claims are the source's facts,
-    // holds of it; cycles that are said to hold bound each finished run that keeps the claims, on
+    // holds of it, with cycles that are the greatest that it allows unless it shows the number or round
+    // that stopped the search; cycles that are said to hold bound each finished run that keeps the claims, on
     // every input; what is said of a run is what the machine does; and the responses of tasks are the
     // least ones of the cycles that their reports are found to hold, and no job ends later.
     ensures done { result ≡ Status.Done → IsDone (asked_by (map string_bytes words.now)) (S.state store.old) (S.state store.new) (O.state out.old) (O.state out.new) }
+
+    // What `compile` wrote went through every stage with what its words say: the costs of its table, each
+    // pass with its number, so that those of `--inline` and `--unroll` are the ones that were used, and
+    // bounds that are derived where that is asked for. `make` takes no options.
+    ensures built { result ≡ Status.Done → AreBuilt IsWritten (asked_by (map string_bytes words.now)) (S.state store.old) (S.state store.new) }
 
     // What `compile` and `make` wrote, `check` accepts: with the same table it can only end so.
     ensures checked { result ≡ Status.Done → IsCheckable (asked_by (map string_bytes words.now)) (S.state store.old) (S.state store.new) }
@@ -34,10 +42,9 @@ pub fn wcc<S: Store, O: Sink>(alloc: Global, words: &[String], store: &mut S, ou
     ensures make { MakeEnds (asked_by (map string_bytes words.now)) result }
 
     // What can only end in one way ends so, unless a fault is counted or memory runs out: a source
-    // without restrictions is compiled, one with a restriction is answered by its form, a report that
-    // holds is found to hold, an image that exits within the limits is run, a report is summed up, and
-    // tasks whose reports hold and of which none is late have their responses (the laws of
-    // `command_perform`).
+    // that has a program with facts is compiled, a report that holds is found to hold, an image that
+    // exits within the limits is run, a report is summed up, and tasks whose reports hold and of which
+    // none is late have their responses (the laws of `command_perform`).
     ensures succeeds { (s : Status) → CanEnd (asked_by (map string_bytes words.now)) (S.state store.old) s
         → NoFault (S.state store.old) (S.state store.new) (O.state out.old) (O.state out.new)
         → (result ≡ s) ⊎ (result ≡ Status.Memory) }

@@ -17,14 +17,15 @@ module _ (t : Table) (s : Source) (m : Made) (told : Told) (found : Found) (is_t
       let own = has.is_system in
       record {
         version = refl;
-        lines = is_told.lines;
-        claims = is_told.claims;
-        columns = has.bound.columns;
+        lines = is_told.lined;
+        claims = is_told.handed;
+        restricted = is_told.restricted;
         system = has.system;
         is_system = own;
         form = subst (λ l. IsInForm l found.bounded.cert) own.same_claims has.bound.form;
         accepted = has.bound.accepted;
-        marked = has.bound.marked;
+        columns = has.bound.columns;
+        kind = has.bound.kind;
         shared = has.bound.shared;
       }
 

@@ -23,6 +23,6 @@ pub record IsBuilt (options : Options) (source : List ℕ) (b : Built) : Type 0 
   pub all : length b.made.stages.before.items ≡ passes
   -- the last program in the low form with its places, and the image of these, with its claims and lists
   pub made : IsMade names program facts b.made
-  -- the report has the copy lines of these copies, the image's claims by the loops of the source, and the bound of the image's flow system
-  -- under these claims
+  -- the report has the copy lines of these copies, the image's claims by the loops of the source, the restrictions over the copy lines, and
+  -- the bound of the image's flow system under these claims
   pub reported : IsReported (table_of options.costs) names facts b.made b.report

@@ -1,5 +1,5 @@
 -- What is reported of a source is what `compile` promises.
-use Rattle.std.specs.Prelude.{◌≡◌, ℕ, Bool, List, []}
+use Rattle.std.specs.Prelude.{◌≡◌, ℕ, Bool, List}
 use Rattle.rv_core.specs.Table.{Table}
 use Rattle.elf_image.specs.Loading.{IsLoadable, image_of}
 use Rattle.elf_image.specs.Text.{text_of}
@@ -19,8 +19,8 @@ pub record LoadsAsItself (m : Made) : Type 0 where
   pub loadable : IsLoadable (text_of m.laid.image)
   pub same : image_of (text_of m.laid.image) ≡ m.laid.image
 
--- where the source has no restrictions, and image and report have the ranges of their types
+-- where image and report have the ranges of their types
 abbrev pub ReportedAreCompiled : Type 0
 ReportedAreCompiled =
-    (derive : Bool) (source : List ℕ) (names : List (List ℕ)) (program : Program) (facts : Facts) (m : Made) (t : Table) (r : Report) → facts.restrictions ≡ [] → IsSourceBy derive source names program facts → IsMade names program facts m → IsReported t names facts m r → LoadsAsItself m → IsTyped r
+    (derive : Bool) (source : List ℕ) (names : List (List ℕ)) (program : Program) (facts : Facts) (m : Made) (t : Table) (r : Report) → IsSourceBy derive source names program facts → IsMade names program facts m → IsReported t names facts m r → LoadsAsItself m → IsTyped r
     → IsCompiled derive t source (text_of m.laid.image) (report_text r) r

@@ -5,7 +5,8 @@ ghost use Rattle.report_text.specs.Lines.{report_text};
 ghost use Rattle.rv_core.specs.Table.{table_of};
 ghost use Rattle.promise_report.specs.Compiled.{IsCompiled};
 ghost use Rattle.promise_compiler.specs.Lengths.{AreShort};
-ghost use Rattle.promise_compiler.specs.Refusals.{Fails, IsRestricted};
+ghost use Rattle.promise_compiler.specs.Refusals.{Fails};
+ghost use Rattle.wcc_compile.specs.Written.{IsWritten};
 
 use crate::built::written;
 use crate::compiling::compile;
@@ -18,9 +19,9 @@ pub struct WccCompiler;
 /// What is written of a source.
 fn compiled(alloc: Global, source: &[u8], options: &Options) -> Result<Built, Refusal>
     ensures ok { IfOk result (λ b. IsCompiled options.now.derive (table_of options.now.costs) source.now (text_of b.image) (report_text b.report) b.report) }
+    ensures built { IfOk result (λ b. IsWritten options.now source.now (text_of b.image) (report_text b.report)) }
     ensures cycles { IfOk result (λ b. b.report.cert.cycles ≤ 2 ^ 62) }
     ensures short { IfOk result (λ b. length source.now ≤ 1048576 → AreShort (text_of b.image) (report_text b.report)) }
-    ensures form { IsRestricted options.now.derive source.now → IfOk result (λ b. ⊥) }
     ensures err { IfErr result (Fails options.now.derive source.now) }
 {
     match compile(alloc, source, options) {
@@ -30,6 +31,8 @@ fn compiled(alloc: Global, source: &[u8], options: &Options) -> Result<Built, Re
 }
 
 impl Compiler for WccCompiler {
+    ghost builds = { IsWritten };
+
     fn compile(&self, alloc: Global, source: &[u8], options: &Options) -> Result<Built, Refusal> {
         compiled(alloc, source, options)
     }

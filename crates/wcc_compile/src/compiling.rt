@@ -5,13 +5,12 @@ ghost use Rattle.report_text.specs.Lines.{report_text};
 ghost use Rattle.rv_core.specs.Table.{table_of};
 ghost use Rattle.promise_report.specs.Compiled.{IsCompiled};
 ghost use Rattle.promise_compiler.specs.Lengths.{AreShort};
-ghost use Rattle.promise_compiler.specs.Refusals.{Fails, IsRestricted};
+ghost use Rattle.promise_compiler.specs.Refusals.{Fails};
 ghost use Rattle.wcc_compile.specs.Built.{IsBuilt};
 
 use crate::built::Built;
 use crate::stages::built;
 use compile_image::read;
-use facts_laws::one_source;
 use promise_compiler::{Options, Refusal};
 use std::alloc::Global;
 
@@ -21,10 +20,8 @@ pub fn compile(alloc: Global, source: &[u8], options: &Options) -> Result<Built,
     ensures ok { IfOk result (λ b. IsCompiled options.now.derive (table_of options.now.costs) source.now (text_of b.made.laid.image) (report_text b.report) b.report) }
     ensures cycles { IfOk result (λ b. b.report.cert.cycles ≤ 2 ^ 62) }
     ensures short { IfOk result (λ b. length source.now ≤ 1048576 → AreShort (text_of b.made.laid.image) (report_text b.report)) }
-    ensures form { IsRestricted options.now.derive source.now → IfOk result (λ b. ⊥) }
     ensures err { IfErr result (Fails options.now.derive source.now) }
 {
-    one_source();
     let source = read(alloc, source, options.derive)?;
     let built = built(alloc, &source, options);
     source.let_go();

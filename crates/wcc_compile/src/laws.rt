@@ -5,7 +5,7 @@ use compile_reports::reported_hold;
 use compile_runs::reported_run_as_sources;
 use compile_told::{made_are_unplaced, reported_are_lined, reported_tell_facts};
 
-/// The image of a source without restrictions and what is reported of it are what `compile` promises.
+/// The image of a source and what is reported of it are what `compile` promises.
 pub fn reported_are_compiled()
     ensures { ReportedAreCompiled }
 {

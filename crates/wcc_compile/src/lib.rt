@@ -6,14 +6,13 @@
 //! Proved: what [`compile`] answers is what `promise_report` promises (`IsCompiled`): on every input on which the run of the
 //! source is defined and keeps its annotations the image prints and returns what the source does, within the cycles of the
 //! report; the report tells the facts of the source, and the checker accepts it with the image, which both are short enough to
-//! be read by it. `Form` is answered exactly where the source has a restriction, and `Front` with the cause for which it has no
-//! program with facts; memory alone is left open.
+//! be read by it. `Front` is answered with the cause for which the source has no program with facts; memory alone is left open.
 //!
 //! [`Built`] keeps what the source was on the way, and each step is made of the one before it (`specs/Built`): no pass is left
 //! out, the code is that of the last program with each function once, the report has the image's claims and no others.
 //!
-//! [`WccCompiler`] is this call as the commands ask for it: the image and the report alone. The crate knows no files and no
-//! status, and no stage from within.
+//! [`WccCompiler`] is this call as the commands ask for it: the image and the report alone, and that they were built so
+//! (`specs/Written`). The crate knows no files and no status, and no stage from within.
 #![tactic(auto)]
 
 mod built;

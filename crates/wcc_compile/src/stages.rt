@@ -1,5 +1,5 @@
 // The stages from a source to its image and its report.
-ghost use Rattle.std.specs.Prelude.{◌≡◌, ◌≤◌, ◌^◌, ℕ, Bool, List, [], length, IfOk};
+ghost use Rattle.std.specs.Prelude.{◌≡◌, ◌≤◌, ◌^◌, ℕ, Bool, List, length, IfOk};
 ghost use Rattle.elf_image.specs.Text.{text_of};
 ghost use Rattle.promise_compiler.specs.Lengths.{AreShort};
 ghost use Rattle.promise_report.specs.Compiled.{IsCompiled};
@@ -83,8 +83,7 @@ fn reported(alloc: Global, source: &Source, made: &Made, costs: &Costs) -> Resul
 
 /// The image of a source that was read, and the report on it, with these options.
 pub fn built(alloc: Global, source: &Source, options: &Options) -> Result<Built, Memory>
-    requires source { (text : List ℕ) × IsOf text source.now }
-    requires plain { source.now.facts.restrictions ≡ [] }
+    requires { (text : List ℕ) × IsOf text source.now }
     ensures built { IfOk result (λ b. (text : List ℕ) → IsOfBy options.now.derive text source.now → IsBuilt options.now text b) }
     ensures compiled { IfOk result (λ b. (derive : Bool) (text : List ℕ) → IsOfBy derive text source.now → IsCompiled derive (table_of options.now.costs) text (text_of b.made.laid.image) (report_text b.report) b.report) }
     ensures cycles { IfOk result (λ b. b.report.cert.cycles ≤ 2 ^ 62) }

@@ -1,5 +1,6 @@
+use Rattle.facts_restrictions.proofs.Limited.{are_limited}
 use Rattle.compile_runs.proofs.Runs.{runs_as_source}
 use Rattle.compile_runs.proofs.reported_run_as_sources.Goals as goal
 
 pub returns : goal.returns
-returns g = λ source names program facts m t r is made reported. runs_as_source names program facts m t r made reported
+returns g = λ source names program facts m t r is made reported. runs_as_source names program facts m t r (are_limited source names program facts is) made reported

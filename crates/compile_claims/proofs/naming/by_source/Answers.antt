@@ -32,26 +32,29 @@ new-requires c =
     let many = length-map x.loops (by_entries (map loop_entry c.deref.result.now)) in
     let nevers = length_permutation (flat_map (nevers_at c.args.places.now) c.deref-2.result.now) c.in_ok-nevers.nevers.items c.in_ok-nevers.ensures.all in
     let marks = ap (λ vs. length (flat_map (nevers_at c.args.places.now) vs)) c.deref-2.ensures.value in
-    let plain = ap (λ (l : List Never). length l) c.requires.plain in
-    let none = ap (λ l. length l) c.new-facts.ensures.items in
     let few = c.requires.few in
-    omega (arith, exits, regions, loops, many, nevers, marks, plain, none, few)
+    omega (arith, exits, regions, loops, many, nevers, marks, few)
 
-pub returns : goal.returns
-returns c =
+pub returns-clause-handed : goal.returns-clause-handed
+returns-clause-handed c =
     let x = c.args.claims.now in
     let es = map loop_entry c.args.copies.now.loops.items in
     let nevers = c.in_ok-nevers.nevers.items in
     let loops = c.in_ok-named.ensures ∙ ap (map (by_entries (map loop_entry c.deref.result.now))) c.loops.ensures.value ∙ ap (λ vs. map (by_entries (map loop_entry vs)) x.loops) c.deref.ensures.value in
     let is =
     c.new.ensures
-    ∙ ap (λ v. claims_of v nevers c.in_ok-regions.regions.items c.in_ok-named.named.items c.new-facts.result.items) (c.in_ok-exits.ensures.items ∙ c.exits.ensures.value)
-    ∙ ap (λ v. claims_of x.exits nevers v c.in_ok-named.named.items c.new-facts.result.items) (c.in_ok-regions.ensures.items ∙ c.regions.ensures.value)
-    ∙ ap (λ v. claims_of x.exits nevers x.regions v c.new-facts.result.items) loops
-    ∙ ap (λ v. claims_of x.exits nevers x.regions (map (by_entries es) x.loops) v) (c.new-facts.ensures.items ∙ sym c.requires.facts) in
+    ∙ ap (λ v. claims_of v nevers c.in_ok-regions.regions.items c.in_ok-named.named.items c.args.facts.items) (c.in_ok-exits.ensures.items ∙ c.exits.ensures.value)
+    ∙ ap (λ v. claims_of x.exits nevers v c.in_ok-named.named.items c.args.facts.items) (c.in_ok-regions.ensures.items ∙ c.regions.ensures.value)
+    ∙ ap (λ v. claims_of x.exits nevers x.regions v c.args.facts.items) loops in
     let own : AreNevers c.args.places.now c.args.copies.now.nevers.items nevers = subst (λ vs. AreNevers c.args.places.now vs nevers) c.deref-2.ensures.value c.in_ok-nevers.ensures in
     let same = ap (λ k. k.nevers) is in
+    let facts = ap (λ k. k.facts) is in
     record {
-      claims = subst (λ vs. c.new.result ≡ claims_of x.exits vs x.regions (map (by_entries es) x.loops) x.facts) (sym same) is;
+      claims =
+          subst (λ fs. c.new.result ≡ claims_of x.exits c.new.result.nevers x.regions (map (by_entries es) x.loops) fs) (sym facts)
+          (subst (λ vs. c.new.result ≡ claims_of x.exits vs x.regions (map (by_entries es) x.loops) c.args.facts.items) (sym same) is);
       nevers = subst (AreNevers c.args.places.now c.args.copies.now.nevers.items) (sym same) own;
     }
+
+pub returns-clause-facts : goal.returns-clause-facts
+returns-clause-facts c = ap (λ k. k.facts) c.new.ensures

@@ -1,10 +1,10 @@
 use Rattle.std.proofs.Common.{sym, subst}
 use Rattle.code_flow_system.specs.Systems.{IsSystemOf}
-use Rattle.compile_handed.specs.Handed.{AreHandedOn}
+use Rattle.compile_reporting.specs.Found.{AreClaimsOf}
 use Rattle.compile_reporting.proofs.finding.find.Goals as goal
 
 pub find_in-requires-clause-claims : goal.find_in-requires-clause-claims
-find_in-requires-clause-claims c = subst (AreHandedOn c.args.made.now) (sym c.in_ok-system.ensures.same_claims) c.requires.claims
+find_in-requires-clause-claims c = subst (AreClaimsOf c.args.source.now c.args.made.now) (sym c.in_ok-system.ensures.same_claims) c.requires.claims
 
 pub find_in-requires-clause-system : goal.find_in-requires-clause-system
 find_in-requires-clause-system c = subst (λ l. IsSystemOf c.args.made.now.laid.image l c.in_ok-system.system) (sym c.in_ok-system.ensures.same_claims) c.in_ok-system.ensures

@@ -9,10 +9,10 @@ returns-in-Ok c =
     let found = c.in-Ok.ensures in
     let bounded = c.in-Ok.bounded in
     record {
-      form = found.form;
-      accepted = found.accepted;
-      marked = found.kind;
-      columns = found.columns;
+      form = found.found.form;
+      accepted = found.found.accepted;
+      columns = found.found.columns;
+      kind = found.found.kind;
       shared = subst (λ l. AreShared bounded.kind (map (with_sum (table_of c.args.costs.now) c.args.system.now bounded.cert.flow.parts) l) c.shared-shares.result.items) c.in_ok-ranges.ensures c.shared-shares.ensures;
       cycles = found.cycles;
     }

@@ -13,12 +13,14 @@ pub unreachable-requires : goal.unreachable-requires
 unreachable-requires c =
     let h = c.requires.made in
     let s = c.args.source.now in
+    let told = c.requires.claims in
     let fault = c.in-Err-BadClaim.field-0 in
-    not_bad c.in-Err-BadClaim.field-0-0 (sym c.in-Err-BadClaim.field-0-is ∙ c.made_have_systems.ensures h.text (names_of s) (tree_of s) s.facts c.args.made.now c.args.claims.now fault h.is_source h.is_made c.requires.claims c.in-Err-BadClaim.ensures.err)
+    not_bad c.in-Err-BadClaim.field-0-0 (sym c.in-Err-BadClaim.field-0-is ∙ c.made_have_systems.ensures h.text (names_of s) (tree_of s) s.facts c.args.made.now told.0 c.args.claims.now fault h.is_source h.is_made told.1 c.in-Err-BadClaim.ensures.err)
 
 pub unreachable-requires-in-Err-NotCode : goal.unreachable-requires-in-Err-NotCode
 unreachable-requires-in-Err-NotCode c =
     let h = c.requires.made in
     let s = c.args.source.now in
+    let told = c.requires.claims in
     let fault = c.in-Err-NotCode.field-0 in
-    not_missing c.in-Err-NotCode.field-0-0 (sym c.in-Err-NotCode.field-0-is ∙ c.made_have_systems.ensures h.text (names_of s) (tree_of s) s.facts c.args.made.now c.args.claims.now fault h.is_source h.is_made c.requires.claims c.in-Err-NotCode.ensures.err)
+    not_missing c.in-Err-NotCode.field-0-0 (sym c.in-Err-NotCode.field-0-is ∙ c.made_have_systems.ensures h.text (names_of s) (tree_of s) s.facts c.args.made.now told.0 c.args.claims.now fault h.is_source h.is_made told.1 c.in-Err-NotCode.ensures.err)

@@ -1,4 +1,4 @@
-use Rattle.std.proofs.Common.{◌^◌, ◌≤◌, length, sym, subst}
+use Rattle.std.proofs.Common.{◌^◌, ◌≤◌, length, ap, sym, subst}
 use Rattle.rv_core.specs.Images.{Image}
 use Rattle.rv_core.specs.Table.{table_of}
 use Rattle.elf_image.specs.Text.{text_of}
@@ -27,3 +27,8 @@ returns-in-Ok-clause-short c =
     let image = c.written.result.image in
     λ small. subst (λ (r : Report). AreShort (text_of image) (report_text r)) (sym c.written.ensures.report)
     (subst (λ (i : Image). AreShort (text_of i) (report_text built.report)) (sym c.written.ensures.image) (c.in-Ok.ensures.short small))
+
+pub returns-in-Ok-clause-built : goal.returns-in-Ok-clause-built
+returns-in-Ok-clause-built c =
+    let written = c.written.ensures in
+    record { built = c.in-Ok.built; is_built = c.in-Ok.ensures.built; image_is = ap text_of written.image; report_is = ap report_text written.report }

@@ -1,11 +1,9 @@
-use Rattle.std.proofs.Common.{sym, ap, ◌∙◌}
-use Rattle.facts_definitions.specs.declared.facts.Facts.{Facts}
 use Rattle.facts_front.proofs.Ways.{one_way}
 use Rattle.compile_reporting.specs.Sources.{names_of, tree_of}
 use Rattle.wcc_compile.proofs.compiling.compile.Goals as goal
 
-pub built-built-requires-clause-source : goal.built-built-requires-clause-source
-built-built-requires-clause-source c =
+pub built-built-requires : goal.built-built-requires
+built-built-requires c =
     let s = c.in_ok-source.source in
     (c.args.source.now, one_way c.args.options.now.derive c.args.source.now (names_of s) (tree_of s) s.facts c.in_ok-source.ensures.source)
 
@@ -19,10 +17,3 @@ pub returns-in-Ok-clause-short : goal.returns-in-Ok-clause-short
 returns-in-Ok-clause-short c =
     let s = c.in_ok-source.source in
     c.in-Ok.ensures.short c.args.source.now (one_way c.args.options.now.derive c.args.source.now (names_of s) (tree_of s) s.facts c.in_ok-source.ensures.source)
-
-pub returns-in-Ok-clause-form : goal.returns-in-Ok-clause-form
-returns-in-Ok-clause-form c =
-    let s = c.in_ok-source.source in
-    λ r.
-    let same = c.one_source.ensures c.args.options.now.derive c.args.source.now (names_of s) r.names (tree_of s) r.program s.facts r.facts c.in_ok-source.ensures.source r.is_source in
-    r.restricted (sym (ap (λ (f : Facts). f.restrictions) same.2) ∙ c.in_ok-source.ensures.plain)

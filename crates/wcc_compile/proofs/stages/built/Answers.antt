@@ -3,7 +3,7 @@ use Rattle.compile_reporting.specs.Sources.{names_of, tree_of}
 use Rattle.wcc_compile.proofs.stages.built.Goals as goal
 
 pub reported-requires : goal.reported-requires
-reported-requires c = record { text = c.requires.source.0; is_source = c.requires.source.1; is_made = c.in_ok-made.ensures.made }
+reported-requires c = record { text = c.requires.0; is_source = c.requires.1; is_made = c.in_ok-made.ensures.made }
 
 pub returns-in-Ok-clause-built : goal.returns-in-Ok-clause-built
 returns-in-Ok-clause-built c =
@@ -27,7 +27,7 @@ returns-in-Ok-clause-compiled c =
     let m = c.in_ok-made.made in
     let r = c.in-Ok.report in
     λ derive text is.
-    c.reported_are_compiled.ensures derive text (names_of s) (tree_of s) s.facts m t r c.requires.plain is c.in_ok-made.ensures.made c.in-Ok.ensures.reported (record { loadable = c.read_of_write.ensures.loads; same = c.read_of_write.ensures.same }) c.in-Ok.ensures.typed
+    c.reported_are_compiled.ensures derive text (names_of s) (tree_of s) s.facts m t r is c.in_ok-made.ensures.made c.in-Ok.ensures.reported (record { loadable = c.read_of_write.ensures.loads; same = c.read_of_write.ensures.same }) c.in-Ok.ensures.typed
 
 pub returns-in-Ok-clause-short : goal.returns-in-Ok-clause-short
 returns-in-Ok-clause-short c =

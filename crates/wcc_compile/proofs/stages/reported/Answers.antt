@@ -5,6 +5,9 @@ use Rattle.compile_reporting.specs.Sources.{IsReportOn}
 use Rattle.wcc_compile.proofs.Reports.{is_report, is_reported}
 use Rattle.wcc_compile.proofs.stages.reported.Goals as goal
 
+pub find-requires-clause-claims : goal.find-requires-clause-claims
+find-requires-clause-claims c = (c.in_ok-told.told.lines.items, c.in_ok-told.ensures)
+
 pub joined-requires : goal.joined-requires
 joined-requires c =
     is_report (table_of c.args.costs.now) c.args.source.now c.args.made.now c.in_ok-told.told c.in-Ok.found c.in_ok-told.ensures c.in-Ok.ensures c.reported_are_reports.ensures c.requires

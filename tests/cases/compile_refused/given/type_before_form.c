@@ -1,1 +1,0 @@
-int main(void){_Pragma("flowrestriction 1*main <= 1*main") return x;}

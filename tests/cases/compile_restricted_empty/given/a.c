@@ -1,0 +1,1 @@
+int main(void){_Pragma("marker a") return 0;_Pragma("flowrestriction 1*a <= 0*a")}
