@@ -79,7 +79,6 @@ Answers asked old new out out' status.WriteFault = IsUnwritten asked old new out
 Answers asked old new out out' status.Memory = NoneFailed old new ⊎ IsUntold old new out out'
 Answers asked old new out out' (status.No code detail at) = IsRefused asked old (status.No code detail at) × IsUnchanged old new
 Answers asked old new out out' (status.Stopped kind code at cycles) = HasStopped asked old new (status.Stopped kind code at cycles)
-Answers asked old new out out' s = ⊥
 
 -- the files are within their limits, and whatever the command refuses them with or makes of them has this status
 pub record CanOnly (c : Command) (contents : List (List ℕ)) (s : Status) : Type 0 where

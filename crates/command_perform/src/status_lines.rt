@@ -157,6 +157,6 @@ pub fn report_status<O: Sink>(out: &mut O, status: Status) -> Status
         Status::WriteFault => report(out, status, &[Part::Word("write fault\n")]),
         Status::Memory => report(out, status, &[Part::Word("memory\n")]),
         Status::No { code, detail, at } => report(out, status, &failed_parts(code, detail, at)),
-        Status::Done | Status::Stopped { .. } | Status::Form => report(out, status, &[]),
+        Status::Done | Status::Stopped { .. } => report(out, status, &[]),
     }
 }

@@ -40,8 +40,6 @@ pub enum Status {
         at: u32,
         cycles: u64,
     },
-    /// The source is of a form that isn't compiled yet.
-    Form,
 }
 
 impl Status {
@@ -61,7 +59,6 @@ impl Status {
             Status::Memory => 6,
             Status::No { .. } => 7,
             Status::Stopped { .. } => 8,
-            Status::Form => 9,
         }
     }
 }
