@@ -1,13 +1,10 @@
 // From a source to its image, a function for each stage.
-ghost use Rattle.std.specs.Prelude.{◌≡◌, ℕ, List, map, IfOk};
+ghost use Rattle.std.specs.Prelude.{◌≡◌, ℕ, List, IfOk};
 ghost use Rattle.facts_front.specs.Fronts.{IsSource};
 ghost use Rattle.types_tree.specs.View.{program_of as source_of};
 ghost use Rattle.high_ir.specs.Programs.{program_of};
 ghost use Rattle.high_pass.specs.Listing.{listing_of};
-ghost use Rattle.low_ir.specs.Places.{in_slots};
-ghost use Rattle.low_ir.specs.Placings.{placed_of, placings_of};
-ghost use Rattle.low_ir.specs.Programs.{low_of};
-ghost use Rattle.lower_law.specs.Programs.{KeepsProgram};
+ghost use Rattle.low_ir.specs.Placings.{placed_of};
 ghost use Rattle.image_sizes.specs.Sizes.{HasSizes};
 ghost use Rattle.compile_kept.specs.Limits.{nothing};
 ghost use Rattle.compile_kept.specs.Carried.{IsPlanned};
@@ -18,9 +15,11 @@ use facts_front::Source;
 use high_ir::{Carried, High};
 use high_make::make;
 use image_memory::Placement;
-use low_ir::{LowReg, all_slots};
+use low_ir::LowReg;
 use low_layout::{Laid, lay};
+use low_live::live;
 use low_make::lower;
+use low_registers::allocate;
 use std::alloc::Global;
 use wcc_base::Memory;
 
@@ -32,13 +31,14 @@ pub fn planned(alloc: Global, source: &Source) -> Result<Carried, Memory>
     make(alloc, &source.typed, &source.facts)
 }
 
-/// A program in the low form, with a slot for each register.
+/// A program in the low form, with machine registers for its registers, and slots where there are too few.
 fn code_of(alloc: Global, program: &High) -> Result<LowReg, Memory>
-    ensures keeps { IfOk result (λ c. KeepsProgram (program_of program.now) (low_of c.low)) }
-    ensures slots { IfOk result (λ c. placings_of c ≡ map in_slots (low_of c.low).functions) }
+    ensures { IfOk result (IsLowered (program_of program.now)) }
 {
     let low = lower(alloc, program)?;
-    all_slots(alloc, low)
+    let live = live(alloc, &low)?;
+    let code = allocate(alloc, low, &live)?;
+    Ok(code)
 }
 
 /// A source in the low form: its last program there, over its places.

@@ -1,5 +1,5 @@
 -- How much a program in memory has of what is reported.
-use Rattle.std.proofs.Common.{◌≡◌, ℕ, ◌+◌, ◌≤◌, List, [], ◌∷◌, ◌++◌, length, map, length-append, Option, Some, None, refl, sym, ap, subst, arith, All}
+use Rattle.std.proofs.Common.{◌≡◌, ℕ, ◌+◌, ◌≤◌, List, [], ◌∷◌, ◌++◌, length, map, length-append, Option, Some, None, refl, sym, ap, arith, All}
 use Rattle.std.specs.Prelude.{sum_by}
 use Rattle.std.proofs.lemmas.List.{length-map}
 use Rattle.std.proofs.lemmas.List.Concat.{flat_map-cons}
@@ -11,7 +11,7 @@ use Rattle.high_ir.specs.Standing.{loops_in, loops_of, loops_of_all}
 use Rattle.high_ir.specs.Tree.{Statement, Set, Put, Get, Keep, Mark, Seq, If, Loop, Block, Leave, Call, Return, Statements, End, Then, Function, Program}
 use Rattle.low_ir.specs.Code as low
 use Rattle.low_ir.specs.Code.{Low, Note}
-use Rattle.low_ir.specs.Places.{Placed, assignment, placed}
+use Rattle.low_ir.specs.Places.{Placed}
 use Rattle.low_ir.specs.Placings.{assignment_of, placed_of}
 use Rattle.low_ir.specs.Programs.{low_of}
 use Rattle.low_ir.specs.declared.places.LowReg.{LowReg}
@@ -31,7 +31,7 @@ use Rattle.simulation_marks.proofs.Standing.{all_few, all_stand}
 use Rattle.compile_made.specs.Made.{IsInMemory, IsLowered}
 use Rattle.compile_kept.specs.Limits.{IsLimited, nothing}
 use Rattle.compile_sizes.proofs.Functions.{functions_few}
-use Rattle.compile_sizes.proofs.Sizes.{slotted_fit}
+use Rattle.compile_sizes.proofs.Sizes.{limited_fit}
 use Rattle.compile_told.proofs.Unplaced.{moves_none}
 use Rattle.compile_lengths.proofs.Ends.{code_ends}
 use Rattle.compile_lengths.proofs.Images.{globals_few, text_length}
@@ -113,8 +113,7 @@ module _ (p : Program) (is_high : IsHigh p) (limited : IsLimited p) (code : LowR
   operations_few = limited.budgets.operations
 
   sizes : HasSizes nothing over
-  sizes =
-      subst (λ ps. HasSizes nothing (placed (assignment ps) q)) (sym lowered.slots) (slotted_fit p q limited lowered.keeps_program)
+  sizes = limited_fit p q (assignment_of code) limited lowered.keeps_program lowered.slots
 
   instructions : instructions_in nothing over ≤ 1589248
   instructions =

@@ -1,14 +1,14 @@
 -- What a source becomes, from stage to stage.
-use Rattle.std.specs.Prelude.{◌≡◌, ℕ, List, length, map}
+use Rattle.std.specs.Prelude.{ℕ, List, length}
 use Rattle.facts_definitions.specs.declared.facts.Facts.{Facts}
 use Rattle.types_tree.specs.Tree as c
 use Rattle.high_ir.specs.Programs.{program_of}
 use Rattle.high_ir.specs.Tree.{Program}
 use Rattle.high_pass.specs.Listing.{Listing, listing_of}
 use Rattle.low_ir.specs.declared.places.LowReg.{LowReg}
-use Rattle.low_ir.specs.Places.{in_slots}
 use Rattle.low_ir.specs.Placings.{placings_of}
 use Rattle.low_ir.specs.Programs.{low_of}
+use Rattle.low_registers.specs.Spills.{HaveFewSlots, SpillWhereCrowded}
 use Rattle.lower_law.specs.Programs.{KeepsProgram}
 use Rattle.layout_laid.specs.declared.laid.Laid.{Laid}
 use Rattle.layout_laid.specs.Laid.{IsLaid}
@@ -17,10 +17,11 @@ use Rattle.compile_kept.specs.Limits.{nothing}
 use Rattle.compile_kept.specs.Carried.{IsCarried}
 use Rattle.compile_made.specs.declared.made.Made.{Made}
 
--- a program in the low form, with a slot for each register
+-- a program in the low form, with a place for each register: a slot only where more than 24 intervals cover a place of its own
 pub record IsLowered (program : Program) (code : LowReg) : Type 0 where
   pub keeps_program : KeepsProgram program (low_of code.low)
-  pub slots : placings_of code ≡ map in_slots (low_of code.low).functions
+  pub spills : SpillWhereCrowded (low_of code.low) (placings_of code)
+  pub slots : HaveFewSlots (low_of code.low) (placings_of code)
 
 -- its image, with nothing in the scratchpad
 pub record IsInMemory (code : LowReg) (y : Laid) : Type 0 where

@@ -12,7 +12,7 @@ use Rattle.low_ir.specs.Code.{Low}
 use Rattle.low_ir.specs.Places.{Assignment, placed}
 use Rattle.lower_law.specs.Programs.{KeepsProgram}
 use Rattle.image_sizes.specs.Sizes.{HasSizes}
-use Rattle.compile_kept.specs.Limits.{HasFewSlots, IsLimited, nothing, slotted}
+use Rattle.compile_kept.specs.Limits.{HasFewSlots, IsLimited, nothing}
 
 -- the plan of a source keeps the limits
 abbrev pub PlansKeepLimits : Type 0
@@ -25,7 +25,3 @@ PassesKeepLimits = (old new : high.Program) (listing : Listing) → IsLawful old
 -- over whatever places the low program of such a program is
 abbrev pub LimitedProgramsFit : Type 0
 LimitedProgramsFit = (p : high.Program) (q : Low) (a : Assignment) → IsLimited p → KeepsProgram p q → HasFewSlots a q → HasSizes nothing (placed a q)
-
--- where each register has a slot
-abbrev pub SlottedProgramsFit : Type 0
-SlottedProgramsFit = (p : high.Program) (q : Low) → IsLimited p → KeepsProgram p q → HasSizes nothing (slotted q)

@@ -1,5 +1,5 @@
 // The laws of the sizes of sources.
-ghost use Rattle.compile_sizes.specs.Laws.{LimitedProgramsFit, PassesKeepLimits, PlansKeepLimits, SlottedProgramsFit};
+ghost use Rattle.compile_sizes.specs.Laws.{LimitedProgramsFit, PassesKeepLimits, PlansKeepLimits};
 
 /// The plan of a source keeps the limits.
 pub fn plans_keep_limits()
@@ -11,12 +11,7 @@ pub fn passes_keep_limits()
     ensures { PassesKeepLimits }
 {}
 
-/// The code and the data of such a program have room, over whatever places.
+/// The code and the data of such a program have room, over whatever places with no more slots than registers.
 pub fn limited_programs_fit()
     ensures { LimitedProgramsFit }
-{}
-
-/// And so over slots, one for each register.
-pub fn slotted_programs_fit()
-    ensures { SlottedProgramsFit }
 {}

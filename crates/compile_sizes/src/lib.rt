@@ -8,12 +8,11 @@
 //! that is at most 1,623,040 bytes, of 2,097,152.
 //!
 //! The plan of a source is such a program by the limits of the language ([`plans_keep_limits`]), and passes leave it one
-//! ([`passes_keep_limits`]). So whatever passes make of a source has room where each register has a slot of its own
-//! ([`slotted_programs_fit`]).
+//! ([`passes_keep_limits`]). So whatever passes make of a source has room, over any places with no more slots than registers.
 //!
 //! The crate knows no runs and no image.
 #![tactic(auto)]
 
 mod laws;
 
-pub use laws::{limited_programs_fit, passes_keep_limits, plans_keep_limits, slotted_programs_fit};
+pub use laws::{limited_programs_fit, passes_keep_limits, plans_keep_limits};

@@ -1,15 +1,14 @@
 use Rattle.std.proofs.Common.{length, sym, subst}
 use Rattle.high_ir.specs.Programs.{program_of}
 use Rattle.high_pass.specs.Listing.{listing_of}
-use Rattle.low_ir.specs.Places.{assignment, placed}
-use Rattle.low_ir.specs.Placings.{placed_of}
+use Rattle.low_ir.specs.Placings.{assignment_of}
 use Rattle.low_ir.specs.Programs.{low_of}
 use Rattle.low_ir.specs.declared.places.LowReg.{LowReg}
 use Rattle.image_sizes.specs.Sizes.{HasSizes}
 use Rattle.layout_laid.specs.declared.laid.Laid.{Laid}
 use Rattle.compile_kept.specs.Limits.{nothing}
 use Rattle.compile_kept.specs.Carried.{IsCarried}
-use Rattle.compile_sizes.proofs.Sizes.{slotted_fit}
+use Rattle.compile_sizes.proofs.Sizes.{limited_fit}
 use Rattle.compile_made.specs.Made.{IsInMemory, IsLowered}
 use Rattle.compile_made.specs.declared.made.Stages.{Stages}
 use Rattle.compile_passes.specs.Passes.{AreStages, passes, stages_of}
@@ -22,7 +21,7 @@ laid-requires c =
     let code = c.in_ok-lowered.lowered.code in
     let low = low_of code.low in
     let lowered = c.in_ok-lowered.ensures.code in
-    subst (λ ps. HasSizes nothing (placed (assignment ps) low)) (sym lowered.slots) (slotted_fit p low c.in_ok-stages.ensures.begun.carried.limited lowered.keeps_program)
+    limited_fit p low (assignment_of code) c.in_ok-stages.ensures.begun.carried.limited lowered.keeps_program lowered.slots
 
 pub returns-clause-stages : goal.returns-clause-stages
 returns-clause-stages c =

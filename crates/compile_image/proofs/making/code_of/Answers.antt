@@ -1,0 +1,18 @@
+use Rattle.std.proofs.Common.{subst, sym}
+use Rattle.low_ir.specs.declared.low.Low.{Low}
+use Rattle.low_ir.specs.Placings.{placings_of}
+use Rattle.low_ir.specs.Programs.{low_of}
+use Rattle.high_ir.specs.Programs.{program_of}
+use Rattle.low_registers.specs.Spills.{HaveFewSlots, SpillWhereCrowded}
+use Rattle.lower_law.specs.Programs.{KeepsProgram}
+use Rattle.compile_image.proofs.making.code_of.Goals as goal
+
+pub returns : goal.returns
+returns c =
+    let code = c.in_ok-code.code in
+    let same = sym c.in_ok-code.ensures.low in
+    record {
+      keeps_program = subst (λ (l : Low). KeepsProgram (program_of c.args.program.now) (low_of l)) same c.in_ok-low.ensures;
+      spills = subst (λ (l : Low). SpillWhereCrowded (low_of l) (placings_of code)) same c.in_ok-code.ensures.spills;
+      slots = subst (λ (l : Low). HaveFewSlots (low_of l) (placings_of code)) same c.in_ok-code.ensures.slots;
+    }
