@@ -45,7 +45,7 @@ fn placing_in(
     requires { AreInOrder (function_of function.now).size order.now }
     ensures { IfOk result (λ p. IsScannedPlacing (function_of function.now) order.now (placing_of p)) }
 {
-    let tastes = Tastes::new(alloc, function, known)?;
+    let tastes = Tastes::new(alloc, function, order, known)?;
     let scan = scan_all(alloc, order, function.registers, &tastes)?;
     let placing = masked(alloc, function, order, scan)?;
     Ok(placing)

@@ -153,11 +153,11 @@ impl Scan {
     fn cheapest(&self, new: Lasting, tastes: &Tastes) -> Option<u8>
         ensures { IfSome result (λ q. q < machine_registers) }
     {
-        let mut least = tastes.worth(new.register);
+        let mut least = tastes.worth(new);
         let mut cheapest = None;
         for machine in 0..MACHINE {
             if let Some(holder) = holder_at(&self.holders, u32::from(machine)) {
-                let worth = tastes.worth(holder.register);
+                let worth = tastes.worth(holder);
                 if worth < least {
                     least = worth;
                     cheapest = Some(machine);

@@ -9,6 +9,12 @@ use wcc_base::{Items, Memory};
 /// The number of no register.
 const NO_REGISTER: u32 = 0xffff_ffff;
 
+/// Of how many parts a use is.
+const PARTS: u64 = 65536;
+
+/// How many copies of copies are followed.
+const COPIES: u8 = 4;
+
 /// All machine registers.
 const ALL: u32 = 0xff_ffff;
 
@@ -25,11 +31,15 @@ pub struct Known {
 #[derive(Drop)]
 pub struct Tastes {
     /// How much each is used: eight times as much in a loop, at most six deep.
-    worths: Vec<u64>,
+    uses: Vec<u64>,
     /// The machine registers in which calls want it as an argument.
     wished: Vec<u32>,
     /// The register of which it is a copy.
+    sources: Vec<u32>,
+    /// The register that is a copy of it.
     copies: Vec<u32>,
+    /// Its interval, where it has one.
+    intervals: Vec<Option<Lasting>>,
     /// By place of the code, how many calls are before.
     calls: Vec<u32>,
     /// The machine registers that calls may change.
@@ -56,6 +66,19 @@ fn number_at(numbers: &[u32], at: usize) -> u32 {
     match numbers.get(at) {
         None => 0,
         Some(number) => *number,
+    }
+}
+
+fn number_or_none(numbers: &[u32], register: u32) -> u32 {
+    match numbers.get(register as usize) {
+        None => NO_REGISTER,
+        Some(number) => *number,
+    }
+}
+
+fn set_number(numbers: &mut [u32], at: u32, new: u32) {
+    if let Some(number) = numbers.get_mut(at as usize) {
+        *number = new;
     }
 }
 
@@ -87,6 +110,25 @@ fn depths(alloc: Global, loops: &[Loop], blocks: usize) -> Result<Vec<u32>, Memo
         depth = depth.wrapping_sub(number_at(&closed, block));
     }
     Ok(depths)
+}
+
+/// By register, its interval.
+fn intervals_of(
+    alloc: Global,
+    order: &[Lasting],
+    registers: usize,
+) -> Result<Vec<Option<Lasting>>, Memory> {
+    let mut intervals = vec![in alloc; None; registers]?;
+    for each in order {
+        set_interval(&mut intervals, *each);
+    }
+    Ok(intervals)
+}
+
+fn set_interval(intervals: &mut [Option<Lasting>], new: Lasting) {
+    if let Some(interval) = intervals.get_mut(new.register as usize) {
+        *interval = Some(new);
+    }
 }
 
 /// How much a use counts so deep in loops.
@@ -221,7 +263,7 @@ impl Known {
 impl Tastes {
     fn count(&mut self, register: Option<u32>, worth: u64) {
         if let Some(register) = register {
-            if let Some(sum) = self.worths.get_mut(register as usize) {
+            if let Some(sum) = self.uses.get_mut(register as usize) {
                 *sum = sum.saturating_add(worth);
             }
         }
@@ -229,9 +271,8 @@ impl Tastes {
 
     fn copy(&mut self, into: u32, of: Operand) {
         if let Operand::Register(of) = of {
-            if let Some(copied) = self.copies.get_mut(into as usize) {
-                *copied = of;
-            }
+            set_number(&mut self.sources, into, of);
+            set_number(&mut self.copies, of, into);
         }
     }
 
@@ -275,13 +316,20 @@ impl Tastes {
         Ok(())
     }
 
-    /// Those of a function, by what is known of the functions that it may call.
-    pub fn new(alloc: Global, function: &Function, known: &Known) -> Result<Tastes, Memory> {
+    /// Those of a function, by its intervals and what is known of the functions that it may call.
+    pub fn new(
+        alloc: Global,
+        function: &Function,
+        order: &[Lasting],
+        known: &Known,
+    ) -> Result<Tastes, Memory> {
         let registers = function.registers as usize;
         let mut tastes = Tastes {
-            worths: vec![in alloc; 0u64; registers]?,
+            uses: vec![in alloc; 0u64; registers]?,
             wished: vec![in alloc; 0u32; registers]?,
+            sources: vec![in alloc; NO_REGISTER; registers]?,
             copies: vec![in alloc; NO_REGISTER; registers]?,
+            intervals: intervals_of(alloc, order, registers)?,
             calls: vec![in alloc; 0u32; 1]?,
             changed: known.changed_by(&function.blocks),
         };
@@ -292,37 +340,92 @@ impl Tastes {
         Ok(tastes)
     }
 
-    /// How much a register is used.
-    pub fn worth(&self, register: u32) -> u64 {
-        match self.worths.get(register as usize) {
+    fn uses(&self, register: u32) -> u64 {
+        match self.uses.get(register as usize) {
             None => 0,
-            Some(worth) => *worth,
+            Some(uses) => *uses,
         }
     }
 
-    /// The machine register of the register of which it is a copy.
-    fn copied_from(&self, register: u32, places: &[Place]) -> u32 {
-        match self.copies.get(register as usize) {
-            None => 0,
-            Some(of) => match places.get(*of as usize) {
-                None => 0,
-                Some(place) => bit_of(*place),
-            },
+    /// What it is worth that a register has a machine register: how much it is used at each place of its interval. One that
+    /// lives long and is used little stands in the way of many that live shortly.
+    pub fn worth(&self, register: Lasting) -> u64 {
+        let uses = self.uses(register.register).saturating_mul(PARTS);
+        let places = register.last.wrapping_sub(register.first).wrapping_add(1);
+        if places == 0 {
+            return uses;
         }
+        uses / places as u64
+    }
+
+    fn interval(&self, register: u32) -> Option<Lasting> {
+        match self.intervals.get(register as usize) {
+            None => None,
+            Some(interval) => *interval,
+        }
+    }
+
+    /// The machine register of one that has its place already, which is one whose interval began before.
+    fn placed(&self, register: u32, before: usize, places: &[Place]) -> u32 {
+        match self.interval(register) {
+            None => 0,
+            Some(interval) => {
+                if interval.first < before {
+                    bit_of(place_at(places, register))
+                } else {
+                    0
+                }
+            }
+        }
+    }
+
+    fn lives_over_call(&self, interval: Lasting) -> bool {
+        let before = number_at(&self.calls, interval.first.wrapping_add(1));
+        let behind = number_at(&self.calls, interval.last.wrapping_add(1));
+        before != behind
+    }
+
+    /// The interval of a copy that begins where that of its source has ended, so that both can have one machine register.
+    fn copy_behind(&self, source: Lasting) -> Option<Lasting> {
+        let copy = self.interval(number_or_none(&self.copies, source.register))?;
+        if source.last < copy.first {
+            Some(copy)
+        } else {
+            None
+        }
+    }
+
+    /// What is wished for a register and for its copies behind it, and whether one of them lives over a call.
+    fn wishes(&self, new: Lasting, places: &[Place]) -> (u32, bool) {
+        let mut each = new;
+        let mut wished = 0;
+        let mut lives_over_call = false;
+        for _ in 0..COPIES {
+            let source = number_or_none(&self.sources, each.register);
+            let copy = number_or_none(&self.copies, each.register);
+            wished |= number_at(&self.wished, each.register as usize);
+            wished |= self.placed(source, new.first, places);
+            wished |= self.placed(copy, new.first, places);
+            if self.lives_over_call(each) {
+                lives_over_call = true;
+            }
+            match self.copy_behind(each) {
+                None => return (wished, lives_over_call),
+                Some(copy) => each = copy,
+            }
+        }
+        (wished, lives_over_call)
     }
 
     /// The machine registers that are good for a register, the best ones first. One that lives over a call has best one that
     /// calls leave alone, and another one that they change anyway.
     pub fn sets(&self, new: Lasting, places: &[Place]) -> [u32; 4] {
-        let before = number_at(&self.calls, new.first.wrapping_add(1));
-        let behind = number_at(&self.calls, new.last.wrapping_add(1));
-        let wished = number_at(&self.wished, new.register as usize)
-            | self.copied_from(new.register, places);
-        if before == behind {
-            [wished, self.changed, ALL, ALL]
-        } else {
+        let (wished, lives_over_call) = self.wishes(new, places);
+        if lives_over_call {
             let kept = !self.changed;
             [wished & kept, kept, wished, ALL]
+        } else {
+            [wished, self.changed, ALL, ALL]
         }
     }
 }
