@@ -20,7 +20,7 @@ use Rattle.code_flow_system.specs.declared.moves.Way.{Way}
 use Rattle.code_flow_system.specs.declared.moves.Way.TheVariants.{Next, Branches, Jumps, Calls, Ends, Strays}
 use Rattle.code_flow_system.proofs.ReachLemmas.{fetched_of}
 use Rattle.code_flow.proofs.CollectLemmas.{moves_of_has}
-use Rattle.code_flow_sizes.specs.Laws.{EndsWithin, HasFew}
+use Rattle.code_flow_sizes.specs.Laws.{EndsWithin, HasFew, Words, count}
 use Rattle.code_flow_sizes.proofs.Ranks.{IsCode, Rises, few, instruction_code, move_rises, rank_below, rank_rises, word_rank}
 
 -- lists of potentials
@@ -37,12 +37,12 @@ given (t ∷ ts) (suc k) d lt = by_test (t.0 == (slice_index_or ts k d).0) (give
     by_test true h = refl
     by_test false h = h
 
-terms_rise : (n : ℕ) (ts : Terms) → AddressesAscend ts → All (λ (t : ℕ × ℤ). IsCode n t.0) ts → Rises (λ (t : ℕ × ℤ). word_rank t.0) ts
-terms_rise n [] ascend words = tt
-terms_rise n (t ∷ ts) ascend words =
-    let here = All-head (λ (u : ℕ × ℤ). IsCode n u.0) t ts words in
-    let rest = All-tail (λ (u : ℕ × ℤ). IsCode n u.0) t ts words in
-    (λ k d lt. rank_rises n t.0 (slice_index_or ts k d).0 here (rest k d lt) (ascend.0 k d lt), terms_rise n ts ascend.1 rest)
+terms_rise : (w : Words) (ts : Terms) → AddressesAscend ts → All (λ (t : ℕ × ℤ). IsCode w t.0) ts → Rises (λ (t : ℕ × ℤ). word_rank w t.0) ts
+terms_rise w [] ascend words = tt
+terms_rise w (t ∷ ts) ascend words =
+    let here = All-head (λ (u : ℕ × ℤ). IsCode w u.0) t ts words in
+    let rest = All-tail (λ (u : ℕ × ℤ). IsCode w u.0) t ts words in
+    (λ k d lt. rank_rises w t.0 (slice_index_or ts k d).0 here (rest k d lt) (ascend.0 k d lt), terms_rise w ts ascend.1 rest)
 
 -- moves of an address
 
@@ -90,19 +90,19 @@ number_at c a k h = by_fetch (c.fetch a) h
     by_fetch None h = cc
     by_fetch (Some i) h = number_on (way_of (c.exit a) (fetch_before c a) a i) a k i h
 
-module _ (n : ℕ) (image : Image) (claims : Claims) (t : Table) (s : System) (c : Cert) (loadable : AreLoadable image.segments) (ends : All (EndsWithin n) image.segments) (is : IsSystemOf image claims s) (form : IsInForm claims c) (accepted : Accepts t s c) where
+module _ (w : Words) (image : Image) (claims : Claims) (t : Table) (s : System) (c : Cert) (loadable : AreLoadable image.segments) (ends : All (EndsWithin w) image.segments) (is : IsSystemOf image claims s) (form : IsInForm claims c) (accepted : Accepts t s c) where
   abbrev code : Code
   code = code_of image claims
 
-  word_at : (a : ℕ) → has_moves s.moves a ≡ true → IsCode n a
+  word_at : (a : ℕ) → has_moves s.moves a ≡ true → IsCode w a
   word_at a h =
       let m = moves_of_has s.moves a h in
       let i = fetched_of code m.0.at (is.code m.0.at (is.reached m.0 m.1)).moves in
-      subst (IsCode n) m.2 (instruction_code n image m.0.at i.0 loadable ends i.1)
+      subst (IsCode w) m.2 (instruction_code w image m.0.at i.0 loadable ends i.1)
 
   -- what the flow lists
   record IsListed (p : Part) : Type 0 where
-    word : IsCode n p.at
+    word : IsCode w p.at
     number : p.number < 2
 
   listed : (p : Part) → has_move s.moves p.at p.number ≡ true → IsListed p
@@ -129,21 +129,21 @@ module _ (n : ℕ) (image : Image) (claims : Claims) (t : Table) (s : System) (c
       by_mark Empty keeps fits = none fits.1
       by_mark Neither keeps fits = none fits.1
 
-  parts_rise : (ps : List Part) → PartsAscend ps → All IsListed ps → Rises (λ (p : Part). 2 * word_rank p.at + p.number) ps
+  parts_rise : (ps : List Part) → PartsAscend ps → All IsListed ps → Rises (λ (p : Part). 2 * word_rank w p.at + p.number) ps
   parts_rise [] ascend all = tt
   parts_rise (p ∷ ps) ascend all =
       let here = All-head IsListed p ps all in
       let rest = All-tail IsListed p ps all in
-      (λ k d lt. let q = slice_index_or ps k d in move_rises n p.at q.at p.number q.number here.word (rest k d lt).word here.number (ascend.0 k d lt), parts_rise ps ascend.1 rest)
+      (λ k d lt. let q = slice_index_or ps k d in move_rises w p.at q.at p.number q.number here.word (rest k d lt).word here.number (ascend.0 k d lt), parts_rise ps ascend.1 rest)
 
-  pub has_few : HasFew n c
+  pub has_few : HasFew (count w) c
   has_few =
-      let words : All (λ (u : ℕ × ℤ). IsCode n u.0) c.potentials = λ k d lt. let a = (slice_index_or c.potentials k d).0 in word_at a (accepted.present a ∙ given c.potentials k d lt) in
+      let words : All (λ (u : ℕ × ℤ). IsCode w u.0) c.potentials = λ k d lt. let a = (slice_index_or c.potentials k d).0 in word_at a (accepted.present a ∙ given c.potentials k d lt) in
       let all : All IsListed c.flow.parts = λ k d lt. listed (slice_index_or c.flow.parts k d) (in_system k d lt) in
       record {
-        potentials = few (λ (u : ℕ × ℤ). word_rank u.0) n c.potentials (λ k d lt. rank_below n (slice_index_or c.potentials k d).0 (words k d lt)) (terms_rise n c.potentials form.ascending words);
-        parts = few (λ (p : Part). 2 * word_rank p.at + p.number) (2 * n) c.flow.parts (λ k d lt. below (slice_index_or c.flow.parts k d) (all k d lt)) (parts_rise c.flow.parts form.parts_ascend all);
+        potentials = few (λ (u : ℕ × ℤ). word_rank w u.0) (count w) c.potentials (λ k d lt. rank_below w (slice_index_or c.potentials k d).0 (words k d lt)) (terms_rise w c.potentials form.ascending words);
+        parts = few (λ (p : Part). 2 * word_rank w p.at + p.number) (2 * count w) c.flow.parts (λ k d lt. below (slice_index_or c.flow.parts k d) (all k d lt)) (parts_rise c.flow.parts form.parts_ascend all);
       }
     where
-      below : (p : Part) → IsListed p → 2 * word_rank p.at + p.number < 2 * n
-      below p h = let low = rank_below n p.at h.word in let two = h.number in omega (arith, low, two)
+      below : (p : Part) → IsListed p → 2 * word_rank w p.at + p.number < 2 * count w
+      below p h = let low = rank_below w p.at h.word in let two = h.number in omega (arith, low, two)

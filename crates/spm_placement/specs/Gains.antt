@@ -1,5 +1,5 @@
 -- What functions and arrays gain in the scratchpad, by a listed flow.
-use Rattle.std.specs.Prelude.{ℕ, ◌+◌, ℤ, pos, ◌-ℤ◌, ◌*ℤ◌, unsigned_abs, Bool, true, false, List, [], ◌∷◌, Some}
+use Rattle.std.specs.Prelude.{ℕ, ◌+◌, ◌<◌, ◌^◌, ℤ, pos, ◌-ℤ◌, ◌*ℤ◌, unsigned_abs, Bool, true, false, List, [], ◌∷◌, Some}
 use Rattle.rv_core.specs.declared.regions.Region.{Region}
 use Rattle.rv_core.specs.Table.{Table, access_cost}
 use Rattle.code_flow_system.specs.declared.cert.Part.{Part}
@@ -19,6 +19,10 @@ visits ps a = all_parts (those_at (λ (p : Part). p.at) a ps)
 abbrev pub all_visits : List Part → List ℕ → ℕ
 all_visits ps [] = 0
 all_visits ps (a ∷ rest) = visits ps a + all_visits ps rest
+
+-- a flow of a search is at its addresses less often than that
+abbrev pub HasFewVisits : List Part → Movable → Type 0
+HasFewVisits ps m = all_visits ps m.at < 2 ^ 100
 
 -- what a fetch costs, or an access of data, where an item lies and in the scratchpad
 

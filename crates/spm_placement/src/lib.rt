@@ -9,8 +9,8 @@
 //! Proved: [`gains`] gives each item its number, its size and what it gains; [`choose`] answers the numbers of some of the
 //! items which fit the capacity, and no others that fit gain more (`specs/Sets.antt`), each of which gains something;
 //! [`placement`] has exactly those in the scratchpad; and where no two items have one number, those with such numbers take
-//! what the chosen ones do ([`numbers_take`]). Memory may run out; a gain of 2^110 or more counts as that, and no
-//! flow within the limits has one.
+//! what the chosen ones do ([`numbers_take`]). [`gains`] asks for a flow that is at each item less than 2^100 times, as
+//! those of a search are.
 //!
 //! A choice takes at most twice as many steps as there are items, times the capacity in words: 2^29 for the items of the
 //! largest source and the whole scratchpad. The gains take a search of the flow for each address of an item.

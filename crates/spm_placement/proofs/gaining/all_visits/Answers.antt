@@ -2,16 +2,30 @@ use Rattle.std.proofs.Common.{arith}
 use Rattle.spm_placement.proofs.GainLemmas.{visits_more, visits_none}
 use Rattle.spm_placement.proofs.gaining.all_visits.Goals as goal
 
-pub loop-place-preserved : goal.loop-place-preserved
-loop-place-preserved c =
-    let step = visits_more c.args.parts.now c.args.places.now c.loop-place.place-index c.loop-place-test.true in
-    let before = c.loop-place.invariant in
-    let often = c.in_ok-often.ensures in
-    let sum = c.in_ok-all.ensures in
-    omega (arith, step, before, often, sum)
+pub loop-i-preserved : goal.loop-i-preserved
+loop-i-preserved c =
+    let step = visits_more c.args.parts.now c.args.places.now c.loop-i.i c.loop-i-test.true in
+    let before = c.loop-i.invariant in
+    let often = c.visits-all.ensures in
+    omega (arith, step, before, often)
 
 pub returns : goal.returns
 returns c =
-    let none = visits_none c.args.parts.now c.args.places.now c.loop-place.place-index c.loop-place-test.false in
-    let all = c.loop-place.invariant in
+    let none = visits_none c.args.parts.now c.args.places.now c.loop-i.i c.loop-i-test.false in
+    let all = c.loop-i.invariant in
     omega (arith, none, all)
+
+pub overflow_add-all : goal.overflow_add-all
+overflow_add-all c =
+    let step = visits_more c.args.parts.now c.args.places.now c.loop-i.i c.loop-i-test.true in
+    let before = c.loop-i.invariant in
+    let often = c.visits-all.ensures in
+    let few = c.requires.few in
+    omega (arith, step, before, often, few)
+
+pub visits-all-requires-clause-few : goal.visits-all-requires-clause-few
+visits-all-requires-clause-few c =
+    let step = visits_more c.args.parts.now c.args.places.now c.loop-i.i c.loop-i-test.true in
+    let before = c.loop-i.invariant in
+    let few = c.requires.few in
+    omega (arith, step, before, few)

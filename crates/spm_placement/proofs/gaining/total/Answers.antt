@@ -6,12 +6,19 @@ pub loop-i-preserved : goal.loop-i-preserved
 loop-i-preserved c =
     let step = parts_more c.args.parts.now c.loop-i.i (record { at = 0; number = 0; part = pos 0 }) c.loop-i-test.true in
     let before = c.loop-i.invariant in
-    let number = c.number_of.ensures in
-    let sum = c.in_ok-all.ensures in
-    omega (arith, step, before, number, sum)
+    let number = c.number_of-all.ensures in
+    omega (arith, step, before, number)
 
 pub returns : goal.returns
 returns c =
     let none = parts_none c.args.parts.now c.loop-i.i c.loop-i-test.false in
     let all = c.loop-i.invariant in
     omega (arith, none, all)
+
+pub overflow_add-all : goal.overflow_add-all
+overflow_add-all c =
+    let step = parts_more c.args.parts.now c.loop-i.i (record { at = 0; number = 0; part = pos 0 }) c.loop-i-test.true in
+    let before = c.loop-i.invariant in
+    let number = c.number_of-all.ensures in
+    let few = c.requires in
+    omega (arith, step, before, number, few)
