@@ -8,7 +8,13 @@
  * The bounds: there are at most 8 blocks, as 128 samples have no more. The loop over samples stands within the one over
  * blocks: one loop over samples with a test whether the block is full would allow 128 reductions, since the bound of that
  * loop doesn't say how often the test holds.
+ *
+ * What no bound of a loop says: a block is filled at most 8 times, since the loop over blocks ends there without another
+ * look at the input; and of 16 samples at most 15 are above their mean, since not all numbers can be.
  */
+
+#pragma flowrestriction 1*fill <= 8*main
+#pragma flowrestriction 1*above <= 15*reduce
 
 static unsigned char block[16];
 
@@ -37,8 +43,12 @@ static void reduce(void)
     mean = sum / 16;
     #pragma loopbound min 16 max 16
     for (i = 0; i < 16; i++) {
-        int distance = block[i] > mean ? block[i] - mean : mean - block[i];
+        int distance = mean - block[i];
 
+        if (distance < 0) {
+            #pragma marker above
+            distance = -distance;
+        }
         if (distance > spread)
             spread = distance;
     }

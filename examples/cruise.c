@@ -12,9 +12,12 @@
  * one that some input fills in, and every run is defined: an error is within -250..250, so no sum leaves 32 bits.
  *
  * The bounds: there are four speeds. The gears are six, and a search for the right one starts anywhere among them, so it
- * goes at most five up or five down. `main` has one path and calls none of the step's functions, so a step takes at most
+ * goes at most five up or five down, and not both: above the speed from which a gear is too low, the next one isn't too
+ * high. Together that is a restriction. `main` has one path and calls none of the step's functions, so a step takes at most
  * the shares of `step`, `drive`, `mode_of`, `gear_of`, `smoothed` and `clamp` together, whatever was before it.
  */
+
+#pragma flowrestriction 1*up + 1*down <= 5*gear_of
 
 static const unsigned char up_from[6] = {20, 40, 65, 95, 140, 255};     /* above this speed a gear is too low */
 static const unsigned char down_from[6] = {0, 12, 28, 50, 78, 110};     /* below this speed a gear is too high */
@@ -72,11 +75,15 @@ static int mode_of(int buttons, int speed, int brake)
 static int gear_of(int speed)
 {
     #pragma loopbound min 0 max 5
-    while (speed > up_from[gear])
+    while (speed > up_from[gear]) {
+        #pragma marker up
         gear++;
+    }
     #pragma loopbound min 0 max 5
-    while (speed < down_from[gear])
+    while (speed < down_from[gear]) {
+        #pragma marker down
         gear--;
+    }
     return gear;
 }
 

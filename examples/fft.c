@@ -7,11 +7,13 @@
  *
  * The bounds: a transform of 16 points has 4 stages of 8 butterflies, whatever the samples are: a butterfly is numbered from
  * 0 to 7, and its two places follow from its number and the stage. So all loops turn as often in each run, and the only
- * choice is the end of the input.
+ * choice is the end of the input. There are 4 frames; that no fifth one is read, only to find that end, is a restriction.
  *
  * Ranges: samples are within 128, times 64 for the fraction; each of four stages at most doubles, to 2^17, and factors are at
  * most 256, so that products stay below 2^26.
  */
+
+#pragma flowrestriction 1*sample <= 64*main
 
 static int re[16], im[16];
 static const int cosine[8] = {256, 237, 181, 98, 0, -98, -181, -237};
@@ -85,6 +87,7 @@ int main(void)
         c = -1;
         #pragma loopbound min 16 max 16
         for (i = 0; i < 16; i++) {
+            #pragma marker sample
             c = getchar();
             re[turned[i]] = (c - 128) * 64;
             im[turned[i]] = 0;

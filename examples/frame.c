@@ -9,11 +9,13 @@
  * The parser takes one byte at a time and is never further behind than that, so the loop over the line is the only one
  * that waits for input: it ends at the latest after 200 bytes, and its body starts at least once, since it is there that
  * the end is seen. A frame that is written has 1 to 8 bytes of data, since a length of another value never gets past the
- * state 1. A frame takes three bytes of the line beside its data, whether its checksum is good or bad, and a bad length
- * takes two: together these are no more than the 200 bytes that came. What is written was data.
+ * state 1. Each state is left for the next one, one byte a step: a length comes behind a start, data that are complete behind
+ * a good length, and a checksum behind these. What is written was data.
  */
 
-#pragma flowrestriction 1*data_in + 3*good + 3*bad_sum + 2*bad_length <= 200*main
+#pragma flowrestriction 1*good_length + 1*bad_length <= 1*start
+#pragma flowrestriction 1*complete <= 1*good_length
+#pragma flowrestriction 1*good + 1*bad_sum <= 1*complete
 #pragma flowrestriction 1*data_out <= 1*data_in
 
 static unsigned char data[8];
@@ -45,8 +47,10 @@ static void take(unsigned char byte)
 {
     switch (state) {
     case 0:
-        if (byte == 0xAA)
+        if (byte == 0xAA) {
+            #pragma marker start
             state = 1;
+        }
         break;
     case 1:
         if (byte < 1 || byte > 8) {
@@ -54,6 +58,7 @@ static void take(unsigned char byte)
             reject('L');
             break;
         }
+        #pragma marker good_length
         length = byte;
         taken = 0;
         sum = byte;
@@ -63,8 +68,10 @@ static void take(unsigned char byte)
         #pragma marker data_in
         data[taken++] = byte;
         sum += byte;
-        if (taken == length)
+        if (taken == length) {
+            #pragma marker complete
             state = 3;
+        }
         break;
     case 3:
         if (byte != sum) {

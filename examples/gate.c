@@ -7,12 +7,13 @@
  * Value:  the last state, and 256 for each time that the light barrier turned the gate round.
  *
  * The loop ends at the latest after 100 events. Its body starts at least once, since it is the body that sees the input
- * end. A reversal needs the gate to be closing: from the start that takes the events b, o and b before the x, and from
- * the last reversal on o and b. So the first one is at best the fourth event, and each further one three events later:
- * a run has at most 33. No loop bound can say that, so it is a restriction on how often the marker is reached.
+ * end. The gate stops to close only after it began to, and begins to close only after it was open: each of these is an
+ * event of its own. So of 100 events at most a third can end with it, which no loop bound can say: these are restrictions on
+ * how often the markers are reached.
  */
 
-#pragma flowrestriction 1*reversal <= 33*main
+#pragma flowrestriction 1*closing <= 1*opened
+#pragma flowrestriction 1*reversal + 1*closed + 1*halted <= 1*closing
 
 static int state;                       /* 0 closed, 1 opening, 2 open, 3 closing, 4 halted */
 static int reversals;
@@ -20,20 +21,19 @@ static int reversals;
 static void event(int what)
 {
     switch (state) {
-    case 0:
-    case 4:
-        if (what == 'b')
-            state = 1;
-        break;
     case 1:
-        if (what == 'o')
+        if (what == 'o') {
+            #pragma marker opened
             state = 2;
-        else if (what == 'b')
+        } else if (what == 'b') {
             state = 4;
+        }
         break;
     case 2:
-        if (what == 'b')
+        if (what == 'b') {
+            #pragma marker closing
             state = 3;
+        }
         break;
     case 3:
         if (what == 'x') {
@@ -41,26 +41,22 @@ static void event(int what)
             reversals++;
             state = 1;
         } else if (what == 'c') {
+            #pragma marker closed
             state = 0;
         } else if (what == 'b') {
+            #pragma marker halted
             state = 4;
         }
         break;
-    default:
-        state = 4;                      /* never reached; a fault in memory must not drive the motor */
+    default:                            /* it stands; after a fault in memory too only the button moves it */
+        if (what == 'b')
+            state = 1;
     }
 }
 
 static char motor(void)
 {
-    switch (state) {
-    case 1:
-        return 'U';
-    case 3:
-        return 'D';
-    default:
-        return 'S';
-    }
+    return state == 1 ? 'U' : state == 3 ? 'D' : 'S';
 }
 
 int main(void)

@@ -7,7 +7,16 @@
  *
  * The bounds: each tick does one step of the machine, and each state looks at the calls by their bits, so that no loop
  * searches them: the calls above the floor are those in the bits above it.
+ *
+ * What no bound of a loop says: a lift that has set out opens its door before it sets out again, and shuts it before it opens
+ * it again; a door is open for three ticks until it is shut. And in a tick with a call the lift stays only where the call is
+ * for the floor at which its door was open until now: once for each opening.
  */
+
+#pragma flowrestriction 1*up + 1*down <= 1*opening + 1*main
+#pragma flowrestriction 1*opening <= 1*shut + 1*main
+#pragma flowrestriction 3*shut <= 1*open
+#pragma flowrestriction 1*call + 1*stay <= 96*main + 1*opening
 
 static int calls;       /* a bit for each floor */
 static int floor_at, open_for, passed;
@@ -15,15 +24,19 @@ static int state;       /* 0 waits, 1 goes up, 2 goes down, 3 has its door open 
 
 static const char lamps[4] = {0, 16, 32, 64};
 
-/* What a lift does that isn't moving: towards a call, on in its direction if it may. */
-static int direction(int going)
+/* What a lift does that isn't moving: up where a call is above, and else down where one is below. */
+static int direction(void)
 {
-    int above = calls >> floor_at + 1;
-    int below = calls & (1 << floor_at) - 1;
-
-    if (going == 2 ? below : !above)
-        return below ? 2 : 0;
-    return above ? 1 : 0;
+    if (calls >> floor_at + 1) {
+        #pragma marker up
+        return 1;
+    }
+    if (calls & (1 << floor_at) - 1) {
+        #pragma marker down
+        return 2;
+    }
+    #pragma marker stay
+    return 0;
 }
 
 static void step(void)
@@ -32,8 +45,11 @@ static void step(void)
 
     switch (state) {
     case 3:
-        if (--open_for == 0)
-            state = direction(1);
+        #pragma marker open
+        if (--open_for == 0) {
+            #pragma marker shut
+            state = direction();
+        }
         break;
     case 1:
     case 2:
@@ -45,11 +61,12 @@ static void step(void)
         /* the floor is called: open here */
     default:
         if (is_called) {
+            #pragma marker opening
             calls &= ~(1 << floor_at);
             open_for = 3;
             state = 3;
         } else {
-            state = direction(state);
+            state = direction();
         }
     }
 }
@@ -63,8 +80,10 @@ int main(void)
         c = getchar();
         if (c == -1)
             break;
-        if (c >= '0' && c <= '7')
+        if (c >= '0' && c <= '7') {
+            #pragma marker call
             calls |= 1 << c - '0';
+        }
         step();
         putchar(floor_at | lamps[state]);
     }

@@ -9,7 +9,12 @@
  * most halves what is left, so there are at most 4 turns; 15 is odd each time, so there are never more. There is always
  * a first turn, since the table isn't empty. The outer loop ends at the latest after 32 codes, and its body starts at
  * least once, since it is the body that sees the input end.
+ *
+ * Where the fourth turn has not found the code, the test ends the search. The bound of a loop leaves open that it holds a
+ * fifth time, and that this turn returns; the restriction says that no search looks at more than 4 places.
  */
+
+#pragma flowrestriction 1*look <= 4*find
 
 static const unsigned short codes[15] = {
     0x0012, 0x0101, 0x0102, 0x0203, 0x0A00, 0x1000, 0x1001, 0x1F40, 0x2000, 0x3333, 0x4141, 0x5000, 0x7FFF, 0x8001, 0xFFFE,
@@ -22,6 +27,7 @@ static int find(int code)
 
     #pragma loopbound min 1 max 4
     while (low < high) {
+        #pragma marker look
         int middle = (low + high) / 2;
 
         if (codes[middle] == code)

@@ -6,11 +6,13 @@
  * Value:  the number of packets that were dropped, too long or with a wrong escape.
  *
  * The bounds: a byte is one step, and a packet that ends is put out at once, up to 16 bytes. A packet that is put out took at
- * least a step for each of its bytes and one for its end, so all packets together have at most 128 bytes and ends. The bounds
- * of loops don't say so, and let each of 128 bytes end a packet of 16; the restriction does.
+ * least a step for each of its bytes, one for each escape and one for its end, so all packets together have at most 128 of
+ * these. The bounds of loops don't say so, and let each of 128 bytes end a packet of 16; the first restriction does. And a
+ * byte is read as escaped only right behind an escape.
  */
 
-#pragma flowrestriction 1*put + 1*whole <= 128*main
+#pragma flowrestriction 1*put + 1*escape + 1*whole <= 128*main
+#pragma flowrestriction 1*escaped <= 1*escape
 
 static unsigned char packet[16];
 static int length, is_escaped, is_bad;
@@ -49,6 +51,7 @@ static int receive(int c)
     if (c == 0xc0)
         return end_packet();
     if (is_escaped) {
+        #pragma marker escaped
         is_escaped = 0;
         if (c == 0xdc)
             add(0xc0);
@@ -57,6 +60,7 @@ static int receive(int c)
         else
             is_bad = 1;
     } else if (c == 0xdb) {
+        #pragma marker escape
         is_escaped = 1;
     } else {
         add(c);

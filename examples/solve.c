@@ -7,7 +7,8 @@
  * Value:  the number of systems that were solved.
  *
  * The bounds: the step k of two has rows behind k and columns behind k, so 2 and 1 rows, 3 and 2 columns: the bounds of
- * loops allow 2 rows and 3 columns in both, and restrictions say that both have 3 rows and 8 places together.
+ * loops allow 2 rows and 3 columns in both, and restrictions say that both have 3 rows and 8 places together. There are 8
+ * systems; that no ninth one is read, only to find that the input has ended, is a restriction too.
  *
  * Ranges: all bytes are halved when they are read, to 64. So an entry is at most 2 * 64^2 = 2^13 behind the first step, two
  * products of such ones are at most 2^27, and what they are divided by leaves at most 6 * 64^3. An unknown is at most 128
@@ -16,6 +17,7 @@
 
 #pragma flowrestriction 1*row <= 3*solve
 #pragma flowrestriction 1*cleared <= 8*solve
+#pragma flowrestriction 1*entry <= 96*main
 
 static int m[12];       /* rows of four */
 
@@ -76,6 +78,7 @@ int main(void)
         c = -1;
         #pragma loopbound min 12 max 12
         for (i = 0; i < 12; i++) {
+            #pragma marker entry
             c = getchar();
             m[i] = (signed char)c / 2;
         }
