@@ -23,7 +23,7 @@ ELSEWHERE = ("image-", "report-", "table-", "tasks-")
 FROM_SOURCE = ("compile", "eval")
 # The options of commands, each with the numbers that it takes, or None where it takes a file's name; flags take nothing.
 FLAG = "flag"
-OPTIONS = {"compile": {"--unroll": range(1, 65), "--inline": range(10001), "--table": None, "--derive": FLAG},
+OPTIONS = {"compile": {"--spm": range(65537), "--unroll": range(1, 65), "--inline": range(10001), "--table": None, "--derive": FLAG},
            "run": {"--limit": range((1 << 62) + 1), "--table": None}, "eval": {"--derive": FLAG},
            "check": {"--table": None}, "respond": {"--table": None}}
 # Which of the files that the words name by their places are read, and which are written.

@@ -145,8 +145,8 @@ def told(bound, follow, ending):
         yield f"  It breaks a restriction{place}: {first.what}."
     else:
         yield f"  It breaks the claims at {first.at:08x}{inside}, after {first.cycles} cycles: {first.what}."
-    if len(follow.breaks) > 1:
-        yield f"  {len(follow.breaks) - 1} more are broken after it."
+    if more := len(follow.breaks) - 1:
+        yield f"  {more} more {'is' if more == 1 else 'are'} broken after it."
 
 
 def keeps(bound, follow, ending):

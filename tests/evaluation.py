@@ -32,16 +32,18 @@ def limit_stack():
 
 
 def built(path):
-    """The path of a program; ./wcc builds it first where that is needed, which takes its time."""
+    """The path of a program; ./wcc builds it first where that is needed, which takes its time. What is called from now on has
+    a stack of 8 MiB."""
+    limit_stack()
     path = str(Path(path).resolve())
     subprocess.run([path], stdin=subprocess.DEVNULL, stdout=subprocess.DEVNULL, env=PLAIN)
     return path
 
 
 def call(path, room, *words):
-    """One call in a folder, with a stack of 8 MiB, without the words for people on standard error."""
+    """One call in a folder, without the words for people on standard error."""
     (room / "a.out").unlink(missing_ok=True)
-    ran = subprocess.run([path, *words], cwd=room, stdout=subprocess.PIPE, env=PLAIN, timeout=SECONDS, preexec_fn=limit_stack)
+    ran = subprocess.run([path, *words], cwd=room, stdout=subprocess.PIPE, env=PLAIN, timeout=SECONDS)
     output = (room / "a.out").read_bytes() if (room / "a.out").is_file() else None
     return Answer(ran.stdout.decode("latin-1").removesuffix("\n"), ran.returncode, output)
 

@@ -8,6 +8,7 @@ All loops count, so their bounds are known; few are false. Restrictions come las
 `generate.py SEED SOURCE INPUT` writes the program of a seed.
 """
 import random
+import re
 import sys
 from dataclasses import dataclass, field
 from pathlib import Path
@@ -926,8 +927,10 @@ class Generator:
         self.put("{")
         self.depth += 1
         self.scopes.append(list(routine.params))
+        self.begin()
         for _ in range(count):
             self.statement()
+        self.end()
         if routine.name == "main":
             self.show()
         # A function may end without `return`, which is undefined where its value is used.
@@ -937,6 +940,12 @@ class Generator:
         self.depth -= 1
         self.put("}")
         self.routine = None
+
+    def begin(self):
+        """What a function begins with."""
+
+    def end(self):
+        """What it ends with."""
 
     def show(self):
         """Writes what the globals hold at the end."""
@@ -1004,23 +1013,73 @@ class Generator:
             ])
 
 
+class Crowded(Generator):
+    """Each function has 30 variables and more that come from the input and are read at its end, so that they live over all that
+    stands between, calls and loops too."""
+
+    def begin(self):
+        self.crowd = []
+        for _ in range(self.number(30, 44)):
+            made = self.beginning()
+            self.spend(made)
+            kind, name = self.pick(KINDS), self.fresh("c")
+            self.put(f"{self.spelling(kind)} {name} = {self.bracketed(made, 14)};")
+            variable = Variable(name, kind)
+            self.scopes[-1].append(variable)
+            self.crowd.append(variable)
+
+    def beginning(self):
+        """A byte of the input, or what an operator makes of an earlier variable."""
+        if not self.crowd or self.chance(0.3):
+            return self.call_of_getchar()
+        return self.safe_binary(self.pick("+-*^|"), self.reading(self.pick(self.crowd)), self.literal())
+
+    def call_of_getchar(self):
+        both = frozenset([INPUT_OUTPUT])
+        self.routine.writes.add(INPUT_OUTPUT)
+        return Made("getchar()", 1, INT, -1, 255, both, both, 3)
+
+    def end(self):
+        made = self.reading(self.crowd[0])
+        for it in self.crowd[1:]:
+            made = self.bitwise(self.pick("^|&^"), made, self.reading(it))
+        self.spend(made)
+        self.put(f"putchar({made.text});")
+
+
+def made(seed, tag="", kind=Generator):
+    """The source and the input of this seed, what its run does, and the restrictions that belong to it."""
+    generator = kind(seed, tag)
+    source = generator.source().encode()
+    data = bytes(generator.number(0, 255) for _ in range(generator.number(0, 40)))
+    found = answer(source, data)
+    return source, data, found, list(generator.restrictions(found.counts)) if found.counts else []
+
+
+def with_pragmas(source, restrictions):
+    return source + "".join(f"#pragma {it}\n" for it in restrictions).encode()
+
+
 def program(seed, tag=""):
     """The source and the input of this seed."""
-    generator = Generator(seed, tag)
-    source = generator.source()
-    data = bytes(generator.number(0, 255) for _ in range(generator.number(0, 40)))
-    counts = answer(source.encode(), data).counts
-    if counts:
-        source += "".join(f"#pragma {it}\n" for it in generator.restrictions(counts))
-    return source.encode(), data
+    source, data, _, restrictions = made(seed, tag)
+    return with_pragmas(source, restrictions), data
 
 
-def restricted(seed):
-    """The same with more restrictions, which its run keeps where it ends."""
-    source, data = program(seed)
-    counts = answer(source, data).counts
-    pragmas = Generator(f"restricted {seed}").tight_restrictions(counts) if counts else ()
-    return source + "".join(f"#pragma {it}\n" for it in pragmas).encode(), data
+def restricted(seed, kind=Generator):
+    """The same with more restrictions, which its run keeps where it ends; what the run does without them; and whether it keeps
+    all of them."""
+    source, data, found, restrictions = made(seed, kind=kind)
+    if found.counts:
+        restrictions += Generator(f"restricted {seed}").tight_restrictions(found.counts)
+    return with_pragmas(source, restrictions), data, found, all(keeps(found.counts, it) for it in restrictions)
+
+
+def keeps(counts, restriction):
+    """Whether counts keep a restriction."""
+    left, sign, right = re.split("(<=|>=|=)", restriction.removeprefix("flowrestriction "))
+    one, other = (sum(int(number) * counts[name] for number, name in re.findall(r"(\d+) *\* *(\w+)", it)) for it in (left, right))
+    return one <= other if sign == "<=" else one >= other if sign == ">=" else one == other
 
 
 if __name__ == "__main__":

@@ -24,7 +24,7 @@ use Rattle.command_numbered_types.proofs.Outlines.{no_fault, outline_is}
 use Rattle.command_numbered_types.proofs.Sizes.{unit_deep}
 use Rattle.command_numbered_types.proofs.Typed.{program, unit_typed}
 use Rattle.command_numbered_facts.proofs.Flows.{facts_are, ranks, ranks_are}
-use Rattle.command_numbered_runs.proofs.Runs.{IsDone, facts, is_done, unrestricted}
+use Rattle.command_numbered_runs.proofs.Runs.{IsDone, facts, is_done}
 use Rattle.command_numbered_tokens.proofs.Places.{places}
 use Rattle.command_numbered_tokens.proofs.Tokens.{has_tokens, spells, tokens}
 
@@ -34,7 +34,6 @@ pub record IsDoneSource (source : List ℕ) : Type 0 where
   pub program : Program
   pub facts : Facts
   pub is_source : IsSourceBy false source names program facts
-  pub unrestricted : facts.restrictions ≡ []
   pub output : List ℕ
   pub value : ℤ
   pub counts : List ℕ
@@ -84,7 +83,6 @@ module _ (m : ℕ) (few : suc m ≤ 100) where
     program = program n p;
     facts = facts m few p;
     is_source = record { has_program = has_program; has_facts = has_facts };
-    unrestricted = unrestricted m few p;
     output = done.output;
     value = done.value;
     counts = done.counts;

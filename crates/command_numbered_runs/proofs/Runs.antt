@@ -60,7 +60,7 @@ module _ (m : ℕ) (few : suc m ≤ 100) (p : Places) where
     silent = refl;
   }
 
-  pub unrestricted : facts.restrictions ≡ []
+  unrestricted : facts.restrictions ≡ []
   unrestricted = ap (restrictions_of (names n)) (sites_are n p) ∙ all_plain (names n) n p
 
   -- the run is done, and puts at most one byte

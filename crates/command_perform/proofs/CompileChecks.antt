@@ -16,7 +16,7 @@ use Rattle.clap.specs.Words.{Text}
 use Rattle.report_check.specs.Checks.{IsAccepted}
 use Rattle.command_numbered.specs.Text.{numbered_text}
 use Rattle.command_numbered.proofs.Lengths.{short}
-use Rattle.command_words.specs.Requests.{CompileRequest, CheckRequest, MakeRequest, Name, has_twins, with_table}
+use Rattle.command_words.specs.Requests.{CompileRequest, CheckRequest, MakeRequest, Name, has_twins, scratchpad_of, with_table}
 use Rattle.command_perform.specs.declared.compile.Texts.{Texts}
 use Rattle.command_perform.specs.Words.{Asked, Command, Named, Respond, Check, Compile, Run, Eval, Report, Make, asked_by, IsInRange}
 use Rattle.command_perform.specs.Commands.{CanAccept, Makes, wanted_of}
@@ -121,7 +121,7 @@ module _ (asked : CheckRequest) (apart : AreApart asked) (fs : Files) (t : Texts
   tables_fit None e h = tt
   tables_fit (Some name) e h = let same = ap (λ (b : List ℕ). length b) (table_is name e) in let low = h.0 in (omega (arith, same, low), tt)
 
-  module _ (derive : Bool) (source : List ℕ) (costs : Table) (low : length source ≤ 1048576) (fit : Fit (wanted_table asked.table) fs) (are : AreCosts (contents_of (wanted_table asked.table) fs) costs) (compiles : Compiles derive costs source t) where
+  module _ (derive : Bool) (spm : ℕ) (source : List ℕ) (costs : Table) (low : length source ≤ 1048576) (fit : Fit (wanted_table asked.table) fs) (are : AreCosts (contents_of (wanted_table asked.table) fs) costs) (compiles : Compiles derive spm costs source t) where
     texts_fit : Fit (wanted_of (Check asked)) written
     texts_fit =
         let lengths = compiles.short low in
@@ -135,7 +135,7 @@ module _ (asked : CheckRequest) (apart : AreApart asked) (fs : Files) (t : Texts
     can_accept = (
       costs,
       subst (λ tables. AreCosts tables costs) (sym (tables_are asked.table refl)) are,
-      subst (λ b. IsAccepted costs b (bytes_of written asked.report)) (sym image_is) (subst (λ b. IsAccepted costs t.image b) (sym report_is) (compiled_holds derive costs source t compiles)),
+      subst (λ b. IsAccepted costs b (bytes_of written asked.report)) (sym image_is) (subst (λ b. IsAccepted costs t.image b) (sym report_is) (compiled_holds derive spm costs source t compiles)),
     )
 
     checks : (new : StoreState) → new.files ≡ Some written → CanEnd (Some (Named (Check asked))) new status.Done
@@ -147,7 +147,7 @@ compiled_checks asked apart (Some fs) new made m e some =
     let makes = subst (λ contents. Makes (Compile asked) contents made) m.1.0 m.2 in
     let texts = makes.2.texts in
     let put = e ∙ ap (λ (o : Outputs). all_put o.files (Some fs)) makes.2.made_is in
-    checks (check_of asked) apart fs texts asked.derive (bytes_of fs asked.source) makes.0 m.1.1.0 m.1.1.1 makes.1 makes.2.compiles new put
+    checks (check_of asked) apart fs texts asked.derive (scratchpad_of asked) (bytes_of fs asked.source) makes.0 m.1.1.0 m.1.1.1 makes.1 makes.2.compiles new put
 
 not_stopped : (kind code at cycles : ℕ) → status.Done ≡ status.Stopped kind code at cycles → ⊥
 not_stopped kind code at cycles e = cc
@@ -169,7 +169,7 @@ made_checks asked apart few None new made m s e some = absurd (false≢true some
 made_checks asked apart few (Some fs) new made m s e some =
     let makes = none_made asked m.0 made m.2 in
     let put = e ∙ ap (λ (files : List (List ℕ × List ℕ)). all_put files (Some fs)) (exited asked makes.texts makes.last makes.ending made makes.made_is s) in
-    checks (check_of_made asked) apart (put_file asked.source (numbered_text asked.number) fs) makes.texts false (numbered_text asked.number) default_table (omega (arith, short asked.number few)) tt refl makes.compiles new put
+    checks (check_of_made asked) apart (put_file asked.source (numbered_text asked.number) fs) makes.texts false 0 (numbered_text asked.number) default_table (omega (arith, short asked.number few)) tt refl makes.compiles new put
 
 -- what was written, by words whose files have different names
 checkable : (c : Command) (words : List Text) (old new : StoreState) (out out' : SinkState) → asked_by words ≡ Some (Named c) → IsInRange (Some (Named c)) → IsDone (Some (Named c)) old new out out' → IsCheckable (Some (Named c)) old new

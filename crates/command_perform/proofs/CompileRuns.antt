@@ -24,14 +24,14 @@ use Rattle.promise_compiler.specs.Refusals.{Fails}
 use Rattle.promise_compiler.specs.Lengths.{AreShort}
 use Rattle.facts_laws.proofs.Sources as laws
 use Rattle.promise_report.specs.Compiled.{IsCompiled}
-use Rattle.command_words.specs.Requests.{CompileRequest}
+use Rattle.command_words.specs.Requests.{CompileRequest, scratchpad_of}
 use Rattle.command_perform.specs.declared.compile.Texts.{Texts}
 use Rattle.command_perform.specs.Words.{Named, Compile}
 use Rattle.command_perform.specs.Lines.{cycles_line}
 use Rattle.command_perform.specs.Outputs.{Outputs}
 use Rattle.command_perform.specs.Sources.{refusal_status, RefusesProgram}
-use Rattle.command_perform.specs.Compiling.{compile_status, Compiles, IsCompilable}
-use Rattle.command_perform.specs.Ends.{IsRefusal}
+use Rattle.command_perform.specs.Compiling.{compile_status, compiled_outputs, Compiles, IsCompilable, MakesImage}
+use Rattle.command_perform.specs.Ends.{IsEnd, IsRefusal}
 use Rattle.command_perform.specs.Gathering.{Fit, contents_of}
 use Rattle.command_perform.specs.Tables.{wanted_table}
 use Rattle.command_perform.specs.Commands.{wanted_of, IsOfSource}
@@ -78,27 +78,35 @@ refuses_compile derive source (Front f) s e r =
 refuses_compile derive source Memory s e r = inl e
 
 -- what is built, as bytes
-pub compiles : (derive : Bool) (costs : Table) (source : List ℕ) (image : Image) (report : Report) (t : Texts) → t.image ≡ text_of image → t.report ≡ report_text report → t.line ≡ cycles_line report.cert.cycles report.kind
-    → IsCompiled derive costs source (text_of image) (report_text report) report → report.cert.cycles ≤ 2 ^ 62 → (length source ≤ 1048576 → AreShort (text_of image) (report_text report)) → Compiles derive costs source t
-compiles derive costs source image report t i r l c b s = record {
+pub compiles : (derive : Bool) (spm : ℕ) (costs : Table) (source : List ℕ) (image : Image) (report : Report) (t : Texts) → t.image ≡ text_of image → t.report ≡ report_text report → t.line ≡ cycles_line report.cert.cycles report.kind
+    → IsCompiled derive spm costs source (text_of image) (report_text report) report → report.cert.cycles ≤ 2 ^ 62 → (length source ≤ 1048576 → AreShort (text_of image) (report_text report)) → Compiles derive spm costs source t
+compiles derive spm costs source image report t i r l c b s = record {
   report = report;
-  compiled = subst (λ (k : List ℕ). IsCompiled derive costs source t.image k report) (sym r) (subst (λ (k : List ℕ). IsCompiled derive costs source k (report_text report) report) (sym i) c);
+  compiled = subst (λ (k : List ℕ). IsCompiled derive spm costs source t.image k report) (sym r) (subst (λ (k : List ℕ). IsCompiled derive spm costs source k (report_text report) report) (sym i) c);
   small = b;
   short = λ k. subst (λ (x : List ℕ). AreShort t.image x) (sym r) (subst (λ (x : List ℕ). AreShort x (report_text report)) (sym i) (s k));
   line_is = l;
 }
 
+-- with what the words say
+pub makes_image : (asked : CompileRequest) (costs : Table) (source taken : List ℕ) (spm : ℕ) (t : Texts) (made : Outputs) → Compiles asked.derive spm costs taken t → taken ≡ source → spm ≡ scratchpad_of asked → made ≡ compiled_outputs asked t
+    → IsEnd made.status × MakesImage asked costs source made
+makes_image asked costs source taken spm t made c same is e = (
+  subst IsEnd (sym (ap (λ (o : Outputs). o.status) e)) tt,
+  record { texts = t; compiles = subst (λ (k : List ℕ). Compiles asked.derive (scratchpad_of asked) costs k t) same (subst (λ (n : ℕ). Compiles asked.derive n costs taken t) is c); made_is = e },
+)
+
 -- what is written is found to hold
-pub compiled_holds : (derive : Bool) (costs : Table) (source : List ℕ) (t : Texts) → Compiles derive costs source t → IsAccepted costs t.image t.report
-compiled_holds derive costs source t c = record { report = c.report; system = c.compiled.system; holds = c.compiled.holds }
+pub compiled_holds : (derive : Bool) (spm : ℕ) (costs : Table) (source : List ℕ) (t : Texts) → Compiles derive spm costs source t → IsAccepted costs t.image t.report
+compiled_holds derive spm costs source t c = record { report = c.report; system = c.compiled.system; holds = c.compiled.holds }
 
 -- a source that has a program isn't refused
 
 pub compilable_passes : (derive : Bool) (source : List ℕ) (s : Status) → length source ≤ 1048576 → IsCompilable derive source → RefusesProgram derive source s → ⊥
 compilable_passes derive source s short w r = laws.not_both derive source w.names w.program w.facts r.refusal short w.is_source r.refused
 
-compiled_passes : (derive : Bool) (costs : Table) (source : List ℕ) (t : Texts) (s : Status) → length source ≤ 1048576 → Compiles derive costs source t → RefusesProgram derive source s → ⊥
-compiled_passes derive costs source t s short c r = laws.not_both derive source c.compiled.names c.compiled.program c.compiled.facts r.refusal short c.compiled.is_source r.refused
+compiled_passes : (derive : Bool) (spm : ℕ) (costs : Table) (source : List ℕ) (t : Texts) (s : Status) → length source ≤ 1048576 → Compiles derive spm costs source t → RefusesProgram derive source s → ⊥
+compiled_passes derive spm costs source t s short c r = laws.not_both derive source c.compiled.names c.compiled.program c.compiled.facts r.refusal short c.compiled.is_source r.refused
 
 status_of : (made other : Outputs) → made ≡ other → made.status ≡ other.status
 status_of made other e = ap (λ (o : Outputs). o.status) e
@@ -114,7 +122,7 @@ compilable_only asked source tables short c = record {
 refused_only : (asked : CompileRequest) (source : List ℕ) (tables : List (List ℕ)) (s : Status) → length source ≤ 1048576 → IsOfSource (λ k. RefusesProgram asked.derive k s) (source ∷ tables) → CanOnly (Compile asked) (source ∷ tables) s
 refused_only asked source tables s short c = record {
   refuses = λ t r. ⊎_elim (λ x. absurd (no_table_fault tables c.0 t c.1 x)) (λ x. one_status asked.derive source t s short x.2 c.2) r;
-  makes = λ made m. absurd (compiled_passes asked.derive m.0 source m.2.texts s short m.2.compiles c.2);
+  makes = λ made m. absurd (compiled_passes asked.derive (scratchpad_of asked) m.0 source m.2.texts s short m.2.compiles c.2);
 }
 
 pub compilable_ends : (asked : CompileRequest) (files : Option Files) (old : StoreState) → old.files ≡ files → IsSomeAnd files (λ fs. Fit (wanted_of (Compile asked)) fs × IsOfSource (IsCompilable asked.derive) (contents_of (wanted_of (Compile asked)) fs)) → CanEnd (Some (Named (Compile asked))) old status.Done

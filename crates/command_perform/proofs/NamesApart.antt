@@ -1,13 +1,13 @@
 -- The files that words name have different names.
 use Rattle.std.proofs.Common.{◌≡◌, Bool, true, false, List, [], ◌∷◌, Option, Some, None, refl, subst}
-use Rattle.std.specs.Prelude.{codes, if◌then◌else◌, option_and_then}
+use Rattle.std.specs.Prelude.{codes, if◌then◌else◌, option_map}
 use Rattle.std.specs.Str.{bytes_eq}
 use Rattle.std.proofs.lemmas.Option.{none-some, same_Some}
 use Rattle.clap.specs.Words.{App, Row, Text, matches_of}
 use Rattle.command_words.specs.Asked.{accepts, asked_by as request_by, check_asked, compile_asked, distinct, eval_asked, make_asked, report_asked, respond_asked, run_asked, taken}
 use Rattle.command_words.specs.Commands.{check_command, compile_command, eval_command, make_command, report_command, respond_command, run_command}
 use Rattle.command_words.specs.Requests.{Request, Compile as AsksCompile, Check as AsksCheck, Run as AsksRun, Eval as AsksEval, Report as AsksReport, Make as AsksMake, Respond as AsksRespond, files_of, has_twins, with_table}
-use Rattle.command_perform.specs.Words.{Asked, Command, Named, Compile, Check, Run, Eval, Report, Make, asked_by, built, has_options}
+use Rattle.command_perform.specs.Words.{Asked, Command, Named, Compile, Check, Run, Eval, Report, Make, asked, asked_by}
 
 taken_apart : (command : App) (reading : List Row → Request) (words : List Text) (r : Request) → taken command reading words ≡ Some r → has_twins (files_of r) ≡ false
 unfolding taken
@@ -52,25 +52,21 @@ asks c = Named c
 same_command : (c d : Command) → asks c ≡ asks d → c ≡ d
 same_command c d h = cc
 
-handed : (c d : Command) → IsApart c → Some (asks c) ≡ Some (asks d) → IsApart d
-handed c d apart h = subst IsApart (same_command c d (same_Some (asks c) (asks d) h)) apart
+handed : (c d : Command) → IsApart c → asks c ≡ asks d → IsApart d
+handed c d apart h = subst IsApart (same_command c d h) apart
 
-built_apart : (r : Request) (c : Command) → has_twins (files_of r) ≡ false → built r ≡ Some (Named c) → IsApart c
-built_apart (AsksCompile q) c apart h = options (has_options q) h
-  where
-    options : (b : Bool) → (if b then None else Some (Named (Compile q))) ≡ Some (Named c) → IsApart c
-    options true k = absurd (none-some (Named c) k)
-    options false k = handed (Compile q) c apart k
-built_apart (AsksCheck q) c apart h = handed (Check q) c tt h
-built_apart (AsksRun q) c apart h = handed (Run q) c tt h
-built_apart (AsksEval q) c apart h = handed (Eval q) c tt h
-built_apart (AsksReport q) c apart h = handed (Report q) c tt h
-built_apart (AsksMake q) c apart h = handed (Make q) c apart h
-built_apart (AsksRespond q) c apart h = absurd (cc)
+asked_apart : (r : Request) (c : Command) → has_twins (files_of r) ≡ false → asked r ≡ Named c → IsApart c
+asked_apart (AsksCompile q) c apart h = handed (Compile q) c apart h
+asked_apart (AsksCheck q) c apart h = handed (Check q) c tt h
+asked_apart (AsksRun q) c apart h = handed (Run q) c tt h
+asked_apart (AsksEval q) c apart h = handed (Eval q) c tt h
+asked_apart (AsksReport q) c apart h = handed (Report q) c tt h
+asked_apart (AsksMake q) c apart h = handed (Make q) c apart h
+asked_apart (AsksRespond q) c apart h = absurd (cc)
 
 pub names_apart : (words : List Text) (c : Command) → asked_by words ≡ Some (Named c) → IsApart c
 names_apart words c h = of (request_by words) refl h
   where
-    of : (o : Option Request) → request_by words ≡ o → option_and_then built o ≡ Some (Named c) → IsApart c
+    of : (o : Option Request) → request_by words ≡ o → option_map asked o ≡ Some (Named c) → IsApart c
     of None e k = absurd (none-some (Named c) k)
-    of (Some r) e k = built_apart r c (requests_apart words r e) k
+    of (Some r) e k = asked_apart r c (requests_apart words r e) (same_Some (asked r) (Named c) k)

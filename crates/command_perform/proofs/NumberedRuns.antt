@@ -34,7 +34,7 @@ use Rattle.command_perform.specs.Promises.{CanOnly, CanEnd}
 use Rattle.command_perform.proofs.CompileRuns.{compilable_passes}
 
 -- what is compiled loads as an image
-pub loads : (source : List ℕ) (t : Texts) → Compiles false default_table source t → IsLoadable t.image
+pub loads : (source : List ℕ) (t : Texts) → Compiles false 0 default_table source t → IsLoadable t.image
 loads source t c = c.compiled.holds.found.read.loadable
 
 ends_well : (asked : MakeRequest) (t : Texts) (last : Simulation) (ending : Ending) → IsEnd (numbered_outputs asked t last ending).status
@@ -47,7 +47,7 @@ status_of : (made other : Outputs) → made ≡ other → made.status ≡ other.
 status_of made other e = ap (λ (o : Outputs). o.status) e
 
 -- what was compiled and run is what is made
-pub makes : (asked : MakeRequest) (t : Texts) (last : Simulation) (ending : Ending) (r : Result Made Memory) → Compiles false default_table (numbered_text asked.number) t → Simulates (numbered_job t.image) last ending
+pub makes : (asked : MakeRequest) (t : Texts) (last : Simulation) (ending : Ending) (r : Result Made Memory) → Compiles false 0 default_table (numbered_text asked.number) t → Simulates (numbered_job t.image) last ending
     → IfOk r (λ m. outputs_of m ≡ numbered_outputs asked t last ending) → IfOk r (λ m. IsEnd m.status × MakesNumbered asked (outputs_of m))
 makes asked t last ending (Ok m) c s e =
     (subst IsEnd (sym (status_of (outputs_of m) _ e)) (ends_well asked t last ending), record { texts = t; compiles = c; last = last; ending = ending; simulates = s; made_is = e })
@@ -60,7 +60,7 @@ same_meaning source names others program other facts more run h k d =
     ap (λ p. meaning p names facts []) same.1 ∙ ap (λ ns. meaning other ns facts []) same.0 ∙ ap (λ fs. meaning other others fs []) same.2 ∙ d
 
 -- the image of a source that is kept on the empty input exits
-kept_exits : (source : List ℕ) (t : Texts) → Compiles false default_table source t → IsKept source [] → (f : Finish) × ExitsWithin (run_of (numbered_job t.image)) (run_limits (numbered_job t.image)) f
+kept_exits : (source : List ℕ) (t : Texts) → Compiles false 0 default_table source t → IsKept source [] → (f : Finish) × ExitsWithin (run_of (numbered_job t.image)) (run_limits (numbered_job t.image)) f
 kept_exits source t c k =
     let i = c.compiled in
     let r = i.runs [] (All-nil (λ (b : ℕ). b < 256)) k.output k.value k.counts (same_meaning source i.names k.whole.names i.program k.whole.program i.facts k.whole.facts _ i.is_source k.whole.is_source k.done) in

@@ -11,7 +11,7 @@ use Rattle.promise_compiler.specs.declared.refusal.Refusal.{Refusal}
 use Rattle.promise_compiler.specs.declared.refusal.Refusal.TheVariants.{Front, Memory}
 use Rattle.promise_compiler.specs.Lengths.{AreShort}
 use Rattle.promise_report.specs.Compiled.{IsCompiled}
-use Rattle.command_words.specs.Requests.{CompileRequest}
+use Rattle.command_words.specs.Requests.{CompileRequest, scratchpad_of}
 use Rattle.command_perform.specs.declared.compile.Texts.{Texts}
 use Rattle.command_perform.specs.Lines.{cycles_line}
 use Rattle.command_perform.specs.Outputs.{Outputs}
@@ -22,10 +22,11 @@ abbrev pub compile_status : Refusal → Status
 compile_status (Front refusal) = refusal_status refusal
 compile_status Memory = status.Memory
 
--- with these costs, the image and the report keep what is promised of the source, and the line says the bound and its kind
-pub record Compiles (derive : Bool) (costs : Table) (source : List ℕ) (t : Texts) : Type 0 where
+-- with these costs and so many bytes of the scratchpad, the image and the report keep what is promised of the source, and the line says
+-- the bound and its kind
+pub record Compiles (derive : Bool) (spm : ℕ) (costs : Table) (source : List ℕ) (t : Texts) : Type 0 where
   pub report : Report
-  pub compiled : IsCompiled derive costs source t.image t.report report
+  pub compiled : IsCompiled derive spm costs source t.image t.report report
   -- no run that keeps within the bound ends at a limit of cycles
   pub small : report.cert.cycles ≤ 2 ^ 62
   -- of a source within its limit, both texts are within theirs
@@ -42,7 +43,7 @@ compiled_outputs asked t = record {
 
 pub record MakesImage (asked : CompileRequest) (costs : Table) (source : List ℕ) (made : Outputs) : Type 0 where
   pub texts : Texts
-  pub compiles : Compiles asked.derive costs source texts
+  pub compiles : Compiles asked.derive (scratchpad_of asked) costs source texts
   pub made_is : made ≡ compiled_outputs asked texts
 
 -- the source has a program with facts

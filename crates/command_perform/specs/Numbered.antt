@@ -34,7 +34,7 @@ numbered_outputs asked t last ending = record { status = run_status ending last.
 
 pub record MakesNumbered (asked : MakeRequest) (made : Outputs) : Type 0 where
   pub texts : Texts
-  pub compiles : Compiles false default_table (numbered_text asked.number) texts
+  pub compiles : Compiles false 0 default_table (numbered_text asked.number) texts
   pub last : Simulation
   pub ending : Ending
   pub simulates : Simulates (numbered_job texts.image) last ending

@@ -1,4 +1,4 @@
-// The command `compile SOURCE IMAGE REPORT [--unroll K] [--inline N] [--table FILE] [--derive]`.
+// The command `compile SOURCE IMAGE REPORT [--spm N] [--unroll K] [--inline N] [--table FILE] [--derive]`.
 ghost use Rattle.std.specs.Prelude.{◌≡◌, ◌⊎◌, length, IfOk, MatchResult};
 ghost use Rattle.wcc_base.specs.declared.status.Status.TheVariants as status;
 ghost use Rattle.rv_core.specs.Table.{table_of};
@@ -68,7 +68,7 @@ pub fn compiled<C: Compiler>(
     source: &[u8],
     options: Options,
 ) -> Result<Texts, Status>
-    ensures made { MatchResult result (Compiles options.derive (table_of options.costs) source.now)
+    ensures made { MatchResult result (Compiles options.derive options.spm (table_of options.costs) source.now)
         (λ s. (s ≡ status.Memory) ⊎ (IsRefusal s × RefusesProgram options.derive source.now s)) }
     ensures built { IfOk result (λ t. C.builds options source.now t.image t.report) }
 {
@@ -125,6 +125,7 @@ fn compile_with<'a, C: Compiler>(
     let options = Options {
         costs,
         derive: asked.derive,
+        spm: asked.scratchpad_bytes() as u32,
         inline: asked.inline_size() as u32,
         unroll: asked.unroll_factor() as u32,
     };

@@ -27,7 +27,7 @@ ghost use Rattle.command_perform.specs.Promises.{CanEnd};
 pub fn compilation_is_done()
     ensures compilable { (asked : CompileRequest) (old : StoreState) → IsSomeAnd old.files (λ fs. Fit (wanted_of (Compile asked)) fs × IsOfSource (IsCompilable asked.derive) (contents_of (wanted_of (Compile asked)) fs)) → CanEnd (Some (Named (Compile asked))) old status.Done }
     ensures refused { (asked : CompileRequest) (old : StoreState) (s : Status) → IsSomeAnd old.files (λ fs. Fit (wanted_of (Compile asked)) fs × IsOfSource (λ source. RefusesProgram asked.derive source s) (contents_of (wanted_of (Compile asked)) fs)) → CanEnd (Some (Named (Compile asked))) old s }
-    ensures holds { (derive : Bool) (costs : Table) (source : List ℕ) (t : Texts) → Compiles derive costs source t → IsAccepted costs t.image t.report }
+    ensures holds { (derive : Bool) (spm : ℕ) (costs : Table) (source : List ℕ) (t : Texts) → Compiles derive spm costs source t → IsAccepted costs t.image t.report }
 {}
 
 /// A report that holds of an image, with the costs of a table that isn't refused, can only be found to hold.

@@ -154,7 +154,7 @@ fn tried<'a>(
     texts: Texts,
 ) -> Result<Made<'a>, Memory>
     requires source { source ≡ numbered_text asked.number }
-    requires compiled { Compiles false default_table source texts }
+    requires compiled { Compiles false 0 default_table source texts }
     ensures made { IfOk result (λ m. IsEnd m.status × MakesNumbered (make_request asked.entry) (outputs_of m)) }
     ensures outputs { IfOk result (λ m. IsNumbered (make_request asked.entry) texts (outputs_of m)) }
 {
@@ -180,6 +180,7 @@ pub fn make_numbered<'a, C: Compiler>(
     let options = Options {
         costs: default_costs(),
         derive: false,
+        spm: 0,
         inline: 0,
         unroll: 1,
     };

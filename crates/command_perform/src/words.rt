@@ -1,7 +1,7 @@
 // What words ask of this program.
 ghost use Rattle.std.specs.Prelude.{◌≡◌, IfOk, map, option_map, string_bytes};
-ghost use Rattle.command_words.specs.Held.{compile_request, request_of};
-ghost use Rattle.command_perform.specs.Words.{has_options, built, asked_by};
+ghost use Rattle.command_words.specs.Held.{request_of};
+ghost use Rattle.command_perform.specs.Words.{asked, asked_by};
 ghost use Rattle.command_perform.specs.Asked.{asked_of};
 
 use command_words::{
@@ -30,30 +30,18 @@ pub enum Asked<'a> {
     Respond(RespondRequest<'a>),
 }
 
-// Whether an option of `compile` is given that isn't built.
-fn has_options(r: &CompileRequest) -> bool
-    ensures { result ≡ has_options (compile_request r.now) }
-{
-    r.spm.is_some()
-}
-
-// What a request asks, where its options are built.
-fn built<'a>(request: Request<'a>) -> Option<Asked<'a>>
-    ensures { option_map asked_of result ≡ built (request_of request.entry) }
+// What a request asks.
+fn asked_for<'a>(request: Request<'a>) -> Asked<'a>
+    ensures { asked_of result ≡ asked (request_of request.entry) }
 {
     match request {
-        Request::Compile(r) => {
-            if has_options(&r) {
-                return None;
-            }
-            Some(Asked::Named(Command::Compile(r)))
-        }
-        Request::Check(r) => Some(Asked::Named(Command::Check(r))),
-        Request::Run(r) => Some(Asked::Named(Command::Run(r))),
-        Request::Eval(r) => Some(Asked::Named(Command::Eval(r))),
-        Request::Report(r) => Some(Asked::Named(Command::Report(r))),
-        Request::Make(r) => Some(Asked::Named(Command::Make(r))),
-        Request::Respond(r) => Some(Asked::Respond(r)),
+        Request::Compile(r) => Asked::Named(Command::Compile(r)),
+        Request::Check(r) => Asked::Named(Command::Check(r)),
+        Request::Run(r) => Asked::Named(Command::Run(r)),
+        Request::Eval(r) => Asked::Named(Command::Eval(r)),
+        Request::Report(r) => Asked::Named(Command::Report(r)),
+        Request::Make(r) => Asked::Named(Command::Make(r)),
+        Request::Respond(r) => Asked::Respond(r),
     }
 }
 
@@ -62,7 +50,7 @@ pub fn read_command<'a>(alloc: Global, words: &'a [String]) -> Result<Option<Ask
     ensures { IfOk result (λ o. option_map asked_of o ≡ asked_by (map string_bytes words.now)) }
 {
     match read_words(alloc, words) {
-        Ok(Some(request)) => Ok(built(request)),
+        Ok(Some(request)) => Ok(Some(asked_for(request))),
         Ok(None) => Ok(None),
         Err(_) => Err(Memory),
     }

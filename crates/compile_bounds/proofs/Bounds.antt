@@ -44,7 +44,7 @@ use Rattle.compile_facts.specs.Laws.{AreFactClaims}
 use Rattle.compile_facts.proofs.Forms.{told-claims}
 use Rattle.compile_made.specs.declared.made.Made.{Made}
 use Rattle.compile_made.specs.Made.{IsInMemory, IsMade, copies_of, high_of}
-use Rattle.compile_kept.specs.Limits.{nothing}
+use Rattle.image_frames.specs.Memories.{Placement}
 use Rattle.compile_handed.proofs.Standing.{nevers_fine}
 use Rattle.compile_turns.proofs.Light.{most_limited, source_light}
 use Rattle.compile_turns.proofs.Whole.{all_kept}
@@ -54,12 +54,12 @@ use Rattle.compile_bounds.proofs.Lines.{lines_aligned, lines_ascend, lines_light
 use Rattle.compile_bounds.proofs.Restrictions.{facts_fine, facts_light}
 
 -- of a program in memory, under the claims that are handed on
-module _ (code : LowReg) (y : lays.Laid) (h : IsInMemory code y) (es : List LoopEntry) (ns : List Never) (fs : List FactClaim) where
+module _ (pl : Placement) (code : LowReg) (y : lays.Laid) (h : IsInMemory pl code y) (es : List LoopEntry) (ns : List Never) (fs : List FactClaim) where
   abbrev low : Low
   low = low_of code.low
 
   abbrev laid : Laid
-  laid = laid_of nothing (placed_of code)
+  laid = laid_of pl (placed_of code)
 
   abbrev claims : Claims
   claims = claims_of laid
@@ -75,7 +75,7 @@ module _ (code : LowReg) (y : lays.Laid) (h : IsInMemory code y) (es : List Loop
     own_system = subst (λ (k : Claims). IsSystemOf y.image (named es ns fs k) s) h.laid.claimed.claims is
 
     -- the system under the claims of the program alone
-    pub plain_system : IsSystemOf (image_in nothing (placed_of code)) claims (under claims s)
+    pub plain_system : IsSystemOf (image_in pl (placed_of code)) claims (under claims s)
     plain_system = subst (λ (i : Image). IsSystemOf i claims (under claims s)) h.laid.image (system_same es ns fs y.image claims s refl refl own_system)
 
     pub can_bound : IsLight low → (c : Costs) → AreLightFacts (under claims s) fs → CanSearch (table_of c) s y.claimed.shapes.items y.lists.spans.items
@@ -91,7 +91,7 @@ module _ (source : List ℕ) (names : List (List ℕ)) (program : c.Program) (fa
   are : AreFacts program names facts
   are = (checked source names program facts is).facts_are
 
-  light : IsLight q
+  pub light : IsLight q
   light =
       let carried = made.carried in
       let keeps = made.lowered.keeps_program in
@@ -113,7 +113,7 @@ module _ (source : List ℕ) (names : List (List ℕ)) (program : c.Program) (fa
 
     pub made_only_memory : (fault : CodeFault) → IsFault m.laid.image told fault → fault ≡ Memory
     made_only_memory fault faulty =
-        has_system m.code m.laid made.in_memory es told.nevers told.facts (nevers_fine names program facts m made told h.handed)
+        has_system m.placement m.code m.laid made.in_memory es told.nevers told.facts (nevers_fine names program facts m made told h.handed)
         (facts_fine lines (lines_aligned names program facts m made lines h.lined) told.facts are_claims.standing)
         fault (subst (λ (c : Claims). IsFault m.laid.image c fault) h.handed.claims faulty)
 
@@ -122,17 +122,17 @@ module _ (source : List ℕ) (names : List (List ℕ)) (program : c.Program) (fa
       named_system = subst (λ (k : Claims). IsSystemOf m.laid.image k s) h.handed.claims system
 
       abbrev own : System
-      own = under (claims_of (laid_of nothing (placed_of m.code))) s
+      own = under (claims_of (laid_of m.placement (placed_of m.code))) s
 
       -- per unit the addresses of a mark are visited at most as often as the program may reach it
-      mark_within : (x : Amounts) → IsLoose own 1 x → (mark : ℕ) → int_sum_by (count x s.moves) (places_of (laid_of nothing (placed_of m.code)) mark) ≤ℤ pos (reach (high_of m) mark)
+      mark_within : (x : Amounts) → IsLoose own 1 x → (mark : ℕ) → int_sum_by (count x s.moves) (places_of (laid_of m.placement (placed_of m.code)) mark) ≤ℤ pos (reach (high_of m) mark)
       mark_within x loose mark =
           let kept = made.in_memory.keeps_low in
-          let bounds = kept.flows c own (plain_system m.code m.laid made.in_memory es told.nevers told.facts s named_system) 1 x loose in
+          let bounds = kept.flows c own (plain_system m.placement m.code m.laid made.in_memory es told.nevers told.facts s named_system) 1 x loose in
           let some = bounds.marks mark in
           let same = kept.rooms.reach mark in
           let few = made.lowered.keeps_program.reach mark in
-          below (int_sum_by (count x s.moves) (places_of (laid_of nothing (placed_of m.code)) mark)) (low_reach (placed_of m.code) mark) (low_reach q mark) (reach (high_of m) mark) some same few
+          below (int_sum_by (count x s.moves) (places_of (laid_of m.placement (placed_of m.code)) mark)) (low_reach (placed_of m.code) mark) (low_reach q mark) (reach (high_of m) mark) some same few
         where
           below : (z : ℤ) (a b d : ℕ) → z ≤ℤ (pos 1 *ℤ pos a) → a ≡ b → b ≤ d → z ≤ℤ pos d
           below z a b d h e k = omega (arith, ints)
@@ -146,4 +146,4 @@ module _ (source : List ℕ) (names : List (List ℕ)) (program : c.Program) (fa
       }
 
       pub made_bounded : CanSearch (table_of c) s m.laid.claimed.shapes.items m.laid.lists.spans.items
-      made_bounded = can_bound m.code m.laid made.in_memory es told.nevers told.facts s named_system light c light_facts
+      made_bounded = can_bound m.placement m.code m.laid made.in_memory es told.nevers told.facts s named_system light c light_facts

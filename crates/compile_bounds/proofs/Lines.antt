@@ -19,7 +19,6 @@ use Rattle.report_text.specs.Forms.{Ascend}
 use Rattle.report_text.specs.declared.entries.CopyLine.{CopyLine}
 use Rattle.compile_claims.specs.Places.{places_at}
 use Rattle.compile_facts.specs.Told.{AreAscending}
-use Rattle.compile_kept.specs.Limits.{nothing}
 use Rattle.compile_lines.specs.CopyLines.{AreLinesOf, IsLineOf}
 use Rattle.compile_lines.proofs.Counting.{at_mark, line_sum}
 use Rattle.compile_made.specs.Made.{IsMade, copies_of, high_of}
@@ -47,7 +46,7 @@ module _ (names : List (List ℕ)) (program : Program) (facts : Facts) (m : Made
   marks = (copies_of m).marks
 
   abbrev l : Laid
-  l = laid_of nothing (placed_of m.code)
+  l = laid_of m.placement (placed_of m.code)
 
   abbrev ids : List NameId
   ids = facts.functions ++ facts.markers

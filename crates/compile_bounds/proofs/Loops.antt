@@ -29,7 +29,7 @@ use Rattle.claims_definition.specs.Listed.{Laid, loops_of}
 use Rattle.claims_image.specs.Images.{laid_of}
 use Rattle.compile_made.specs.declared.made.Made.{Made}
 use Rattle.compile_made.specs.Made.{IsInMemory, IsLowered, IsMade, copies_of, high_of}
-use Rattle.compile_kept.specs.Limits.{nothing}
+use Rattle.image_frames.specs.Memories.{Placement}
 use Rattle.compile_carried.proofs.Loops.{source_loops_few}
 use Rattle.compile_turns.proofs.Lowering.{EachLoop, lowered_each, placed_each}
 use Rattle.compile_bounds.specs.Laws.{CanBeNamed}
@@ -53,12 +53,12 @@ module _ (n : ℕ) where
     claims_there claims = All-weaker (IsClaimOf l) IsThere claim_there (loops_of l) claims.each
 
 -- of a program in memory
-memory_there : (p : Program) (code : LowReg) (y : lays.Laid) → IsHigh p → IsLowered p code → IsInMemory code y → All (IsThere p.loops) y.claimed.claims.loops
-memory_there p code y high lowered h =
+memory_there : (p : Program) (pl : Placement) (code : LowReg) (y : lays.Laid) → IsHigh p → IsLowered p code → IsInMemory pl code y → All (IsThere p.loops) y.claimed.claims.loops
+memory_there p pl code y high lowered h =
     let below = All-map_back (λ x. x < p.loops) (λ l. l.id) (loops_in p.functions) (loops_below p high) in
     let low = lowered_each (IsBelow p.loops) p (low_of code.low) lowered.keeps_program below in
     let each = placed_each (IsBelow p.loops) (assignment_of code) (low_of code.low) low in
-    subst (λ (c : Claims). All (IsThere p.loops) c.loops) (sym h.laid.claimed.claims) (claims_there p.loops (laid_of nothing (placed_of code)) each h.keeps_low.loops)
+    subst (λ (c : Claims). All (IsThere p.loops) c.loops) (sym h.laid.claimed.claims) (claims_there p.loops (laid_of pl (placed_of code)) each h.keeps_low.loops)
 
 abbrev number_of : Bounded → ℕ
 number_of l = l.id
@@ -90,7 +90,7 @@ module _ (source : List ℕ) (names : List (List ℕ)) (program : c.Program) (fa
   pub can_be_named : CanBeNamed m
   can_be_named =
       record {
-        there = memory_there p m.code m.laid made.carried.is_high made.lowered made.in_memory;
+        there = memory_there p m.placement m.code m.laid made.carried.is_high made.lowered made.in_memory;
         listed = each_loop (λ x. x < p.loops) listing (all_below p.loops (listed_loops listing) made.carried.carries.lists.loops);
         old = old_small;
         nevers = nevers_small;

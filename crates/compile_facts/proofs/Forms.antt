@@ -1,11 +1,11 @@
 -- Claims on restrictions have the form of a report's facts, and stand at addresses of the copy lines.
-use Rattle.std.proofs.Common.{◌≡◌, ◌≢◌, ℕ, zero, suc, ◌+◌, ◌*◌, ◌^◌, ◌≤◌, ◌<◌, ℤ, pos, ◌+ℤ◌, ◌≤ℤ◌, ◌<ℤ◌, Bool, true, false, nat_lt, List, [], ◌∷◌, ◌++◌, length, map, take, drop, get_or, refl, sym, ap, ◌∙◌, subst, arith, inl, inr, All, Contains}
-use Rattle.std.specs.Prelude.{if◌then◌else◌, sum_by}
+use Rattle.std.proofs.Common.{◌≡◌, ◌≢◌, ℕ, zero, suc, ◌+◌, ◌*◌, ◌^◌, ◌≤◌, ◌<◌, ℤ, pos, ◌+ℤ◌, ◌≤ℤ◌, ◌<ℤ◌, Bool, true, false, nat_lt, List, [], ◌∷◌, length, map, take, drop, get_or, refl, sym, ap, ◌∙◌, subst, arith, inl, inr, All, Contains}
+use Rattle.std.specs.Prelude.{if◌then◌else◌}
 use Rattle.std.specs.List.{flat_map}
 use Rattle.std.proofs.lemmas.Int.{ints}
 use Rattle.std.proofs.lemmas.List.{map-append}
 use Rattle.std.proofs.lemmas.List.Concat.{length-flat_map}
-use Rattle.std.proofs.lemmas.List.Elements.{All-append, All-contains_itself, All-cons, All-drop, All-from_get_or, All-head, All-map, All-nil, All-tail, All-take, All-weaker, Contains-append_left, Contains-append_right}
+use Rattle.std.proofs.lemmas.List.Elements.{All-contains_itself, All-cons, All-drop, All-from_get_or, All-head, All-map, All-nil, All-tail, All-take, All-weaker, Contains-append_left, Contains-append_right}
 use Rattle.frac128.specs.Terms.{Terms, coefficient}
 use Rattle.frac128.specs.Sum.{IsSum, address_at}
 use Rattle.frac128.proofs.TermsLemmas.{coefficient-append}
@@ -16,14 +16,14 @@ use Rattle.facts_definitions.specs.declared.facts.Restriction.{Restriction}
 use Rattle.facts_definitions.specs.declared.facts.Term.{Term}
 use Rattle.flow_facts.specs.Translating.{as_term, index_in, places_of, sum_places, term_places, terms_places}
 use Rattle.flow_facts.specs.declared.places.Places.{Places}
-use Rattle.facts_restrictions.specs.Limits.{AreLimited, IsCountedTerm, IsLimited}
+use Rattle.facts_restrictions.specs.Limits.{IsCountedTerm, IsLimited}
 use Rattle.path_best.specs.Facts.{AreNatural, IsNaturalFact}
 use Rattle.promise_report.specs.Facts.{AreFactLines, IsFactLine, places_by, places_in}
 use Rattle.report_text.specs.declared.entries.CopyLine.{CopyLine}
 use Rattle.report_text.specs.Forms.{Ascend, IsFact, IsTerm}
-use Rattle.compile_facts.specs.Told.{AreAscending, AreFactsTold, places_many}
-use Rattle.compile_facts.specs.Laws.{AreFactClaims, AreLow, StandIn, ToldAreClaims}
-use Rattle.compile_facts.proofs.Sums.{IsSum-among, IsUpTo, Contains-first, Contains-rest, coefficient-own, each, each-contains, each-up_to, is_zero}
+use Rattle.compile_facts.specs.Told.{AreAscending, places_many}
+use Rattle.compile_facts.specs.Laws.{AreLow, StandIn, ToldAreClaims}
+use Rattle.compile_facts.proofs.Sums.{IsSum-among, IsUpTo, coefficient-own, each, each-contains, each-up_to, is_zero}
 
 -- the places of a name are those of a line, or none
 

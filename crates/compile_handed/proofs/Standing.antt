@@ -23,7 +23,6 @@ use Rattle.low_ir.specs.Placings.{placed_of}
 use Rattle.report_text.specs.Forms.{Ascend}
 use Rattle.compile_claims.specs.Named.{never_at, nevers_at}
 use Rattle.compile_claims.specs.Places.{places_at}
-use Rattle.compile_kept.specs.Limits.{nothing}
 use Rattle.compile_made.specs.Made.{IsMade, copies_of, high_of}
 use Rattle.compile_made.specs.declared.made.Made.{Made}
 use Rattle.compile_handed.specs.Handed.{AreHandedOn}
@@ -88,7 +87,7 @@ in_order ns up i j d le lt =
 
 module _ (names : List (List ℕ)) (program : Program) (facts : Facts) (m : Made) (made : IsMade names program facts m) where
   abbrev l : Laid
-  l = laid_of nothing (placed_of m.code)
+  l = laid_of m.placement (placed_of m.code)
 
   abbrev places : List (List ℕ)
   places = m.laid.lists.places.items

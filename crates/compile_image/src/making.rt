@@ -5,10 +5,9 @@ ghost use Rattle.types_tree.specs.View.{program_of as source_of};
 ghost use Rattle.high_ir.specs.Programs.{program_of};
 ghost use Rattle.high_pass.specs.Listing.{listing_of};
 ghost use Rattle.low_ir.specs.Placings.{placed_of};
-ghost use Rattle.image_sizes.specs.Sizes.{HasSizes};
-ghost use Rattle.compile_kept.specs.Limits.{nothing};
 ghost use Rattle.compile_kept.specs.Carried.{IsPlanned};
 ghost use Rattle.compile_made.specs.Made.{IsInMemory, IsLowered};
+ghost use Rattle.compile_made.specs.Placed.{CanBePlaced, Fits, HasNumbers, IsPlacedBy};
 
 use compile_made::{Lowered, Made, Stages};
 use facts_front::Source;
@@ -20,6 +19,7 @@ use low_layout::{Laid, lay};
 use low_live::live;
 use low_make::lower;
 use low_registers::allocate;
+use spm_placement::placement;
 use std::alloc::Global;
 use wcc_base::Memory;
 
@@ -55,41 +55,77 @@ pub fn lowered(alloc: Global, stages: Stages) -> Result<Lowered, Memory>
     }
 }
 
-/// Nothing lies in the scratchpad.
-fn nothing(alloc: Global) -> Placement
-    ensures { result ≡ nothing }
-{
-    Placement {
-        functions: Vec::new(alloc),
-        objects: Vec::new(alloc),
-    }
-}
-
 /// The image of a program over its places, with the claims on it, where the program has room.
-fn image_of(alloc: Global, code: &LowReg) -> Result<Laid, Memory>
-    requires { HasSizes nothing (placed_of code.now) }
-    ensures { IfOk result (IsInMemory code.now) }
+fn image_of(alloc: Global, code: &LowReg, placement: &Placement) -> Result<Laid, Memory>
+    requires { Fits placement.now (placed_of code.now) }
+    ensures { IfOk result (IsInMemory placement.now code.now) }
 {
-    let placement = nothing(alloc);
-    let laid = lay(alloc, code, &placement);
-    drop(placement);
-    laid
+    lay(alloc, code, placement)
 }
 
-/// A source in memory.
-pub fn laid(alloc: Global, lowered: Lowered) -> Result<Made, Memory>
-    requires { HasSizes nothing (placed_of lowered.code) }
+/// A source in memory, with what is placed.
+fn in_memory(alloc: Global, lowered: Lowered, placement: Placement) -> Result<Made, Memory>
+    requires { Fits placement (placed_of lowered.code) }
     ensures stages { IfOk result (λ m. m.stages ≡ lowered.stages) }
     ensures code { IfOk result (λ m. m.code ≡ lowered.code) }
-    ensures memory { IfOk result (λ m. IsInMemory lowered.code m.laid) }
+    ensures placement { IfOk result (λ m. m.placement ≡ placement) }
+    ensures memory { IfOk result (λ m. IsInMemory placement lowered.code m.laid) }
 {
     let Lowered { stages, code } = lowered;
-    match image_of(alloc, &code) {
-        Ok(laid) => Ok(Made { stages, code, laid }),
+    match image_of(alloc, &code, &placement) {
+        Ok(laid) => Ok(Made {
+            stages,
+            code,
+            placement,
+            laid,
+        }),
         Err(memory) => {
             drop(stages);
             drop(code);
+            drop(placement);
             Err(memory)
         }
     }
+}
+
+/// The placement of the functions and arrays with these numbers.
+fn placement_of(alloc: Global, code: &LowReg, numbers: &[u32]) -> Result<Placement, Memory>
+    ensures { IfOk result (HasNumbers numbers.now (placed_of code.now)) }
+{
+    let functions = code.low.functions.len();
+    let objects = code.low.objects.len();
+    placement(alloc, numbers, functions, objects)
+}
+
+/// A source in memory, with the functions and arrays of these numbers in the scratchpad.
+pub fn laid(alloc: Global, lowered: Lowered, numbers: &[u32]) -> Result<Made, Memory>
+    requires { CanBePlaced numbers.now (placed_of lowered.code) }
+    ensures stages { IfOk result (λ m. m.stages ≡ lowered.stages) }
+    ensures code { IfOk result (λ m. m.code ≡ lowered.code) }
+    ensures placed { IfOk result (IsPlacedBy numbers.now) }
+    ensures memory { IfOk result (λ m. IsInMemory m.placement m.code m.laid) }
+{
+    match placement_of(alloc, &lowered.code, numbers) {
+        Ok(placement) => in_memory(alloc, lowered, placement),
+        Err(memory) => {
+            drop(lowered);
+            Err(memory)
+        }
+    }
+}
+
+/// What a source was before it was laid.
+pub fn unlaid(made: Made) -> Lowered
+    ensures stages { result.stages ≡ made.stages }
+    ensures code { result.code ≡ made.code }
+{
+    let Made {
+        stages,
+        code,
+        placement,
+        laid,
+    } = made;
+    drop(placement);
+    drop(laid);
+    Lowered { stages, code }
 }

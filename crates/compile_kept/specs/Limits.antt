@@ -1,5 +1,5 @@
 -- What the limits of sources leave of programs in the high form.
-use Rattle.std.specs.Prelude.{◌≡◌, ℕ, ◌≤◌, ◌^◌, List, [], length, Some, slice_get, sum_by}
+use Rattle.std.specs.Prelude.{◌≡◌, ℕ, ◌≤◌, ◌^◌, List, length, Some, slice_get, sum_by}
 use Rattle.high_ir.specs.declared.object.Storage.{Storage}
 use Rattle.high_ir.specs.declared.object.Storage.TheVariants.{Constant, Global, Local}
 use Rattle.high_ir.specs.Size.{object_bytes}
@@ -7,7 +7,6 @@ use Rattle.high_ir.specs.Tree as high
 use Rattle.high_pass.specs.Law.{WithinBudgets}
 use Rattle.low_ir.specs.Code.{Function, Low, Note}
 use Rattle.low_ir.specs.Places.{Assignment}
-use Rattle.image_frames.specs.Memories.{Placement}
 
 -- the bytes of what doesn't belong to a function
 abbrev pub global_object_bytes : Storage → high.Object → ℕ
@@ -27,7 +26,3 @@ pub record IsLimited (p : high.Program) : Type 0 where
 -- no function has more slots than registers
 abbrev pub HasFewSlots : Assignment → Low → Type 0
 HasFewSlots a q = (f : ℕ) (fn : Function ℕ Note) → slice_get q.functions f ≡ Some fn → a.slots f ≤ fn.size
-
--- nothing lies in the scratchpad
-abbrev pub nothing : Placement
-nothing = record { functions = []; objects = [] }

@@ -1,5 +1,5 @@
 -- How much a program in memory has of what is reported.
-use Rattle.std.proofs.Common.{◌≡◌, ℕ, ◌+◌, ◌≤◌, List, [], ◌∷◌, ◌++◌, length, map, length-append, Option, Some, None, refl, sym, ap, arith, All}
+use Rattle.std.proofs.Common.{◌≡◌, ℕ, ◌+◌, ◌≤◌, List, [], ◌∷◌, ◌++◌, length, map, length-append, Option, Some, None, refl, ap, arith}
 use Rattle.std.specs.Prelude.{sum_by}
 use Rattle.std.proofs.lemmas.List.{length-map}
 use Rattle.std.proofs.lemmas.List.Concat.{flat_map-cons}
@@ -17,23 +17,21 @@ use Rattle.low_ir.specs.Programs.{low_of}
 use Rattle.low_ir.specs.declared.places.LowReg.{LowReg}
 use Rattle.lower_budget.specs.Costs.{marks_at, marks_in}
 use Rattle.elf_image.specs.Text.{text_of}
-use Rattle.code_flow_sizes.specs.Laws.{EndsWithin}
 use Rattle.claims_definition.specs.Listed.{Laid, claims_of}
 use Rattle.claims_image.specs.Images.{laid_of}
 use Rattle.claims_places.specs.Places.{places_below}
+use Rattle.image_frames.specs.Memories.{Placement}
 use Rattle.image_definition.specs.Images.{image_in}
-use Rattle.image_sizes.specs.Sizes.{HasSizes}
+use Rattle.image_sizes.specs.Sizes.{HasRoom}
 use Rattle.layout_laid.specs.declared.laid.Laid as lays
 use Rattle.layout_sizes.specs.Items.{globals_size, instructions_in}
 use Rattle.lower_definition.specs.Objects.{object_of}
 use Rattle.simulation_marks.specs.Laws.{blocks_standing, functions_standing, has_mark}
 use Rattle.simulation_marks.proofs.Standing.{all_few, all_stand}
 use Rattle.compile_made.specs.Made.{IsInMemory, IsLowered}
-use Rattle.compile_kept.specs.Limits.{IsLimited, nothing}
+use Rattle.compile_kept.specs.Limits.{IsLimited}
 use Rattle.compile_sizes.proofs.Functions.{functions_few}
 use Rattle.compile_sizes.proofs.Sizes.{limited_fit}
-use Rattle.compile_told.proofs.Unplaced.{moves_none}
-use Rattle.compile_lengths.proofs.Ends.{code_ends}
 use Rattle.compile_lengths.proofs.Images.{globals_few, text_length}
 
 -- each loop is an operation
@@ -99,7 +97,7 @@ functions_same (fn ∷ fns) =
     let all = sum_by-cons (λ (x : low.Function ℕ Note). sum_by marks_at x.blocks) fn fns in
     omega (arith, one, rest, all)
 
-module _ (p : Program) (is_high : IsHigh p) (limited : IsLimited p) (code : LowReg) (lowered : IsLowered p code) (y : lays.Laid) (h : IsInMemory code y) where
+module _ (p : Program) (is_high : IsHigh p) (limited : IsLimited p) (code : LowReg) (lowered : IsLowered p code) (pl : Placement) (y : lays.Laid) (h : IsInMemory pl code y) where
   abbrev q : Low
   q = low_of code.low
 
@@ -107,23 +105,19 @@ module _ (p : Program) (is_high : IsHigh p) (limited : IsLimited p) (code : LowR
   over = placed_of code
 
   abbrev own : Laid
-  own = laid_of nothing over
+  own = laid_of pl over
 
   operations_few : program_operations p ≤ 98304
   operations_few = limited.budgets.operations
 
-  sizes : HasSizes nothing over
-  sizes = limited_fit p q (assignment_of code) limited lowered.keeps_program lowered.slots
+  room : HasRoom over
+  room = limited_fit p q (assignment_of code) limited lowered.keeps_program lowered.slots
 
-  instructions : instructions_in nothing over ≤ 1589248
+  pub instructions : instructions_in pl over ≤ 1589248
   instructions =
-      let less = (h.keeps_low.small (moves_none over)).instructions in
-      let most = sizes.room.code in
+      let less = (h.keeps_low.small h.moves).instructions in
+      let most = room.code in
       omega (arith, less, most)
-
-  -- code ends behind so many words
-  pub ends : All (EndsWithin 1589248) (image_in nothing over).segments
-  ends = code_ends 1589248 over instructions
 
   pub low_functions : length q.functions ≤ 256
   low_functions =
@@ -158,10 +152,10 @@ module _ (p : Program) (is_high : IsHigh p) (limited : IsLimited p) (code : LowR
       omega (arith, few, stand, same, marks, most)
 
   -- the file of the image: its segments are few, and keep code and arrays
-  pub image_short : length (text_of (image_in nothing over)) ≤ 6619700
+  pub image_short : length (text_of (image_in pl over)) ≤ 6619700
   image_short =
-      let small = h.keeps_low.small (moves_none over) in
-      let text = text_length (image_in nothing over) in
+      let small = h.keeps_low.small h.moves in
+      let text = text_length (image_in pl over) in
       let segments = h.keeps_low.loadable.few in
       let kept = small.kept in
       let code = instructions in

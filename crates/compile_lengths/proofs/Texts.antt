@@ -8,7 +8,7 @@ use Rattle.rv_core.specs.Images.{AreLoadable, Image}
 use Rattle.rv_core.specs.Table.{Table}
 use Rattle.elf_image.specs.Text.{text_of}
 use Rattle.code_flow_system.specs.Claims.{Claims, claim_count}
-use Rattle.code_flow_sizes.specs.Laws.{EndsWithin, HasFew}
+use Rattle.code_flow_sizes.specs.Laws.{EndsWithin, HasFew, Words, count}
 use Rattle.code_flow_sizes.proofs.Few.{has_few}
 use Rattle.facts_definitions.specs.declared.facts.Facts.{Facts}
 use Rattle.facts_front.specs.Fronts.{IsSource}
@@ -35,9 +35,10 @@ use Rattle.compile_names.proofs.Counted.{counted_named}
 use Rattle.compile_reports.specs.Reported.{IsReported}
 use Rattle.compile_reports.proofs.Openings.{functions_counted}
 use Rattle.compile_reports.proofs.Reports.{is_report, restricted}
-use Rattle.compile_kept.specs.Limits.{IsLimited, nothing}
+use Rattle.compile_kept.specs.Limits.{IsLimited}
 use Rattle.compile_lengths.proofs.Copies.{addresses_few, copies_few, nevers_few}
-use Rattle.compile_lengths.proofs.Counts.{claims_loops, ends, exits_few, image_short, low_functions, places_few, regions_few}
+use Rattle.compile_lengths.proofs.Ends.{code_ends, words_in}
+use Rattle.compile_lengths.proofs.Counts.{claims_loops, exits_few, image_short, instructions, low_functions, places_few, regions_few}
 use Rattle.compile_lengths.proofs.Facts.{columns_few, facts_few}
 use Rattle.compile_lengths.proofs.Names.{functions_short, ids_append, ids_length, markers_short}
 use Rattle.compile_lengths.proofs.Shares.{shares_few}
@@ -50,21 +51,21 @@ module _ (names : List (List ℕ)) (program : Program) (facts : Facts) (m : Made
   nevers_counted =
       let places = m.laid.lists.places.items in
       let few = nevers_few names places (copies_of m) (high_of m).marks made.carried.carries.lists.marks in
-      let standing = places_few (high_of m) made.carried.is_high made.carried.limited m.code made.lowered m.laid made.in_memory m.code.low.marks in
-      let same : sum_by (λ (l : List ℕ). length l) places ≡ sum_by (λ (l : List ℕ). length l) (places_below (laid_of nothing (placed_of m.code)) m.code.low.marks) = ap (λ ls. sum_by (λ (l : List ℕ). length l) ls) made.in_memory.laid.lists.places in
+      let standing = places_few (high_of m) made.carried.is_high made.carried.limited m.code made.lowered m.placement m.laid made.in_memory m.code.low.marks in
+      let same : sum_by (λ (l : List ℕ). length l) places ≡ sum_by (λ (l : List ℕ). length l) (places_below (laid_of m.placement (placed_of m.code)) m.code.low.marks) = ap (λ ls. sum_by (λ (l : List ℕ). length l) ls) made.in_memory.laid.lists.places in
       omega (arith, few, standing, same)
 
   pub claims_counted : claim_count m.laid.claimed.claims + length (flat_map (nevers_at m.laid.lists.places.items) (copies_of m).nevers) + 32 < 2 ^ 32
   claims_counted =
       let nevers = nevers_counted in
-      let exits = exits_few (high_of m) made.carried.is_high made.carried.limited m.code made.lowered m.laid made.in_memory in
-      let regions = regions_few (high_of m) made.carried.is_high made.carried.limited m.code made.lowered m.laid made.in_memory in
-      let loops = claims_loops (high_of m) made.carried.is_high made.carried.limited m.code made.lowered m.laid made.in_memory in
+      let exits = exits_few (high_of m) made.carried.is_high made.carried.limited m.code made.lowered m.placement m.laid made.in_memory in
+      let regions = regions_few (high_of m) made.carried.is_high made.carried.limited m.code made.lowered m.placement m.laid made.in_memory in
+      let loops = claims_loops (high_of m) made.carried.is_high made.carried.limited m.code made.lowered m.placement m.laid made.in_memory in
       subst (λ (c : Claims). claim_count c + length (flat_map (nevers_at m.laid.lists.places.items) (copies_of m).nevers) + 32 < 2 ^ 32) (sym made.in_memory.laid.claimed.claims) (omega (arith, nevers, exits, regions, loops))
 
 module _ (source : List ℕ) (names : List (List ℕ)) (program : Program) (facts : Facts) (m : Made) (t : Table) (r : Report) (small : length source ≤ 1048576) (is : IsSource source names program facts) (made : IsMade names program facts m) (reported : IsReported t names facts m r) (typed : IsTyped r) where
   abbrev own : Laid
-  own = laid_of nothing (placed_of m.code)
+  own = laid_of m.placement (placed_of m.code)
 
   abbrev es : List LoopEntry
   es = (copies_of m).loops
@@ -80,21 +81,21 @@ module _ (source : List ℕ) (names : List (List ℕ)) (program : Program) (fact
   addresses =
       let places = m.laid.lists.places.items in
       let few = addresses_few names places (copies_of m) (high_of m).marks made.carried.carries.lists.marks (facts.functions ++ facts.markers) r.names reported.lines in
-      let standing = places_few (high_of m) made.carried.is_high limited m.code made.lowered m.laid made.in_memory m.code.low.marks in
+      let standing = places_few (high_of m) made.carried.is_high limited m.code made.lowered m.placement m.laid made.in_memory m.code.low.marks in
       let same : sum_by (λ (l : List ℕ). length l) places ≡ sum_by (λ (l : List ℕ). length l) (places_below own m.code.low.marks) = ap (λ ls. sum_by (λ (l : List ℕ). length l) ls) made.in_memory.laid.lists.places in
       let nevers = length_permutation (flat_map (nevers_at places) (copies_of m).nevers) r.claims.nevers reported.claims.nevers.all in
       omega (arith, few, standing, same, nevers)
 
   exits : length r.claims.exits ≤ 1589248
-  exits = subst (λ (c : Claims). length c.exits ≤ 1589248) (sym claims_are) (exits_few (high_of m) made.carried.is_high limited m.code made.lowered m.laid made.in_memory)
+  exits = subst (λ (c : Claims). length c.exits ≤ 1589248) (sym claims_are) (exits_few (high_of m) made.carried.is_high limited m.code made.lowered m.placement m.laid made.in_memory)
 
   regions : length r.claims.regions ≤ 1589248
-  regions = subst (λ (c : Claims). length c.regions ≤ 1589248) (sym claims_are) (regions_few (high_of m) made.carried.is_high limited m.code made.lowered m.laid made.in_memory)
+  regions = subst (λ (c : Claims). length c.regions ≤ 1589248) (sym claims_are) (regions_few (high_of m) made.carried.is_high limited m.code made.lowered m.placement m.laid made.in_memory)
 
   loops : length r.claims.loops ≤ 98304
   loops =
       let many = length-map (claims_of own).loops (by_entries es) in
-      let few = claims_loops (high_of m) made.carried.is_high limited m.code made.lowered m.laid made.in_memory in
+      let few = claims_loops (high_of m) made.carried.is_high limited m.code made.lowered m.placement m.laid made.in_memory in
       subst (λ (c : Claims). length c.loops ≤ 98304) (sym claims_are) (omega (arith, many, few))
 
   -- names, and where they stand
@@ -130,26 +131,30 @@ module _ (source : List ℕ) (names : List (List ℕ)) (program : Program) (fact
   shares : shares_room r.shares ≤ 1065025
   shares =
       let many = functions_counted source names program facts is ∙ sym made.carried.carries.functions in
-      let few = shares_few names facts.functions (high_of m) (low_of m.code.low) made.lowered.keeps_program many (assignment_of m.code) nothing t reported.system r.cert.flow.parts r.kind m.laid.lists.ranges.items r.shares reported.shared made.in_memory.laid.lists.ranges in
-      let functions = low_functions (high_of m) made.carried.is_high limited m.code made.lowered m.laid made.in_memory in
+      let few = shares_few names facts.functions (high_of m) (low_of m.code.low) made.lowered.keeps_program many (assignment_of m.code) m.placement t reported.system r.cert.flow.parts r.kind m.laid.lists.ranges.items r.shares reported.shared made.in_memory.laid.lists.ranges in
+      let functions = low_functions (high_of m) made.carried.is_high limited m.code made.lowered m.placement m.laid made.in_memory in
       let called = functions_short source names program facts is in
       omega (arith, few, functions, called, small)
 
-  certificate : HasFew 1589248 r.cert
+  abbrev words : Words
+  words = words_in m.placement (placed_of m.code)
+
+  certificate : HasFew (count words) r.cert
   certificate =
       let loadable = subst (λ (i : Image). AreLoadable i.segments) (sym made.in_memory.laid.image) made.in_memory.keeps_low.loadable in
-      let end = subst (λ (i : Image). All (EndsWithin 1589248) i.segments) (sym made.in_memory.laid.image) (ends (high_of m) made.carried.is_high limited m.code made.lowered m.laid made.in_memory) in
-      has_few 1589248 m.laid.image r.claims t reported.system r.cert loadable end reported.is_system reported.form reported.accepted
+      let end = subst (λ (i : Image). All (EndsWithin words) i.segments) (sym made.in_memory.laid.image) (code_ends m.placement (placed_of m.code)) in
+      has_few words m.laid.image r.claims t reported.system r.cert loadable end reported.is_system reported.form reported.accepted
 
   pub short : AreShort (text_of m.laid.image) (report_text r)
   short =
-      let image = image_short (high_of m) made.carried.is_high limited m.code made.lowered m.laid made.in_memory in
+      let image = image_short (high_of m) made.carried.is_high limited m.code made.lowered m.placement m.laid made.in_memory in
       let same = ap (λ i. length (text_of i)) made.in_memory.laid.image in
       let report = is_report source names program facts m t r is made reported in
       let text = text_short r report typed in
       let potentials = certificate.potentials in
       let parts = certificate.parts in
+      let code : count words ≤ 1589248 = instructions (high_of m) made.carried.is_high limited m.code made.lowered m.placement m.laid made.in_memory in
       record {
         image = omega (arith, image, same);
-        report = omega (arith, text, copies, exits, addresses, regions, loops, restrictions, columns, potentials, parts, shares);
+        report = omega (arith, text, copies, exits, addresses, regions, loops, restrictions, columns, potentials, parts, code, shares);
       }

@@ -6,14 +6,15 @@ use Rattle.high_ir.specs.Programs.{program_of}
 use Rattle.high_ir.specs.Tree.{Program}
 use Rattle.high_pass.specs.Listing.{Listing, listing_of}
 use Rattle.low_ir.specs.declared.places.LowReg.{LowReg}
-use Rattle.low_ir.specs.Placings.{placings_of}
+use Rattle.low_ir.specs.Placings.{placed_of, placings_of}
 use Rattle.low_ir.specs.Programs.{low_of}
 use Rattle.low_registers.specs.Spills.{HaveFewSlots, SpillWhereCrowded}
 use Rattle.lower_law.specs.Programs.{KeepsProgram}
+use Rattle.image_frames.specs.Memories.{Placement}
+use Rattle.layout_sizes.specs.Items.{MovesItems}
 use Rattle.layout_laid.specs.declared.laid.Laid.{Laid}
 use Rattle.layout_laid.specs.Laid.{IsLaid}
 use Rattle.layout_kept.specs.Kept.{KeepsLow}
-use Rattle.compile_kept.specs.Limits.{nothing}
 use Rattle.compile_kept.specs.Carried.{IsCarried}
 use Rattle.compile_made.specs.declared.made.Made.{Made}
 
@@ -23,10 +24,11 @@ pub record IsLowered (program : Program) (code : LowReg) : Type 0 where
   pub spills : SpillWhereCrowded (low_of code.low) (placings_of code)
   pub slots : HaveFewSlots (low_of code.low) (placings_of code)
 
--- its image, with nothing in the scratchpad
-pub record IsInMemory (code : LowReg) (y : Laid) : Type 0 where
-  pub laid : IsLaid nothing code y
-  pub keeps_low : KeepsLow nothing (placings_of code) (low_of code.low)
+-- its image, with these functions and arrays in the scratchpad
+pub record IsInMemory (pl : Placement) (code : LowReg) (y : Laid) : Type 0 where
+  pub laid : IsLaid pl code y
+  pub moves : MovesItems pl (placed_of code)
+  pub keeps_low : KeepsLow pl (placings_of code) (low_of code.low)
 
 -- the last program in the high form, and what became in it of the marks and loops of the source
 abbrev pub high_of : Made → Program
@@ -39,4 +41,4 @@ copies_of m = listing_of m.stages.last.copies
 pub record IsMade (names : List (List ℕ)) (source : c.Program) (facts : Facts) (m : Made) : Type 0 where
   pub carried : IsCarried names source facts (length m.stages.before.items) (high_of m) (copies_of m)
   pub lowered : IsLowered (high_of m) m.code
-  pub in_memory : IsInMemory m.code m.laid
+  pub in_memory : IsInMemory m.placement m.code m.laid

@@ -1,5 +1,6 @@
 // A source from its plan to its image.
 use high_ir::Carried;
+use image_memory::Placement;
 use layout_laid::Laid;
 use low_ir::LowReg;
 
@@ -25,5 +26,7 @@ pub struct Lowered {
 pub struct Made {
     pub stages: Stages,
     pub code: LowReg,
+    /// Which of its functions and arrays lie in the scratchpad.
+    pub placement: Placement,
     pub laid: Laid,
 }

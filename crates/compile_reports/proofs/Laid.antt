@@ -23,7 +23,6 @@ use Rattle.compile_claims.specs.Named.{named}
 use Rattle.compile_claims.proofs.Systems.{system_same}
 use Rattle.compile_made.specs.Made.{IsMade, copies_of}
 use Rattle.compile_made.specs.declared.made.Made.{Made}
-use Rattle.compile_kept.specs.Limits.{nothing}
 use Rattle.compile_reports.specs.Reported.{IsReported}
 
 -- the claims of a system are sound
@@ -35,7 +34,7 @@ module _ (names : List (List ℕ)) (program : Program) (facts : Facts) (m : Made
   over = placed_of m.code
 
   abbrev pub laid : Laid
-  laid = laid_of nothing over
+  laid = laid_of m.placement over
 
   abbrev pub es : List LoopEntry
   es = (copies_of m).loops
@@ -49,7 +48,7 @@ module _ (names : List (List ℕ)) (program : Program) (facts : Facts) (m : Made
   pub claims_named : r.claims ≡ named es ns fs (claims_of laid)
   claims_named = reported.claims.claims ∙ ap (named es ns fs) made.in_memory.laid.claimed.claims
 
-  system_named : IsSystemOf (image_in nothing over) (named es ns fs (claims_of laid)) reported.system
+  system_named : IsSystemOf (image_in m.placement over) (named es ns fs (claims_of laid)) reported.system
   system_named =
       subst (λ image. IsSystemOf image (named es ns fs (claims_of laid)) reported.system) made.in_memory.laid.image
       (subst (λ claims. IsSystemOf m.laid.image claims reported.system) claims_named reported.is_system)
@@ -58,4 +57,4 @@ module _ (names : List (List ℕ)) (program : Program) (facts : Facts) (m : Made
   pub spans_fit : Fits (under (claims_of laid) reported.system) m.laid.claimed.shapes.items (spans_from (placing laid) 0 (suc (length over.functions)))
   spans_fit =
       made.in_memory.keeps_low.claims.fits (under (claims_of laid) reported.system) m.laid.claimed.shapes.items
-      (system_same es ns fs (image_in nothing over) (claims_of laid) reported.system refl refl system_named) made.in_memory.laid.claimed.shapes
+      (system_same es ns fs (image_in m.placement over) (claims_of laid) reported.system refl refl system_named) made.in_memory.laid.claimed.shapes

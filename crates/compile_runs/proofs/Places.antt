@@ -21,7 +21,7 @@ use Rattle.claims_definition.specs.Listed.{Laid, places_of}
 use Rattle.claims_image.specs.Images.{laid_of}
 use Rattle.claims_places.specs.Places.{places_below}
 use Rattle.layout_laid.specs.declared.laid.Laid as lays
-use Rattle.compile_kept.specs.Limits.{nothing}
+use Rattle.image_frames.specs.Memories.{Placement}
 use Rattle.compile_made.specs.Made.{IsInMemory}
 
 -- over places a block has the mark that it has over virtual registers
@@ -52,9 +52,9 @@ module _ (low : Low) (is : IsLow low) (mark : ℕ) where
   marked_below : (a : Assignment) (f b : ℕ) → mark_of (placed a low) f b ≡ Some mark → mark < low.marks
   marked_below a f b e = in_function f b (slice_get low.functions f) refl (sym (in_functions a 0 low.functions f b) ∙ e)
 
-module _ (code : LowReg) (y : lays.Laid) (is_low : IsLow (low_of code.low)) (h : IsInMemory code y) where
+module _ (pl : Placement) (code : LowReg) (y : lays.Laid) (is_low : IsLow (low_of code.low)) (h : IsInMemory pl code y) where
   abbrev pub laid : Laid
-  laid = laid_of nothing (placed_of code)
+  laid = laid_of pl (placed_of code)
 
   -- past the marks of the program there are no addresses
   none_past : (mark : ℕ) (xs : List ℕ) → code.low.marks ≤ mark → All (IsPlaceOf laid mark) xs → xs ≡ []

@@ -31,7 +31,6 @@ use Rattle.claims_definition.specs.Listed.{claims_of}
 use Rattle.claims_image.specs.Images.{laid_of}
 use Rattle.compile_image_law.specs.Laws.{AreKept, EndsAsMain, IsCompiled, passed}
 use Rattle.compile_image_law.proofs.Sources.{source_shows}
-use Rattle.compile_kept.specs.Limits.{nothing}
 use Rattle.compile_claims.specs.Laws.{under}
 use Rattle.compile_claims.specs.Named.{named}
 use Rattle.compile_claims.proofs.Bounds.{run_keeps}
@@ -59,7 +58,7 @@ module _ (names : List (List ℕ)) (program : Program) (facts : Facts) (m : Made
   abbrev code : LowReg
   code = m.code
 
-  abbrev memory : IsInMemory code m.laid
+  abbrev memory : IsInMemory m.placement code m.laid
   memory = made.in_memory
 
   abbrev low : Low
@@ -72,11 +71,11 @@ module _ (names : List (List ℕ)) (program : Program) (facts : Facts) (m : Made
   over = placed_of code
 
   abbrev image : Image
-  image = image_in nothing over
+  image = image_in m.placement over
 
   -- the claims on the image, by the loops of the program
   abbrev claims : Claims
-  claims = claims_of (laid_of nothing over)
+  claims = claims_of (laid_of m.placement over)
 
   abbrev nevers : List Never
   nevers = r.claims.nevers
@@ -97,16 +96,16 @@ module _ (names : List (List ℕ)) (program : Program) (facts : Facts) (m : Made
   counted = facts.functions ++ facts.markers
 
   -- where a run passes the copies of each mark as often as this counts, each line has the counts of a mark
-  module _ (run : Run) (counts : List ℕ) (passes : All (λ (e : MarkEntry). int_sum_by (passed nothing over run) e.new ≡ pos (slice_index_or counts e.old 0)) listing.marks) where
+  module _ (run : Run) (counts : List ℕ) (passes : All (λ (e : MarkEntry). int_sum_by (passed m.placement over run) e.new ≡ pos (slice_index_or counts e.old 0)) listing.marks) where
     by_entry : (k : ℕ) (c : CopyLine) → IsSummed names m.laid.lists.places.items (visit_count run.visits) listing.marks k c → visits_at run.visits c ≡ pos (slice_index_or counts k 0)
     by_entry k c summed =
         let e = summed.entry in
         let past : MarkEntry = record { old = k; new = [] } in
         let number : e.old ≡ k = ap (λ (x : MarkEntry). x.old) (sym (get_or_from_slice_get listing.marks k e past summed.there)) ∙ number_at (λ (x : MarkEntry). x.old) listing.marks (source_marks program facts) k past made.carried.carries.marks refl in
         let there : slice_index_or listing.marks k e ≡ e = get_or_from_slice_get listing.marks k e e summed.there in
-        let own = subst (λ (x : MarkEntry). int_sum_by (passed nothing over run) x.new ≡ pos (slice_index_or counts x.old 0)) there (passes k e (slice_get_within listing.marks k e summed.there)) in
+        let own = subst (λ (x : MarkEntry). int_sum_by (passed m.placement over run) x.new ≡ pos (slice_index_or counts x.old 0)) there (passes k e (slice_get_within listing.marks k e summed.there)) in
         summed.sum
-        ∙ int_sum_by-same (λ mark. int_sum_by (visit_count run.visits) (places_at m.laid.lists.places.items mark)) (passed nothing over run) e.new (λ mark. ap (int_sum_by (visit_count run.visits)) (places_same code m.laid made.lowered.keeps_program.is_low memory mark))
+        ∙ int_sum_by-same (λ mark. int_sum_by (visit_count run.visits) (places_at m.laid.lists.places.items mark)) (passed m.placement over run) e.new (λ mark. ap (int_sum_by (visit_count run.visits)) (places_same m.placement code m.laid made.lowered.keeps_program.is_low memory mark))
         ∙ own
         ∙ ap (λ i. pos (slice_index_or counts i 0)) number
 
@@ -117,16 +116,16 @@ module _ (names : List (List ℕ)) (program : Program) (facts : Facts) (m : Made
   behaviour = source_behaviour program names facts
 
   -- a run that shows what the source does keeps what is reported
-  kept : AreKept behaviour listing nothing over reported.system.claims
+  kept : AreKept behaviour listing m.placement over reported.system.claims
   kept input shown run is shows keeps =
       let own = nevers_kept (visit_count run.visits) m.laid.lists.places.items listing.nevers nevers reported.claims.nevers (visits_some run.visits)
-      (λ k d lt. ap (int_sum_by (visit_count run.visits)) (places_same code m.laid made.lowered.keeps_program.is_low memory _) ∙ shows.nevers k d lt) in
+      (λ k d lt. ap (int_sum_by (visit_count run.visits)) (places_same m.placement code m.laid made.lowered.keeps_program.is_low memory _) ∙ shows.nevers k d lt) in
       let had = unviolated counted facts.restrictions shown (source_outcome program names facts input) is in
       let many = lines_many names m.laid.lists.places.items counted listing.marks r.names reported.lines in
       let held = told_kept facts r.names (visit_count run.visits) had.counts many (line_counts run had.counts (λ k d lt. shows.counts k d lt ∙ ap pos (had.are _))) restrictions limited reported.restricted had.none in
       subst (λ c. KeepsClaims c run) (sym (system_is.same_claims)) (run_keeps loops nevers restrictions claims run own held keeps)
 
-  compiled : IsCompiled behaviour (high_of m) listing low nothing placings reported.system t r.cert
+  compiled : IsCompiled behaviour (high_of m) listing low m.placement placings reported.system t r.cert
   compiled = record {
     whole = made.carried.whole;
     keeps_program = made.lowered.keeps_program;
@@ -139,9 +138,9 @@ module _ (names : List (List ℕ)) (program : Program) (facts : Facts) (m : Made
     accepted = reported.accepted;
   }
 
-  module _ (input : List ℕ) (output : List ℕ) (value : ℤ) (counts : List ℕ) (n : ℕ) (h : EndsAsMain listing output value counts nothing over reported.system.claims t input r.cert.cycles n) where
+  module _ (input : List ℕ) (output : List ℕ) (value : ℤ) (counts : List ℕ) (n : ℕ) (h : EndsAsMain listing output value counts m.placement over reported.system.claims t input r.cert.cycles n) where
     abbrev run : Run
-    run = run_of nothing over t input n
+    run = run_of m.placement over t input n
 
     as_reported : RunsAs r output value counts run
     as_reported = record {
@@ -154,5 +153,5 @@ module _ (names : List (List ℕ)) (program : Program) (facts : Facts) (m : Made
 
   pub runs_as_source : RunsAsSource program names facts t m.laid.image r
   runs_as_source input bytes output value counts means =
-      let ends = source_shows program names facts (high_of m) listing low nothing placings reported.system t r.cert made.carried.carries compiled input bytes output value counts means in
+      let ends = source_shows program names facts (high_of m) listing low m.placement placings reported.system t r.cert made.carried.carries compiled input bytes output value counts means in
       (ends.0, subst (λ i. RunsAs r output value counts (mrun (setup i t input) ends.0)) (sym memory.laid.image) (as_reported input output value counts ends.0 ends.1))

@@ -1,17 +1,16 @@
 -- The low program of a program that keeps the limits has room.
-use Rattle.std.proofs.Common.{ℕ, ◌*◌, List, length, ap, arith}
+use Rattle.std.proofs.Common.{ap, arith}
 use Rattle.high_ir.specs.Tree as high
 use Rattle.low_ir.specs.Code.{Low}
 use Rattle.low_ir.specs.Places.{Assignment, placed}
 use Rattle.low_placed_room.proofs.Rooms.{room_kept}
 use Rattle.lower_law.specs.Programs.{KeepsProgram}
-use Rattle.image_sizes.specs.Sizes.{HasSizes, constants_room, variables_room}
-use Rattle.image_sizes.proofs.FitLemmas.{nothing_fits}
-use Rattle.compile_kept.specs.Limits.{HasFewSlots, IsLimited, nothing}
+use Rattle.image_sizes.specs.Sizes.{HasRoom, constants_room, variables_room}
+use Rattle.compile_kept.specs.Limits.{HasFewSlots, IsLimited}
 use Rattle.compile_sizes.proofs.Arrays.{constants_few, variables_few}
 use Rattle.compile_sizes.proofs.Functions.{frames_few, functions_few}
 
-pub limited_fit : (p : high.Program) (q : Low) (a : Assignment) → IsLimited p → KeepsProgram p q → HasFewSlots a q → HasSizes nothing (placed a q)
+pub limited_fit : (p : high.Program) (q : Low) (a : Assignment) → IsLimited p → KeepsProgram p q → HasFewSlots a q → HasRoom (placed a q)
 limited_fit p q a limited keeps few =
     let functions = limited.functions in
     let globals = limited.globals in
@@ -25,9 +24,8 @@ limited_fit p q a limited keeps few =
     let variables = variables_few p.objects in
     let constants_are = ap constants_room keeps.objects in
     let variables_are = ap variables_room keeps.objects in
-    nothing_fits (placed a q)
-    (record {
+    record {
       code = omega (arith, functions, operations, count, same, room);
       constants = omega (arith, constants, constants_are, globals);
       variables = omega (arith, frames, variables, variables_are, count, functions, globals, operations, locals);
-    })
+    }

@@ -11,8 +11,8 @@ use Rattle.plan_definition.specs.Programs.{program_planned}
 use Rattle.low_ir.specs.Code.{Low}
 use Rattle.low_ir.specs.Places.{Assignment, placed}
 use Rattle.lower_law.specs.Programs.{KeepsProgram}
-use Rattle.image_sizes.specs.Sizes.{HasSizes}
-use Rattle.compile_kept.specs.Limits.{HasFewSlots, IsLimited, nothing}
+use Rattle.image_sizes.specs.Sizes.{HasRoom}
+use Rattle.compile_kept.specs.Limits.{HasFewSlots, IsLimited}
 
 -- the plan of a source keeps the limits
 abbrev pub PlansKeepLimits : Type 0
@@ -24,4 +24,4 @@ PassesKeepLimits = (old new : high.Program) (listing : Listing) → IsLawful old
 
 -- over whatever places the low program of such a program is
 abbrev pub LimitedProgramsFit : Type 0
-LimitedProgramsFit = (p : high.Program) (q : Low) (a : Assignment) → IsLimited p → KeepsProgram p q → HasFewSlots a q → HasSizes nothing (placed a q)
+LimitedProgramsFit = (p : high.Program) (q : Low) (a : Assignment) → IsLimited p → KeepsProgram p q → HasFewSlots a q → HasRoom (placed a q)

@@ -1,5 +1,5 @@
--- The image of a source: nothing lies in its scratchpad, and its loads and stores lie in lines.
-use Rattle.std.proofs.Common.{◌≡◌, ℕ, ◌<◌, List, refl, sym, ap, ◌∙◌, subst, true, Contains, All}
+-- The image of a source: its scratchpad has what is placed there, and its loads and stores lie in lines.
+use Rattle.std.proofs.Common.{◌≡◌, ℕ, ◌<◌, ◌≤◌, List, refl, sym, ap, ◌∙◌, subst, true, Contains, All}
 use Rattle.std.specs.Prelude.{slice_get}
 use Rattle.std.proofs.lemmas.List.Elements.{All-contains_itself, All-weaker}
 use Rattle.rv_core.specs.Images.{Image}
@@ -29,28 +29,28 @@ use Rattle.compile_claims.specs.Laws.{under}
 use Rattle.compile_claims.specs.Named.{named}
 use Rattle.compile_claims.proofs.Systems.{system_same}
 use Rattle.compile_made.specs.declared.made.Made.{Made}
+use Rattle.compile_made.specs.Placed.{placed_bytes}
 use Rattle.compile_made.specs.Made.{IsMade, copies_of, high_of}
 use Rattle.promise_report.specs.Compiled.{AreLined, IsLined, scratchpad_taken}
-use Rattle.compile_kept.specs.Limits.{nothing}
 use Rattle.compile_reports.specs.Reported.{IsReported}
 use Rattle.compile_told.proofs.Lined.{move_lined}
 use Rattle.compile_told.proofs.Lists.{all_got, map_got}
-use Rattle.compile_told.proofs.Unplaced.{moves_none, unplaced}
+use Rattle.compile_told.proofs.Placed.{taken_few}
 
 module _ (names : List (List ℕ)) (program : Program) (facts : Facts) (m : Made) (made : IsMade names program facts m) where
   abbrev over : Placed
   over = placed (assignment (placings_of m.code)) (low_of m.code.low)
 
   abbrev own : Laid
-  own = laid_of nothing over
+  own = laid_of m.placement over
 
-  image_is : m.laid.image ≡ image_in nothing over
+  image_is : m.laid.image ≡ image_in m.placement over
   image_is = made.in_memory.laid.image
 
-  pub made_unplaced : scratchpad_taken m.laid.image.segments ≡ 0
-  made_unplaced = subst (λ (i : Image). scratchpad_taken i.segments ≡ 0) (sym image_is) (unplaced over (made.in_memory.keeps_low.small (moves_none over)))
+  pub made_take : scratchpad_taken m.laid.image.segments ≤ placed_bytes m.placement over
+  made_take = subst (λ (i : Image). scratchpad_taken i.segments ≤ placed_bytes m.placement over) (sym image_is) (taken_few m.placement over (made.in_memory.keeps_low.small made.in_memory.moves))
 
-  elements : HasElements over
+  pub elements : HasElements over
   elements o x e =
       let from = map_got object_of (high_of m).objects o x (sym (ap (λ l. slice_get l o) made.lowered.keeps_program.objects) ∙ e) in
       subst (λ (z : Object). 0 < z.size) from.2 (all_got (λ (y : high.Object). 0 < y.size) (high_of m).objects o from.0 made.carried.elements from.1)
@@ -69,18 +69,18 @@ module _ (names : List (List ℕ)) (program : Program) (facts : Facts) (m : Made
     claims_are = reported.claims.claims ∙ ap (named es ns fs) made.in_memory.laid.claimed.claims
 
     -- under the claims on the image, whose loops have numbers of their own
-    own_system : IsSystemOf (image_in nothing over) (claims_of own) (under (claims_of own) s)
+    own_system : IsSystemOf (image_in m.placement over) (claims_of own) (under (claims_of own) s)
     own_system =
-        system_same es ns fs (image_in nothing over) (claims_of own) s refl refl
-        (subst (λ (c : Claims). IsSystemOf (image_in nothing over) c s) claims_are (subst (λ (i : Image). IsSystemOf i r.claims s) image_is system))
+        system_same es ns fs (image_in m.placement over) (claims_of own) s refl refl
+        (subst (λ (c : Claims). IsSystemOf (image_in m.placement over) c s) claims_are (subst (λ (i : Image). IsSystemOf i r.claims s) image_is system))
 
     pub reported_lined : AreLined m.laid.image r s
     reported_lined =
         let kept = made.in_memory.keeps_low in
-        let filled = kept.filled (moves_none over) elements in
+        let filled = kept.filled made.in_memory.moves elements in
         let Lined : Image → List Within → Move → Type 0 = λ image lines move. accesses (row_of move.instr.op).class ≡ true → IsLined image lines move in
-        let each : All (Lined (image_in nothing over) (regions_of own)) s.moves =
-        All-weaker (Contains s.moves) (Lined (image_in nothing over) (regions_of own)) (λ move there loads. move_lined own (image_in nothing over) kept.claims (under (claims_of own) s) own_system kept.listed kept.lines filled move there loads) s.moves
+        let each : All (Lined (image_in m.placement over) (regions_of own)) s.moves =
+        All-weaker (Contains s.moves) (Lined (image_in m.placement over) (regions_of own)) (λ move there loads. move_lined own (image_in m.placement over) kept.claims (under (claims_of own) s) own_system kept.listed kept.lines filled move there loads) s.moves
         (All-contains_itself s.moves) in
         subst (λ (i : Image). All (Lined i r.claims.regions) s.moves) (sym image_is)
-        (subst (λ (lines : List Within). All (Lined (image_in nothing over) lines) s.moves) (sym (ap (λ (c : Claims). c.regions) claims_are)) each)
+        (subst (λ (lines : List Within). All (Lined (image_in m.placement over) lines) s.moves) (sym (ap (λ (c : Claims). c.regions) claims_are)) each)

@@ -1,7 +1,7 @@
 pub mod Lists
 pub mod Loading
 pub mod Lined
-pub mod Unplaced
+pub mod Placed
 pub mod Images
 pub mod Copies
 pub mod Naming

@@ -1,5 +1,5 @@
 -- What is reported of a source tells its facts.
-use Rattle.std.proofs.Common.{◌≡◌, ℕ, ◌<◌, List, [], ◌++◌, length, map, Some, refl, sym, ap, ◌∙◌, subst, Contains, All}
+use Rattle.std.proofs.Common.{◌≡◌, ℕ, ◌<◌, List, ◌++◌, length, map, Some, refl, sym, ap, ◌∙◌, subst, Contains, All}
 use Rattle.std.specs.Prelude.{option_map, slice_get, slice_index_or}
 use Rattle.std.proofs.lemmas.Option.{none-some, slice_get-get_or, slice_get-map}
 use Rattle.rv_core.specs.Table.{Table}
@@ -31,7 +31,6 @@ use Rattle.compile_claims.specs.Named.{named as renamed}
 use Rattle.compile_made.specs.declared.made.Made.{Made}
 use Rattle.compile_made.specs.Made.{IsMade, copies_of, high_of}
 use Rattle.promise_report.specs.Facts.{IsLoopLine, TellsFacts}
-use Rattle.compile_kept.specs.Limits.{nothing}
 use Rattle.compile_reports.specs.Reported.{AreShared, IsReported}
 use Rattle.compile_reports.proofs.Openings.{functions_counted}
 use Rattle.compile_told.proofs.Copies.{names_told}
@@ -56,7 +55,7 @@ module _ (source : List ℕ) (names : List (List ℕ)) (program : Program) (fact
   a = assignment (placings_of m.code)
 
   abbrev own : Laid
-  own = laid_of nothing (placed a q)
+  own = laid_of m.placement (placed a q)
 
   abbrev es : List LoopEntry
   es = (copies_of m).loops
@@ -74,7 +73,7 @@ module _ (source : List ℕ) (names : List (List ℕ)) (program : Program) (fact
   record HasCode (i : ℕ) (s : Share) : Type 0 where
     function : ℕ
     place : slice_get (by_address own) i ≡ Some function
-    name : s.name ≡ name_at names facts.functions (high_of m) q made.lowered.keeps_program a nothing many function
+    name : s.name ≡ name_at names facts.functions (high_of m) q made.lowered.keeps_program a m.placement many function
     first : s.first ≡ base_of (placing own) function
 
   has_code : (i : ℕ) (s : Share) → slice_get r.shares i ≡ Some s → HasCode i s
@@ -109,9 +108,9 @@ module _ (source : List ℕ) (names : List (List ℕ)) (program : Program) (fact
         shares = λ i d lt.
             let s = slice_index_or r.shares i d in
             let h = has_code i s (slice_get-get_or r.shares i d lt) in
-            share_lined names facts.functions (high_of m) q keeps a nothing many places made.in_memory.laid.lists.places facts.markers marks openings r.names reported.lines kept.marks kept.ranges s h.function h.name h.first;
+            share_lined names facts.functions (high_of m) q keeps a m.placement many places made.in_memory.laid.lists.places facts.markers marks openings r.names reported.lines kept.marks kept.ranges s h.function h.name h.first;
         shares_apart = λ i j s u less e f same.
             let h = has_code i s e in
             let k = has_code j u f in
-            names_differ names facts.functions (high_of m) q keeps a nothing many (functions_apart source names program facts is) kept.ranges (order_below own kept.claims.settled) i j h.function k.function less h.place k.place (sym h.name ∙ same ∙ k.name);
+            names_differ names facts.functions (high_of m) q keeps a m.placement many (functions_apart source names program facts is) kept.ranges (order_below own kept.claims.settled) i j h.function k.function less h.place k.place (sym h.name ∙ same ∙ k.name);
       }

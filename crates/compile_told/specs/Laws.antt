@@ -1,5 +1,5 @@
 -- What is reported of a source tells its facts, and where the accesses of the image go.
-use Rattle.std.specs.Prelude.{◌≡◌, ℕ, List}
+use Rattle.std.specs.Prelude.{◌≤◌, ℕ, List}
 use Rattle.rv_core.specs.Table.{Table}
 use Rattle.code_flow_system.specs.Systems.{System, IsSystemOf}
 use Rattle.report_text.specs.Reports.{Report}
@@ -9,7 +9,9 @@ use Rattle.facts_definitions.specs.declared.facts.Facts.{Facts}
 use Rattle.facts_front.specs.Fronts.{IsSource}
 use Rattle.types_tree.specs.Tree.{Program}
 use Rattle.compile_made.specs.declared.made.Made.{Made}
+use Rattle.low_ir.specs.Placings.{placed_of}
 use Rattle.compile_made.specs.Made.{IsMade}
+use Rattle.compile_made.specs.Placed.{placed_bytes}
 use Rattle.compile_reports.specs.Reported.{IsReported}
 
 -- a source is told in whole
@@ -24,6 +26,7 @@ ReportedAreLined =
     (source : List ℕ) (names : List (List ℕ)) (program : Program) (facts : Facts) (m : Made) (t : Table) (r : Report) (s : System) → IsSource source names program facts → IsMade names program facts m → IsReported t names facts m r → IsSystemOf m.laid.image r.claims s
     → AreLined m.laid.image r s
 
--- nothing lies in the scratchpad
-abbrev pub MadeAreUnplaced : Type 0
-MadeAreUnplaced = (source : List ℕ) (names : List (List ℕ)) (program : Program) (facts : Facts) (m : Made) → IsSource source names program facts → IsMade names program facts m → scratchpad_taken m.laid.image.segments ≡ 0
+-- an image takes no more of the scratchpad than the sizes of what is placed there
+abbrev pub MadeTakeWhatIsPlaced : Type 0
+MadeTakeWhatIsPlaced =
+    (source : List ℕ) (names : List (List ℕ)) (program : Program) (facts : Facts) (m : Made) → IsSource source names program facts → IsMade names program facts m → scratchpad_taken m.laid.image.segments ≤ placed_bytes m.placement (placed_of m.code)

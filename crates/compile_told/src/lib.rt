@@ -2,7 +2,7 @@
 //!
 //! Proved, by calls with empty bodies, of the report on the image of a source: [`reported_tell_facts`], that its names, bounds of
 //! loops, restrictions, addresses that are never visited and shares are those of the source;
-//! [`reported_are_lined`], that each load and store lies in a line of regions; and of the image [`made_are_unplaced`].
+//! [`reported_are_lined`], that each load and store lies in a line of regions; and of the image [`made_take_what_is_placed`].
 //!
 //! `proofs/Naming` shows that no two functions have one name, `proofs/Loops` of which loop of the source each claim is, `proofs/Nevers`
 //! that claims on never marks stand behind more starts than their loops make, `proofs/Shares` where shares begin; `proofs/Loading`
@@ -11,7 +11,7 @@
 //! The crate knows no runs, no search, and not how an image is made.
 #![tactic(auto)]
 
-ghost use Rattle.compile_told.specs.Laws.{MadeAreUnplaced, ReportedAreLined, ReportedTellFacts};
+ghost use Rattle.compile_told.specs.Laws.{MadeTakeWhatIsPlaced, ReportedAreLined, ReportedTellFacts};
 
 /// The lines of the report are what a source says.
 pub fn reported_tell_facts()
@@ -23,7 +23,7 @@ pub fn reported_are_lined()
     ensures { ReportedAreLined }
 {}
 
-/// Nothing lies in the scratchpad.
-pub fn made_are_unplaced()
-    ensures { MadeAreUnplaced }
+/// An image takes no more of the scratchpad than what is placed there.
+pub fn made_take_what_is_placed()
+    ensures { MadeTakeWhatIsPlaced }
 {}

@@ -10,10 +10,13 @@ pub struct Options {
     pub costs: Costs,
     /// Whether bounds of counting loops are derived.
     pub derive: bool,
+    /// How many bytes of the scratchpad may be used.
+    pub spm: u32,
     /// How many statements and expressions a function has at most that is put into the place of its calls.
     pub inline: u32,
     /// How many starts of an innermost loop become one.
     pub unroll: u32,
+    pub ghost room: { spm ≤ 65536 },
     pub ghost least: { 1 ≤ unroll },
     pub ghost most: { unroll ≤ 64 },
 }

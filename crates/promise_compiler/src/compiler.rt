@@ -20,7 +20,7 @@ pub trait Compiler {
 
     /// The image of a source, and the report on it, or why there is none.
     fn compile(&self, alloc: Global, source: &[u8], options: &Options) -> Result<Built, Refusal>
-        ensures ok { IfOk result (λ b. IsCompiled options.now.derive (table_of options.now.costs) source.now (text_of b.image) (report_text b.report) b.report) }
+        ensures ok { IfOk result (λ b. IsCompiled options.now.derive options.now.spm (table_of options.now.costs) source.now (text_of b.image) (report_text b.report) b.report) }
         // It goes that way, with these options and no others.
         ensures built { IfOk result (λ b. builds options.now source.now (text_of b.image) (report_text b.report)) }
         // No run that keeps within the bound ends at a limit of cycles.

@@ -1,5 +1,5 @@
 -- What `compile` promises of the image and the report that it writes for a source, in six statements with a name each.
-use Rattle.std.specs.Prelude.{◌≡◌, ℕ, ◌+◌, ◌<◌, List, [], ◌∷◌, Bool, true, Contains, All, if◌then◌else◌}
+use Rattle.std.specs.Prelude.{◌≡◌, ℕ, ◌+◌, ◌<◌, ◌≤◌, List, [], ◌∷◌, Bool, true, Contains, All, if◌then◌else◌}
 use Rattle.rv_core.specs.declared.image.Segment.{Segment}
 use Rattle.rv_core.specs.declared.regions.Region.{Region}
 use Rattle.rv_core.specs.declared.regions.Region.TheVariants.{Spm}
@@ -49,11 +49,11 @@ pub record IsLined (image : Image) (lines : List Within) (m : Move) : Type 0 whe
 abbrev pub AreLined : Image → Report → System → Type 0
 AreLined image r s = All (λ (m : Move). accesses (row_of m.instr.op).class ≡ true → IsLined image r.claims.regions m) s.moves
 
--- the written image and report: these are the texts of both, and the image has nothing in the scratchpad
-pub record AreWritten (image_text report_text : List ℕ) (image : Image) (report : Report) : Type 0 where
+-- the written image and report: these are the texts of both, and the image takes at most so many bytes of the scratchpad
+pub record AreWritten (spm : ℕ) (image_text report_text : List ℕ) (image : Image) (report : Report) : Type 0 where
   pub text_is : image_text ≡ text_of image
   pub loads : image_of image_text ≡ image
-  pub scratchpad : scratchpad_taken image.segments ≡ 0
+  pub scratchpad : scratchpad_taken image.segments ≤ spm
   pub report_is : IsTextOf report_text report
   pub version : report.version ≡ 2
 
@@ -76,8 +76,9 @@ pub record CyclesAreGreatest (costs : Table) (system : System) (report : Report)
   pub reached : IsReached report.kind costs system report
   pub rounded : report.cert.cycles ≡ whole_part (potential report.cert system.entry) report.cert.scale
 
--- the source of these bytes, the texts of an image and a report, and whether bounds were derived and the costs with which they were made
-pub record IsCompiled (derive : Bool) (costs : Table) (source image_text report_text : List ℕ) (report : Report) : Type 0 where
+-- the source of these bytes, the texts of an image and a report, and whether bounds were derived, how much of the scratchpad may be used, and the costs with which
+-- they were made
+pub record IsCompiled (derive : Bool) (spm : ℕ) (costs : Table) (source image_text report_text : List ℕ) (report : Report) : Type 0 where
   -- the source's typed program, and its facts
   pub names : List (List ℕ)
   pub program : Program
@@ -85,7 +86,7 @@ pub record IsCompiled (derive : Bool) (costs : Table) (source image_text report_
   pub is_source : IsSourceBy derive source names program facts
   -- the written image and report
   pub image : Image
-  pub written : AreWritten image_text report_text image report
+  pub written : AreWritten spm image_text report_text image report
   -- on every input on which the source's run is defined and keeps its annotations, the image prints and returns what the source does,
   -- within the cycles of the report, and keeps what the report claims
   pub runs : RunsAsSource program names facts costs image report

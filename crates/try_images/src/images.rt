@@ -3,7 +3,8 @@ use super::placing::everything;
 use layout_fitting::{lay_placed, sizes_of};
 use layout_laid::Laid;
 use low_ir::{Low, LowReg, all_slots};
-use low_plain_places::plain;
+use low_live::live;
+use low_registers::allocate;
 use std::alloc::Global;
 use wcc_base::Memory;
 
@@ -14,11 +15,17 @@ pub enum Places {
     Registers,
 }
 
+/// Machine registers where they suffice.
+fn in_registers(alloc: Global, low: Low) -> Result<LowReg, Memory> {
+    let live = live(alloc, &low)?;
+    allocate(alloc, low, &live)
+}
+
 /// The program with places.
 pub fn with_places(alloc: Global, low: Low, places: Places) -> Result<LowReg, Memory> {
     match places {
         Places::Slots => all_slots(alloc, low),
-        Places::Registers => plain(alloc, low),
+        Places::Registers => in_registers(alloc, low),
     }
 }
 

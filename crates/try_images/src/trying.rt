@@ -3,10 +3,13 @@ ghost use Rattle.std.specs.Prelude.{◌≡◌, IfOk};
 ghost use Rattle.try_sources.specs.declared.comparing.Verdict.TheVariants.{Equal};
 ghost use Rattle.try_images.specs.Verdicts.{ExitsAs};
 
+use super::bounds::greatest;
 use super::images::{Places, placed, with_places};
 use super::runs::over_image;
 use elf_image::write;
-use high_ir::{Carried, MarkCopies};
+use high_fold::Fold;
+use high_ir::{Carried, High, MarkCopies};
+use high_pass::Pass;
 use layout_fitting::lay_unplaced;
 use layout_laid::Laid;
 use low_ir::LowReg;
@@ -19,7 +22,7 @@ use wcc_base::Memory;
 
 /// The words that are commands.
 pub const USAGE: &str =
-    "try_images run SOURCE INPUT [MEANT], try_images image SOURCE slots|registers nothing|everything IMAGE, or try_images lay SOURCE slots|registers TIMES";
+    "try_images run SOURCE INPUT [MEANT], try_images image SOURCE slots|registers nothing|everything IMAGE, try_images lay SOURCE slots|registers TIMES, or try_images bound SOURCE slots|registers";
 
 /// How the run of an image compares with what the source means.
 fn verdict_of(
@@ -145,13 +148,28 @@ fn places_named(word: &str) -> Result<Places, Fault> {
     Err(Fault::Usage(USAGE))
 }
 
+fn lowered(alloc: Global, program: &High, places: Places) -> Result<LowReg, Memory> {
+    let low = lower(alloc, program)?;
+    with_places(alloc, low, places)
+}
+
 fn code_of(rt: &HostRuntime, source: &str, places: Places) -> Result<LowReg, Fault> {
     let text = fs::read(rt, source)?;
     let made = made_of(rt.alloc(), &text)?;
-    let low = lower(rt.alloc(), &made.program);
+    let code = lowered(rt.alloc(), &made.program, places);
     drop(made);
-    let code = with_places(rt.alloc(), low?, places)?;
-    Ok(code)
+    Ok(code?)
+}
+
+fn folded_code_of(rt: &HostRuntime, source: &str, places: Places) -> Result<LowReg, Fault> {
+    let text = fs::read(rt, source)?;
+    let made = made_of(rt.alloc(), &text)?;
+    let folded = Fold.run(rt.alloc(), &made.program);
+    drop(made);
+    let folded = folded?;
+    let code = lowered(rt.alloc(), &folded.program, places);
+    drop(folded);
+    Ok(code?)
 }
 
 fn write_laid(rt: &HostRuntime, laid: &Option<Laid>, image: &str) -> Result<(), Fault> {
@@ -208,4 +226,30 @@ pub fn lay_times(rt: &HostRuntime, source: &str, places: &str, times: &str) -> R
     let laid = lay_code(rt, &code, times);
     drop(code);
     laid
+}
+
+fn print_greatest(rt: &HostRuntime, laid: &Laid) -> Result<(), Fault> {
+    match greatest(rt.alloc(), laid)? {
+        None => println!(rt; "none")?,
+        Some(cycles) => println!(rt; "greatest {cycles}")?,
+    }
+    Ok(())
+}
+
+fn print_laid(rt: &HostRuntime, code: &LowReg) -> Result<(), Fault> {
+    let laid = lay_unplaced(rt.alloc(), code)?;
+    let printed = match &laid {
+        None => Err(Fault::Untried("the program has no room")),
+        Some(laid) => print_greatest(rt, laid),
+    };
+    drop(laid);
+    printed
+}
+
+/// Prints the greatest value of a flow of a source's folded program that keeps its loop bounds, with nothing in the scratchpad.
+pub fn print_bound(rt: &HostRuntime, source: &str, places: &str) -> Result<(), Fault> {
+    let code = folded_code_of(rt, source, places_named(places)?)?;
+    let printed = print_laid(rt, &code);
+    drop(code);
+    printed
 }

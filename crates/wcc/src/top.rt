@@ -16,8 +16,7 @@ use wcc_compile::WccCompiler;
 
 /// The program: it does what the words ask, prints how it ended, and says so.
 ///
-/// The words, without the program's name, are those of a command, as `command_words` reads them;
-/// commands and options that aren't built yet are answered by the usage.
+/// The words, without the program's name, are those of a command, as `command_words` reads them.
 pub fn wcc<S: Store, O: Sink>(alloc: Global, words: &[String], store: &mut S, out: &mut O) -> Status
     // Whatever the status: which files are whole, partly written or as they were, and what was printed.
     ensures ends { EndsWith (asked_by (map string_bytes words.now)) (S.state store.old) (S.state store.new) (O.state out.old) (O.state out.new) result }
@@ -31,8 +30,9 @@ pub fn wcc<S: Store, O: Sink>(alloc: Global, words: &[String], store: &mut S, ou
     ensures done { result ≡ Status.Done → IsDone (asked_by (map string_bytes words.now)) (S.state store.old) (S.state store.new) (O.state out.old) (O.state out.new) }
 
     // What `compile` wrote went through every stage with what its words say: the costs of its table, each
-    // pass with its number, so that those of `--inline` and `--unroll` are the ones that were used, and
-    // bounds that are derived where that is asked for. `make` takes no options.
+    // pass with its number, so that those of `--inline` and `--unroll` are the ones that were used,
+    // bounds that are derived where that is asked for, and the best choice of what lies in the scratchpad
+    // within the bytes of `--spm`. `make` takes no options.
     ensures built { result ≡ Status.Done → AreBuilt IsWritten (asked_by (map string_bytes words.now)) (S.state store.old) (S.state store.new) }
 
     // What `compile` and `make` wrote, `check` accepts: with the same table it can only end so.

@@ -1,2 +1,4 @@
 pub mod Reports
 pub mod Shared
+pub mod Steps
+pub mod Gaining

@@ -6,7 +6,8 @@ use Rattle.promise_compiler.specs.declared.built.Options.{Options}
 use Rattle.wcc_compile.specs.Built.{IsBuilt}
 use Rattle.wcc_compile.specs.declared.built.Built.{Built}
 
--- the texts of the image and of the report of a compilation that went through every stage with these options: each pass with its number
+-- the texts of the image and of the report of a compilation that went through every stage with these options: each pass with its number,
+-- and the choice of what lies in the scratchpad with its capacity
 pub record IsWritten (options : Options) (source image report : List ℕ) : Type 0 where
   pub built : Built
   pub is_built : IsBuilt options source built

@@ -7,7 +7,7 @@ use promise_compiler::Built as Written;
 use rv_core::Image;
 use wcc_report::Report;
 
-/// What a source is compiled to, with all that it was on the way.
+/// What a source is laid out as, with all that it was on the way, and the report on it.
 #[derive(Drop)]
 pub struct Built {
     pub made: Made,
@@ -18,9 +18,15 @@ pub struct Built {
 fn image_of(made: Made) -> Image
     ensures { result ≡ made.laid.image }
 {
-    let Made { stages, code, laid } = made;
+    let Made {
+        stages,
+        code,
+        placement,
+        laid,
+    } = made;
     drop(stages);
     drop(code);
+    drop(placement);
     let Laid {
         image,
         claimed,

@@ -18,7 +18,7 @@ pub struct WccCompiler;
 
 /// What is written of a source.
 fn compiled(alloc: Global, source: &[u8], options: &Options) -> Result<Built, Refusal>
-    ensures ok { IfOk result (λ b. IsCompiled options.now.derive (table_of options.now.costs) source.now (text_of b.image) (report_text b.report) b.report) }
+    ensures ok { IfOk result (λ b. IsCompiled options.now.derive options.now.spm (table_of options.now.costs) source.now (text_of b.image) (report_text b.report) b.report) }
     ensures built { IfOk result (λ b. IsWritten options.now source.now (text_of b.image) (report_text b.report)) }
     ensures cycles { IfOk result (λ b. b.report.cert.cycles ≤ 2 ^ 62) }
     ensures short { IfOk result (λ b. length source.now ≤ 1048576 → AreShort (text_of b.image) (report_text b.report)) }

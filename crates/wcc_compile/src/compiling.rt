@@ -17,7 +17,7 @@ use std::alloc::Global;
 /// The image of a source and the report on it, with all that the source was on the way.
 pub fn compile(alloc: Global, source: &[u8], options: &Options) -> Result<Built, Refusal>
     ensures built { IfOk result (IsBuilt options.now source.now) }
-    ensures ok { IfOk result (λ b. IsCompiled options.now.derive (table_of options.now.costs) source.now (text_of b.made.laid.image) (report_text b.report) b.report) }
+    ensures ok { IfOk result (λ b. IsCompiled options.now.derive options.now.spm (table_of options.now.costs) source.now (text_of b.made.laid.image) (report_text b.report) b.report) }
     ensures cycles { IfOk result (λ b. b.report.cert.cycles ≤ 2 ^ 62) }
     ensures short { IfOk result (λ b. length source.now ≤ 1048576 → AreShort (text_of b.made.laid.image) (report_text b.report)) }
     ensures err { IfErr result (Fails options.now.derive source.now) }

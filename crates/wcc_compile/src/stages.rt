@@ -1,30 +1,43 @@
 // The stages from a source to its image and its report.
-ghost use Rattle.std.specs.Prelude.{◌≡◌, ◌≤◌, ◌^◌, ℕ, Bool, List, length, IfOk};
+ghost use Rattle.std.specs.Prelude.{◌≡◌, ◌≤◌, ◌^◌, ℕ, Bool, List, [], length, map, All, IfOk};
+ghost use Rattle.code_flow_system.specs.Certificates.{PartsAscend};
 ghost use Rattle.elf_image.specs.Text.{text_of};
 ghost use Rattle.promise_compiler.specs.Lengths.{AreShort};
 ghost use Rattle.promise_report.specs.Compiled.{IsCompiled};
 ghost use Rattle.report_laws.specs.Typed.{IsTyped};
 ghost use Rattle.report_text.specs.Lines.{report_text};
 ghost use Rattle.rv_core.specs.Table.{table_of};
+ghost use Rattle.claims_movables.specs.declared.item.LaidItem.{LaidItem};
+ghost use Rattle.claims_movables.specs.Listed.{movable_of};
+ghost use Rattle.spm_placement.specs.Gains.{HasFewVisits, gained};
+ghost use Rattle.spm_placement.specs.Sets.{AreBest, HasSmallGain};
 ghost use Rattle.compile_made.specs.Made.{IsMade};
+ghost use Rattle.compile_made.specs.Placed.{IsPlacedBy};
 ghost use Rattle.compile_passes.specs.Passes.{AreBegun, AreStages, passes, stages_of};
 ghost use Rattle.compile_reporting.specs.Sources.{IsMadeOf, IsOf, IsOfBy, IsReportOn, names_of, tree_of};
-ghost use Rattle.wcc_compile.specs.Built.{IsBuilt};
+ghost use Rattle.wcc_compile.specs.Built.{IsBuilt, gains_of};
+ghost use Rattle.wcc_compile.specs.Steps.{IsFirst, IsLast};
 
 use crate::built::Built;
 use crate::laws::reported_are_compiled;
-use compile_image::{laid, lowered, planned};
+use claims_movables::LaidItem;
+use compile_choices::{
+    choices_can_be_placed, choices_fit, items_are_few, items_are_whole, nothing_can_be_placed,
+};
+use compile_image::{laid, lowered, planned, unlaid};
 use compile_lengths::texts_are_short;
 use compile_made::{Made, Stages};
 use compile_passes::{begun, passed};
 use compile_reporting::{find, joined, tell};
 use compile_reports::reported_are_reports;
+use compile_visits::flows_visit_few;
 use elf_image::read_of_write;
 use facts_front::Source;
 use high_fold::Fold;
 use inliner::Inline;
 use promise_compiler::Options;
 use rv_core::Costs;
+use spm_placement::{Item, choose, gains};
 use std::alloc::Global;
 use unroller::Unroll;
 use wcc_base::Memory;
@@ -50,16 +63,18 @@ fn high(alloc: Global, source: &Source, options: &Options) -> Result<Stages, Mem
     Ok(stages)
 }
 
-/// A source in memory: what the passes make of it, the low form, the image.
+/// A source in memory: what the passes make of it, the low form, the image with nothing in the scratchpad.
 fn made(alloc: Global, source: &Source, options: &Options) -> Result<Made, Memory>
     requires { (text : List ℕ) × IsOf text source.now }
     ensures stages { IfOk result (λ m. AreStages options.now (names_of source.now) (tree_of source.now) source.now.facts (stages_of m.stages)) }
     ensures all { IfOk result (λ m. length m.stages.before.items ≡ passes) }
     ensures made { IfOk result (IsMade (names_of source.now) (tree_of source.now) source.now.facts) }
+    ensures none { IfOk result (IsPlacedBy []) }
 {
+    nothing_can_be_placed();
     let stages = high(alloc, source, options)?;
     let lowered = lowered(alloc, stages)?;
-    let made = laid(alloc, lowered)?;
+    let made = laid(alloc, lowered, &[])?;
     Ok(made)
 }
 
@@ -81,23 +96,125 @@ fn reported(alloc: Global, source: &Source, made: &Made, costs: &Costs) -> Resul
     }
 }
 
-/// The image of a source that was read, and the report on it, with these options.
-pub fn built(alloc: Global, source: &Source, options: &Options) -> Result<Built, Memory>
-    requires { (text : List ℕ) × IsOf text source.now }
-    ensures built { IfOk result (λ b. (text : List ℕ) → IsOfBy options.now.derive text source.now → IsBuilt options.now text b) }
-    ensures compiled { IfOk result (λ b. (derive : Bool) (text : List ℕ) → IsOfBy derive text source.now → IsCompiled derive (table_of options.now.costs) text (text_of b.made.laid.image) (report_text b.report) b.report) }
+/// Both together.
+fn with_report(alloc: Global, source: &Source, made: Made, costs: &Costs) -> Result<Built, Memory>
+    requires { IsMadeOf source.now made }
+    ensures made { IfOk result (λ b. b.made ≡ made) }
+    ensures reported { IfOk result (λ b. IsReportOn (table_of costs.now) source.now b.made b.report) }
+    ensures typed { IfOk result (λ b. IsTyped b.report) }
     ensures cycles { IfOk result (λ b. b.report.cert.cycles ≤ 2 ^ 62) }
-    ensures short { IfOk result (λ b. (text : List ℕ) → IsOf text source.now → length text ≤ 1048576 → AreShort (text_of b.made.laid.image) (report_text b.report)) }
 {
-    reported_are_compiled();
-    texts_are_short();
-    let made = made(alloc, source, options)?;
-    read_of_write(&made.laid.image);
-    match reported(alloc, source, &made, &options.costs) {
+    match reported(alloc, source, &made, costs) {
         Ok(report) => Ok(Built { made, report }),
         Err(memory) => {
             drop(made);
             Err(memory)
         }
     }
+}
+
+/// A source with nothing in the scratchpad, and the report on it.
+fn first(alloc: Global, source: &Source, options: &Options) -> Result<Built, Memory>
+    requires { (text : List ℕ) × IsOf text source.now }
+    ensures laid { IfOk result (IsFirst options.now source.now) }
+    ensures typed { IfOk result (λ b. IsTyped b.report) }
+    ensures cycles { IfOk result (λ b. b.report.cert.cycles ≤ 2 ^ 62) }
+{
+    let made = made(alloc, source, options)?;
+    with_report(alloc, source, made, &options.costs)
+}
+
+/// What the items of a laid program gain, by the flow that the certificate of a report lists.
+fn gains_by(
+    alloc: Global,
+    items: &[LaidItem],
+    report: &Report,
+    costs: &Costs,
+) -> Result<Vec<Item>, Memory>
+    requires ascending { PartsAscend report.now.cert.flow.parts }
+    requires few { All (λ (i : LaidItem). HasFewVisits report.now.cert.flow.parts (movable_of i)) items.now }
+    ensures values { IfOk result (λ gains. gains.items ≡ map (λ (i : LaidItem). gained (table_of costs.now) report.now.cert.flow.parts (movable_of i)) items.now) }
+    ensures small { IfOk result (λ gains. All HasSmallGain gains.items) }
+{
+    gains(alloc, items, &report.cert.flow, costs)
+}
+
+/// The numbers of the functions and arrays to place, by the flow that the first certificate lists: no others that fit
+/// gain more.
+fn chosen(
+    alloc: Global,
+    source: &Source,
+    first: &Built,
+    options: &Options,
+) -> Result<Vec<u32>, Memory>
+    requires { IsFirst options.now source.now first.now }
+    ensures { IfOk result (λ ids. AreBest (gains_of (table_of options.now.costs) first.now) options.now.spm ids.items) }
+{
+    flows_visit_few();
+    items_are_whole();
+    items_are_few();
+    let items = &first.made.laid.lists.items;
+    let gains = gains_by(alloc, items, &first.report, &options.costs)?;
+    choose(alloc, &gains, options.spm)
+}
+
+/// A source with these functions and arrays in the scratchpad, and the report on it.
+fn last(
+    alloc: Global,
+    source: &Source,
+    first: Built,
+    options: &Options,
+    chosen: &[u32],
+) -> Result<Built, Memory>
+    requires first { IsFirst options.now source.now first }
+    requires best { AreBest (gains_of (table_of options.now.costs) first) options.now.spm chosen.now }
+    ensures laid { IfOk result (IsLast options.now source.now) }
+    ensures typed { IfOk result (λ b. IsTyped b.report) }
+    ensures cycles { IfOk result (λ b. b.report.cert.cycles ≤ 2 ^ 62) }
+{
+    choices_can_be_placed();
+    let Built { made, report } = first;
+    drop(report);
+    let made = laid(alloc, unlaid(made), chosen)?;
+    with_report(alloc, source, made, &options.costs)
+}
+
+/// A source with the best choice of what lies in the scratchpad. Where nothing is chosen, it stays as it was laid first.
+fn placed(alloc: Global, source: &Source, first: Built, options: &Options) -> Result<Built, Memory>
+    requires first { IsFirst options.now source.now first }
+    requires typed { IsTyped first.report }
+    requires cycles { first.report.cert.cycles ≤ 2 ^ 62 }
+    ensures laid { IfOk result (IsLast options.now source.now) }
+    ensures typed { IfOk result (λ b. IsTyped b.report) }
+    ensures cycles { IfOk result (λ b. b.report.cert.cycles ≤ 2 ^ 62) }
+{
+    match chosen(alloc, source, &first, options) {
+        Ok(numbers) => {
+            if numbers.is_empty() {
+                return Ok(first);
+            }
+            last(alloc, source, first, options, &numbers)
+        }
+        Err(memory) => {
+            drop(first);
+            Err(memory)
+        }
+    }
+}
+
+/// The image of a source that was read, and the report on it, with these options.
+pub fn built(alloc: Global, source: &Source, options: &Options) -> Result<Built, Memory>
+    requires { (text : List ℕ) × IsOf text source.now }
+    ensures built { IfOk result (λ b. (text : List ℕ) → IsOfBy options.now.derive text source.now → IsBuilt options.now text b) }
+    ensures compiled { IfOk result (λ b. (derive : Bool) (text : List ℕ) → IsOfBy derive text source.now → IsCompiled derive options.now.spm (table_of options.now.costs) text (text_of b.made.laid.image) (report_text b.report) b.report) }
+    ensures cycles { IfOk result (λ b. b.report.cert.cycles ≤ 2 ^ 62) }
+    ensures short { IfOk result (λ b. (text : List ℕ) → IsOf text source.now → length text ≤ 1048576 → AreShort (text_of b.made.laid.image) (report_text b.report)) }
+{
+    choices_fit();
+    reported_are_compiled();
+    texts_are_short();
+    let first = first(alloc, source, options)?;
+    let built = placed(alloc, source, first, options)?;
+    read_of_write(&built.made.laid.image);
+    Ok(built)
 }

@@ -8,7 +8,7 @@ use Rattle.command_perform.proofs.numbered.tried.Goals as goal
 
 pub returns-clause-made : goal.returns-clause-made
 returns-clause-made c =
-    let compiled = subst (λ (k : List ℕ). Compiles false default_table k c.args.texts) c.requires.source c.requires.compiled in
+    let compiled = subst (λ (k : List ℕ). Compiles false 0 default_table k c.args.texts) c.requires.source c.requires.compiled in
     let ran = rw c.as_slice.ensures at c.in_ok-ran.ensures in
     makes (make_request c.args.asked) c.args.texts c.in_ok-ran.ran.machine c.in_ok-ran.ran.ending c.outputs.result compiled ran c.outputs.ensures
 

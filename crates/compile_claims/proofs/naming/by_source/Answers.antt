@@ -4,7 +4,6 @@ use Rattle.std.proofs.lemmas.List.Sorted.{length_permutation}
 use Rattle.std.specs.List.{flat_map}
 use Rattle.code_flow_system.specs.Claims.{claims_of}
 use Rattle.code_flow_system.specs.declared.claims.LoopClaim.{LoopClaim}
-use Rattle.code_flow_system.specs.declared.claims.Never.{Never}
 use Rattle.high_ir.specs.declared.copies.LoopCopies.{LoopCopies}
 use Rattle.high_ir.specs.declared.copies.NeverMark.{NeverMark}
 use Rattle.high_pass.specs.Listing.{loop_entry}

@@ -12,7 +12,7 @@ returns c =
     let code = c.in_ok-code.code in
     let same = sym c.in_ok-code.ensures.low in
     record {
-      keeps_program = subst (λ (l : Low). KeepsProgram (program_of c.args.program.now) (low_of l)) same c.in_ok-low.ensures;
+      keeps_program = subst (λ (l : Low). KeepsProgram (program_of c.args.program.now) (low_of l)) same c.in_ok-low.ensures.keeps;
       spills = subst (λ (l : Low). SpillWhereCrowded (low_of l) (placings_of code)) same c.in_ok-code.ensures.spills;
       slots = subst (λ (l : Low). HaveFewSlots (low_of l) (placings_of code)) same c.in_ok-code.ensures.slots;
     }

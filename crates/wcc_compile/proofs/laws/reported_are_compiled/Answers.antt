@@ -1,4 +1,4 @@
-use Rattle.std.proofs.Common.{refl, sym, subst}
+use Rattle.std.proofs.Common.{refl, sym, subst, arith}
 use Rattle.code_flow_system.specs.Systems.{IsSystemOf}
 use Rattle.elf_image.specs.Text.{text_of}
 use Rattle.facts_front.proofs.Ways.{one_way}
@@ -8,8 +8,9 @@ use Rattle.wcc_compile.proofs.Shared.{cycles_greatest}
 use Rattle.wcc_compile.proofs.laws.reported_are_compiled.Goals as goal
 
 pub returns : goal.returns
-returns c = λ derive source names program facts m t r by made reported loads typed.
+returns c = λ derive spm source names program facts m t r by made few reported loads typed.
     let is = one_way derive source names program facts by in
+    let taken = c.made_take_what_is_placed.ensures source names program facts m is made in
     let found = c.reported_hold.ensures source names program facts m t r is made reported typed loads.loadable loads.same in
     let system = reported.system in
     let own = subst (λ i. IsSystemOf i r.claims system) (sym loads.same) reported.is_system in
@@ -23,7 +24,7 @@ returns c = λ derive source names program facts m t r by made reported loads ty
       written = record {
         text_is = refl;
         loads = loads.same;
-        scratchpad = c.made_are_unplaced.ensures source names program facts m is made;
+        scratchpad = omega (arith, taken, few);
         report_is = holds.found.read.is_text;
         version = reported.version;
       };

@@ -1,38 +1,29 @@
 use Rattle.rv_core.specs.Table.{table_of}
 use Rattle.compile_reporting.specs.Sources.{names_of, tree_of}
+use Rattle.wcc_compile.proofs.Steps.{fits}
 use Rattle.wcc_compile.proofs.stages.built.Goals as goal
 
-pub reported-requires : goal.reported-requires
-reported-requires c = record { text = c.requires.0; is_source = c.requires.1; is_made = c.in_ok-made.ensures.made }
-
-pub returns-in-Ok-clause-built : goal.returns-in-Ok-clause-built
-returns-in-Ok-clause-built c =
+pub returns-clause-built : goal.returns-clause-built
+returns-clause-built c =
     let s = c.args.source.now in
-    let from = c.in_ok-made.ensures in
-    λ text is. record {
-      names = names_of s;
-      program = tree_of s;
-      facts = s.facts;
-      is_source = is;
-      stages = from.stages;
-      all = from.all;
-      made = from.made;
-      reported = c.in-Ok.ensures.reported;
-    }
+    let last = c.in_ok-built.ensures.laid in
+    λ text is. record { names = names_of s; program = tree_of s; facts = s.facts; is_source = is; laid_out = last.laid_out; placed = last.placed }
 
-pub returns-in-Ok-clause-compiled : goal.returns-in-Ok-clause-compiled
-returns-in-Ok-clause-compiled c =
-    let t = table_of c.args.options.now.costs in
+pub returns-clause-compiled : goal.returns-clause-compiled
+returns-clause-compiled c =
+    let options = c.args.options.now in
+    let t = table_of options.costs in
     let s = c.args.source.now in
-    let m = c.in_ok-made.made in
-    let r = c.in-Ok.report in
+    let b = c.in_ok-built.built in
+    let last = c.in_ok-built.ensures.laid in
     λ derive text is.
-    c.reported_are_compiled.ensures derive text (names_of s) (tree_of s) s.facts m t r is c.in_ok-made.ensures.made c.in-Ok.ensures.reported (record { loadable = c.read_of_write.ensures.loads; same = c.read_of_write.ensures.same }) c.in-Ok.ensures.typed
+    c.reported_are_compiled.ensures derive options.spm text (names_of s) (tree_of s) s.facts b.made t b.report is last.laid_out.made (fits c.choices_fit.ensures options s b last) last.laid_out.reported
+    (record { loadable = c.read_of_write.ensures.loads; same = c.read_of_write.ensures.same }) c.in_ok-built.ensures.typed
 
-pub returns-in-Ok-clause-short : goal.returns-in-Ok-clause-short
-returns-in-Ok-clause-short c =
+pub returns-clause-short : goal.returns-clause-short
+returns-clause-short c =
     let t = table_of c.args.options.now.costs in
     let s = c.args.source.now in
-    let m = c.in_ok-made.made in
-    let r = c.in-Ok.report in
-    λ text is small. c.texts_are_short.ensures text (names_of s) (tree_of s) s.facts m t r small is c.in_ok-made.ensures.made c.in-Ok.ensures.reported c.in-Ok.ensures.typed
+    let b = c.in_ok-built.built in
+    let last = c.in_ok-built.ensures.laid in
+    λ text is small. c.texts_are_short.ensures text (names_of s) (tree_of s) s.facts b.made t b.report small is last.laid_out.made last.laid_out.reported c.in_ok-built.ensures.typed

@@ -1,17 +1,15 @@
 use Rattle.std.proofs.Common.{length, sym, subst}
 use Rattle.high_ir.specs.Programs.{program_of}
 use Rattle.high_pass.specs.Listing.{listing_of}
-use Rattle.low_ir.specs.Placings.{assignment_of}
+use Rattle.low_ir.specs.Placings.{assignment_of, placed_of}
 use Rattle.low_ir.specs.Programs.{low_of}
 use Rattle.low_ir.specs.declared.places.LowReg.{LowReg}
-use Rattle.image_sizes.specs.Sizes.{HasSizes}
-use Rattle.layout_laid.specs.declared.laid.Laid.{Laid}
-use Rattle.compile_kept.specs.Limits.{nothing}
+use Rattle.image_sizes.specs.Sizes.{HasRoom}
 use Rattle.compile_kept.specs.Carried.{IsCarried}
 use Rattle.compile_sizes.proofs.Sizes.{limited_fit}
-use Rattle.compile_made.specs.Made.{IsInMemory, IsLowered}
+use Rattle.compile_made.specs.Made.{IsLowered}
 use Rattle.compile_made.specs.declared.made.Stages.{Stages}
-use Rattle.compile_passes.specs.Passes.{AreStages, passes, stages_of}
+use Rattle.compile_passes.specs.Passes.{AreStages, stages_of}
 use Rattle.compile_reporting.specs.Sources.{names_of, tree_of}
 use Rattle.wcc_compile.proofs.stages.made.Goals as goal
 
@@ -21,7 +19,7 @@ laid-requires c =
     let code = c.in_ok-lowered.lowered.code in
     let low = low_of code.low in
     let lowered = c.in_ok-lowered.ensures.code in
-    limited_fit p low (assignment_of code) c.in_ok-stages.ensures.begun.carried.limited lowered.keeps_program lowered.slots
+    c.nothing_can_be_placed.ensures (placed_of code) (limited_fit p low (assignment_of code) c.in_ok-stages.ensures.begun.carried.limited lowered.keeps_program lowered.slots)
 
 pub returns-clause-stages : goal.returns-clause-stages
 returns-clause-stages c =
@@ -34,7 +32,6 @@ returns-clause-made c =
     let s = c.args.source.now in
     let m = c.in_ok-made.made in
     let first = c.in_ok-stages.stages in
-    let lowered = c.in_ok-lowered.lowered in
     let last = c.in_ok-made.ensures in
     let below = c.in_ok-lowered.ensures in
     record {
@@ -42,5 +39,5 @@ returns-clause-made c =
           (subst (λ (st : Stages). IsCarried (names_of s) (tree_of s) s.facts (length st.before.items) (program_of st.last.program) (listing_of st.last.copies)) (sym below.stages) c.in_ok-stages.ensures.begun.carried);
       lowered = subst (λ (st : Stages). IsLowered (program_of st.last.program) m.code) (sym last.stages)
           (subst (λ (st : Stages). IsLowered (program_of st.last.program) m.code) (sym below.stages) (subst (λ (code : LowReg). IsLowered (program_of first.last.program) code) (sym last.code) below.code));
-      in_memory = subst (λ (code : LowReg). IsInMemory code m.laid) (sym last.code) last.memory;
+      in_memory = last.memory;
     }

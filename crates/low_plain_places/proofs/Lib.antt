@@ -1,4 +1,0 @@
-pub mod ReadLemmas
-pub mod CoverLemmas
-pub mod KeepLemmas
-pub mod StepLemmas
