@@ -7,14 +7,14 @@ ghost use Rattle.low_ir.specs.View.{claim_of, function_of, object_of as low_obje
 ghost use Rattle.low_make.specs.View.{claims_of, parts_program, passed_of};
 ghost use Rattle.lower_definition.specs.Calls.{claims_among, order};
 ghost use Rattle.lower_definition.specs.Objects.{object_of};
-ghost use Rattle.lower_definition.specs.Programs.{lowered, lowered_functions, lowered_in};
+ghost use Rattle.lower_definition.specs.Programs.{is_small, lowered, lowered_functions, lowered_in};
 
 use super::claims::{add_claims, numbered};
 use super::functions::lowered_function;
 use super::order::visit;
 use super::passing::{Claims, all_passed, copied};
-use high_ir::High;
 use high_ir::object::Object as HighObject;
+use high_ir::{High, size};
 use low_ir::Function;
 use low_ir::object::Object;
 use lower_coder::numbers::{count, sum};
@@ -43,6 +43,8 @@ struct Making<'a> {
     order: &'a [u32],
     /// The arrays that calls pass.
     passed: &'a [Claims],
+    /// Whether quotients may be several instructions.
+    shifts: bool,
 }
 
 fn objects_of(alloc: Global, objects: &[HighObject]) -> Result<Vec<Object>, Memory>
@@ -80,6 +82,7 @@ fn add_function(
     functions: &mut Vec<Function>,
 ) -> Result<(), Memory>
     requires order { making.now.order.now ≡ order (program_of making.now.program.now) }
+    requires shifts { making.now.shifts ≡ is_small (program_of making.now.program.now) }
     requires own { claims_of own.now ≡ slice_index_or (passed_of making.now.passed.now) f [] }
     ensures { IfOk result (λ _. map function_of functions.new.items ≡ map function_of functions.old.items ++ lowered_in (program_of making.now.program.now) (passed_of making.now.passed.now) first f (slice_get (program_of making.now.program.now).functions f)) }
 {
@@ -93,6 +96,7 @@ fn add_function(
                 claims: &claims,
                 objects: count(making.program.objects.len())?,
                 order: making.order,
+                shifts: making.shifts,
             };
             functions.push(lowered_function(&scope, f, function)?)?;
             Ok(())
@@ -107,7 +111,8 @@ fn add(
     functions: &mut Vec<Function>,
     claims: &mut Vec<Vec<u32>>,
 ) -> Result<(), Memory>
-    requires { making.now.order.now ≡ order (program_of making.now.program.now) }
+    requires order { making.now.order.now ≡ order (program_of making.now.program.now) }
+    requires shifts { making.now.shifts ≡ is_small (program_of making.now.program.now) }
     ensures functions { IfOk result (λ _. map function_of functions.new.items ≡ map function_of functions.old.items ++ lowered_in (program_of making.now.program.now) (passed_of making.now.passed.now) (length claims.old.items) f (slice_get (program_of making.now.program.now).functions f)) }
     ensures claims { IfOk result (λ _. map claim_of claims.new.items ≡ map claim_of claims.old.items ++ claims_among (slice_index_or (passed_of making.now.passed.now) f [])) }
 {
@@ -122,7 +127,8 @@ fn add_all(
     functions: &mut Vec<Function>,
     claims: &mut Vec<Vec<u32>>,
 ) -> Result<(), Memory>
-    requires { making.now.order.now ≡ order (program_of making.now.program.now) }
+    requires order { making.now.order.now ≡ order (program_of making.now.program.now) }
+    requires shifts { making.now.shifts ≡ is_small (program_of making.now.program.now) }
     ensures functions { IfOk result (λ _. map function_of functions.new.items ≡ map function_of functions.old.items ++ lowered_functions (program_of making.now.program.now) (passed_of making.now.passed.now) (length claims.old.items) making.now.order.now) }
     ensures claims { IfOk result (λ _. map claim_of claims.new.items ≡ map claim_of claims.old.items ++ flat_map (λ f. claims_among (slice_index_or (passed_of making.now.passed.now) f [])) making.now.order.now) }
 {
@@ -130,6 +136,14 @@ fn add_all(
         add(making, *f, functions, claims)?;
     }
     Ok(())
+}
+
+/// Whether a program leaves room for quotients that are several instructions.
+#[tactic(auto, unfolding(lower_definition::specs::Programs::is_small))]
+fn is_small(program: &High) -> bool
+    ensures { result ≡ is_small (program_of program.now) }
+{
+    size(program) <= 49152
 }
 
 /// What the program in the low form is made of.
@@ -144,6 +158,7 @@ pub fn parts_of(alloc: Global, program: &High) -> Result<Parts, Memory>
         program,
         order: &order,
         passed: &passed,
+        shifts: is_small(program),
     };
     let mut functions = Vec::new(alloc);
     let mut claims = Vec::new(alloc);

@@ -1,3 +1,4 @@
+pub mod Amounts
 pub mod Covers
 pub mod Operators
 pub mod Values

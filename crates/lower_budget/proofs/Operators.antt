@@ -1,5 +1,5 @@
 -- What the instructions of operators cost.
-use Rattle.std.proofs.Common.{◌≡◌, ℕ, ◌+◌, ◌≤◌, [], ◌∷◌, ◌++◌, Option, Some, None, refl, arith}
+use Rattle.std.proofs.Common.{◌≡◌, ℕ, ◌+◌, ◌*◌, ◌≤◌, Bool, true, false, [], ◌∷◌, ◌++◌, Option, Some, None, refl, arith}
 use Rattle.rv_core.specs.declared.row.Alu.{Alu}
 use Rattle.rv_core.specs.declared.row.Alu.TheVariants as alu
 use Rattle.high_ir.specs.declared.object.Kind.{Kind}
@@ -9,8 +9,14 @@ use Rattle.high_ir.specs.declared.expression.UnaryOperator.TheVariants.{Negate, 
 use Rattle.high_ir.specs.declared.expression.BinaryOperator.{BinaryOperator}
 use Rattle.high_ir.specs.declared.expression.BinaryOperator.TheVariants.{Add, Subtract, Multiply, Divide, DivideUnsigned, Remainder, RemainderUnsigned, And, Or, Xor, ShiftLeft, ShiftRight, ShiftRightUnsigned, Equal, NotEqual, Less, LessUnsigned, AtLeast, AtLeastUnsigned}
 use Rattle.low_ir.specs.Code.{Operand, Register, Constant}
-use Rattle.lower_definition.specs.Operators.{Code, binary_code, binary_needs, convert_code, convert_needs, difference, exponent_of, in_order, masked, product, quotient_unsigned, remainder_unsigned, shifted, unary_code, unary_needs}
+use Rattle.lower_definition.specs.Operators.{Code, binary_code, binary_needs, convert_code, convert_needs, difference, divided, divisor_exponent, exponent_of, in_order, masked, product, quotient, quotient_unsigned, remainder_unsigned, shifted, unary_code, unary_needs}
 use Rattle.lower_budget.specs.Costs.{code_worth, instr_worth}
+use Rattle.lower_budget.proofs.Amounts.{of_leaf}
+
+-- what an operand leaves of what pays for it
+abbrev pub spared : Bool → Operand ℕ → ℕ
+spared shifts (Register r) = 0
+spared shifts (Constant w) = 16 * of_leaf shifts
 
 module _ (worth : ℕ → ℕ) where
   pub code_worth-append : (xs ys : Code) → code_worth worth (xs ++ ys) ≡ code_worth worth xs + code_worth worth ys
@@ -46,26 +52,36 @@ module _ (worth : ℕ → ℕ) where
   remainder_room d x (Register r) = refl
   remainder_room d x (Constant w) = masked_room d x w (exponent_of w)
 
-  pub binary_room : (operator : BinaryOperator) (d t : ℕ) (x y : Operand ℕ) → code_worth worth (binary_code operator d t x y) ≤ 14
-  binary_room Add d t x y = let e = in_order_room alu.Sum d x y in omega (arith, e)
-  binary_room Subtract d t x y = let e = difference_room d x y in omega (arith, e)
-  binary_room Multiply d t x y = let e = product_room d x y in omega (arith, e)
-  binary_room Divide d t x y = omega arith
-  binary_room DivideUnsigned d t x y = let e = quotient_room d x y in omega (arith, e)
-  binary_room Remainder d t x y = omega arith
-  binary_room RemainderUnsigned d t x y = let e = remainder_room d x y in omega (arith, e)
-  binary_room And d t x y = let e = in_order_room alu.BitAnd d x y in omega (arith, e)
-  binary_room Or d t x y = let e = in_order_room alu.BitOr d x y in omega (arith, e)
-  binary_room Xor d t x y = let e = in_order_room alu.BitXor d x y in omega (arith, e)
-  binary_room ShiftLeft d t x y = omega arith
-  binary_room ShiftRight d t x y = omega arith
-  binary_room ShiftRightUnsigned d t x y = omega arith
-  binary_room Equal d t x y = let e = in_order_room alu.BitXor t x y in omega (arith, e)
-  binary_room NotEqual d t x y = let e = in_order_room alu.BitXor t x y in omega (arith, e)
-  binary_room Less d t x y = omega arith
-  binary_room LessUnsigned d t x y = omega arith
-  binary_room AtLeast d t x y = omega arith
-  binary_room AtLeastUnsigned d t x y = omega arith
+  divided_room : (d t : ℕ) (x : Operand ℕ) (w : ℕ) (o : Option ℕ) → code_worth worth (divided d t x w o) ≤ 30
+  divided_room d t x w None = omega arith
+  divided_room d t x w (Some k) = omega arith
+
+  signed_room : (shifts : Bool) (d t : ℕ) (x y : Operand ℕ) → code_worth worth (quotient shifts d t x y) ≤ 14 + spared shifts y
+  signed_room false d t x y = omega arith
+  signed_room true d t x (Register r) = omega arith
+  signed_room true d t x (Constant w) = divided_room d t x w (divisor_exponent w)
+
+  -- a quotient by a constant may take what that constant doesn't
+  pub binary_room : (shifts : Bool) (operator : BinaryOperator) (d t : ℕ) (x y : Operand ℕ) → code_worth worth (binary_code shifts operator d t x y) ≤ 14 + spared shifts y
+  binary_room shifts Add d t x y = let e = in_order_room alu.Sum d x y in omega (arith, e)
+  binary_room shifts Subtract d t x y = let e = difference_room d x y in omega (arith, e)
+  binary_room shifts Multiply d t x y = let e = product_room d x y in omega (arith, e)
+  binary_room shifts Divide d t x y = signed_room shifts d t x y
+  binary_room shifts DivideUnsigned d t x y = let e = quotient_room d x y in omega (arith, e)
+  binary_room shifts Remainder d t x y = omega arith
+  binary_room shifts RemainderUnsigned d t x y = let e = remainder_room d x y in omega (arith, e)
+  binary_room shifts And d t x y = let e = in_order_room alu.BitAnd d x y in omega (arith, e)
+  binary_room shifts Or d t x y = let e = in_order_room alu.BitOr d x y in omega (arith, e)
+  binary_room shifts Xor d t x y = let e = in_order_room alu.BitXor d x y in omega (arith, e)
+  binary_room shifts ShiftLeft d t x y = omega arith
+  binary_room shifts ShiftRight d t x y = omega arith
+  binary_room shifts ShiftRightUnsigned d t x y = omega arith
+  binary_room shifts Equal d t x y = let e = in_order_room alu.BitXor t x y in omega (arith, e)
+  binary_room shifts NotEqual d t x y = let e = in_order_room alu.BitXor t x y in omega (arith, e)
+  binary_room shifts Less d t x y = omega arith
+  binary_room shifts LessUnsigned d t x y = omega arith
+  binary_room shifts AtLeast d t x y = omega arith
+  binary_room shifts AtLeastUnsigned d t x y = omega arith
 
   convert_room : (kind : Kind) (d t : ℕ) (x : Operand ℕ) → code_worth worth (convert_code kind d t x) ≤ 14
   convert_room Unsigned8 d t x = omega arith

@@ -1,11 +1,12 @@
 -- The budgets of programs.
 use Rattle.std.proofs.Common.{◌≡◌, ◌≢◌, ℕ, zero, suc, ◌+◌, ◌*◌, ◌≤◌, Bool, true, false, List, [], ◌∷◌, ◌++◌, length, map, Some, refl, sym, ap, ◌∙◌, subst, arith, get_or-set_other}
-use Rattle.std.specs.Prelude.{◌==◌, if◌then◌else◌, slice_get, slice_index_or, slice_set, sum_by}
+use Rattle.std.specs.Prelude.{◌==◌, max, nat_le, if◌then◌else◌, slice_get, slice_index_or, slice_set, sum_by}
+use Rattle.std.proofs.lemmas.Bool.Decides.{nat_tests}
 use Rattle.std.proofs.lemmas.List.{get_or-map}
 use Rattle.std.proofs.lemmas.List.Sums.{sum_by-cons}
 use Rattle.std.proofs.lemmas.Option.{slice_get_within, get_or_from_slice_get}
 use Rattle.high_ir.specs.Formed.{IsHigh}
-use Rattle.high_ir.specs.Size.{operations, program_operations}
+use Rattle.high_ir.specs.Size.{function_nodes, operations, program_nodes, program_operations}
 use Rattle.high_ir.specs.Tree.{Function, Program}
 use Rattle.high_ir.specs.Tree as high
 use Rattle.low_ir.specs.Effects.{is_member}
@@ -13,7 +14,7 @@ use Rattle.low_ir.specs.Room.{function_room, room}
 use Rattle.lower_definition.specs.Calls.{Passed, all_passed, claims_among, numbered, order}
 use Rattle.lower_definition.specs.Values.{Scope, first_free}
 use Rattle.lower_definition.specs.Statements.{block, pieces}
-use Rattle.lower_definition.specs.Programs.{lowered, lowered_function, lowered_functions, lowered_in, scope_of}
+use Rattle.lower_definition.specs.Programs.{is_small, lowered, lowered_function, lowered_functions, lowered_in, scope_of}
 use Rattle.low_ir.specs.Code.{Constant, Return}
 use Rattle.lower_origins.specs.Orders.{IsOrdered}
 use Rattle.lower_origins.proofs.Members.{member_first}
@@ -22,6 +23,7 @@ use Rattle.lower_origins.specs.Closed.{listed}
 use Rattle.lower_origins.proofs.Numbering.{AllThere, all_there}
 use Rattle.lower_nesting.proofs.Free.{marked_free}
 use Rattle.lower_formed.proofs.Distinct.{Distinct, order_distinct}
+use Rattle.lower_budget.proofs.Amounts.{amounts, statement_few, statement_nodes}
 use Rattle.lower_budget.proofs.Narrow.{pieces_narrow}
 use Rattle.lower_budget.proofs.Rooms.{function_few}
 
@@ -64,12 +66,39 @@ distinct_less ws (g ∷ gs) h =
     let c = total-set ws g in
     omega (arith, a, b, c)
 
-abbrev measure : Function → ℕ
-measure h = operations h.body + 1
+abbrev measure : Bool → Function → ℕ
+measure shifts h = amounts shifts h.body + 1
 
-total-sum : (fs : List Function) → total (map measure fs) ≡ sum_by measure fs
-total-sum [] = refl
-total-sum (h ∷ fs) = let a = total-sum fs in let e = sum_by-cons measure h fs in omega (arith, a, e)
+total-sum : (shifts : Bool) (fs : List Function) → total (map (measure shifts) fs) ≡ sum_by (measure shifts) fs
+total-sum shifts [] = refl
+total-sum shifts (h ∷ fs) = let a = total-sum shifts fs in let e = sum_by-cons (measure shifts) h fs in omega (arith, a, e)
+
+measures_few : (fs : List Function) → sum_by (measure false) fs ≤ sum_by (λ (f : Function). operations f.body + 1) fs
+measures_few [] = omega arith
+measures_few (h ∷ fs) =
+    let a = measures_few fs in
+    let b = statement_few h.body in
+    let e = sum_by-cons (measure false) h fs in
+    let c = sum_by-cons (λ (f : Function). operations f.body + 1) h fs in
+    omega (arith, a, b, e, c)
+
+measures_nodes : (fs : List Function) → sum_by (measure true) fs ≤ 2 * sum_by function_nodes fs
+measures_nodes [] = omega arith
+measures_nodes (h ∷ fs) =
+    let a = measures_nodes fs in
+    let b = statement_nodes h.body in
+    let e = sum_by-cons (measure true) h fs in
+    let c = sum_by-cons function_nodes h fs in
+    omega (arith, a, b, e, c)
+
+-- what pays for the code of a program: its operations, or what a program may have at most
+pub program_few : (p : Program) → sum_by (measure (is_small p)) p.functions ≤ max (program_operations p) 98304
+unfolding is_small
+program_few p = by_test (nat_le (program_nodes p) 49152) refl
+  where
+    by_test : (b : Bool) → nat_le (program_nodes p) 49152 ≡ b → sum_by (measure b) p.functions ≤ max (program_operations p) 98304
+    by_test false e = let a = measures_few p.functions in omega (arith, a)
+    by_test true e = let a = measures_nodes p.functions in let b : program_nodes p ≤ 49152 = grind (arith, nat_tests, e) in omega (arith, a, b)
 
 abbrev single : Function → ℕ
 single h = 1
@@ -88,7 +117,7 @@ module _ (p : Program) (is_high : IsHigh p) where
   there : (f : ℕ) → is_member (order p) f ≡ true → (h : Function) × (slice_get p.functions f ≡ Some h)
   there f m = let a = order_is.places f m in (a.function, a.there)
 
-  functions_room : (gs : List ℕ) (n : ℕ) → AllThere p table gs → sum_by function_room (lowered_functions p table n gs) ≤ 64 * length (lowered_functions p table n gs) + 16 * total_at (map measure p.functions) gs
+  functions_room : (gs : List ℕ) (n : ℕ) → AllThere p table gs → sum_by function_room (lowered_functions p table n gs) ≤ 64 * length (lowered_functions p table n gs) + 16 * total_at (map (measure (is_small p)) p.functions) gs
   functions_room [] n all = omega arith
   functions_room (g ∷ gs) n all =
       let h = all.0.0 in
@@ -99,11 +128,11 @@ module _ (p : Program) (is_high : IsHigh p) where
       let fn = lowered_function scope g h in
       let same : lowered_functions p table n (g ∷ gs) ≡ fn ∷ rest = ap (λ o. lowered_in p table n g o ++ rest) e in
       let inside = slice_get_within p.functions g h e in
-      let w : slice_index_or (map measure p.functions) g 0 ≡ measure h = get_or-map measure p.functions g h 0 inside ∙ ap measure (get_or_from_slice_get p.functions g h h e) in
+      let w : slice_index_or (map (measure (is_small p)) p.functions) g 0 ≡ measure (is_small p) h = get_or-map (measure (is_small p)) p.functions g h 0 inside ∙ ap (measure (is_small p)) (get_or_from_slice_get p.functions g h h e) in
       let a = functions_room gs m all.1 in
       let b = function_few scope g h in
       let c = sum_by-cons function_room fn rest in
-      subst (λ fns. sum_by function_room fns ≤ 64 * length fns + 16 * total_at (map measure p.functions) (g ∷ gs)) (sym same) (omega (arith, a, b, c, w))
+      subst (λ fns. sum_by function_room fns ≤ 64 * length fns + 16 * total_at (map (measure (is_small p)) p.functions) (g ∷ gs)) (sym same) (omega (arith, a, b, c, w))
 
   functions_there : (gs : List ℕ) (n : ℕ) → AllThere p table gs → length (lowered_functions p table n gs) ≡ total_at (map single p.functions) gs
   functions_there [] n all = refl
@@ -124,12 +153,13 @@ module _ (p : Program) (is_high : IsHigh p) where
       let c = total-ones p.functions in
       omega (arith, a, b, c)
 
-  pub room_few : room (lowered p) ≤ 16 * program_operations p + 64 * length (lowered p).functions
+  pub room_few : room (lowered p) ≤ 16 * max (program_operations p) 98304 + 64 * length (lowered p).functions
   room_few =
       let a = functions_room (order p) 0 (all_there p table (order p) there) in
-      let b = distinct_less (map measure p.functions) (order p) (order_distinct p is_high) in
-      let c = total-sum p.functions in
-      omega (arith, a, b, c)
+      let b = distinct_less (map (measure (is_small p)) p.functions) (order p) (order_distinct p is_high) in
+      let c = total-sum (is_small p) p.functions in
+      let d = program_few p in
+      omega (arith, a, b, c, d)
 
 pub registers_few : (scope : Scope) (f : ℕ) (h : Function) → (lowered_function scope f h).size ≤ first_free scope + 2 * operations h.body
 registers_few scope f h =

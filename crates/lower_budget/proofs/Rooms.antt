@@ -2,7 +2,6 @@
 use Rattle.std.proofs.Common.{◌≡◌, ℕ, ◌+◌, ◌*◌, ◌≤◌, Bool, true, false, List, [], ◌∷◌, length, map, refl, ap, arith}
 use Rattle.std.specs.Prelude.{if◌then◌else◌, sum_by}
 use Rattle.std.proofs.lemmas.List.Sums.{sum_by-cons}
-use Rattle.high_ir.specs.Size.{expr_operations, operations, operations_all}
 use Rattle.high_ir.specs.Tree as high
 use Rattle.low_ir.specs.Code.{Block, Call, Constant, Do, End, Jump, Branch, Return, Loop, Note}
 use Rattle.low_ir.specs.Room.{block_room, called, end_room, instr_room}
@@ -12,6 +11,7 @@ use Rattle.lower_definition.specs.Values.{Scope, first_free}
 use Rattle.lower_definition.specs.Statements.{block}
 use Rattle.lower_definition.specs.Programs.{body_piece, turned, turned_end}
 use Rattle.lower_budget.specs.Costs.{block_worth, code_worth}
+use Rattle.lower_budget.proofs.Amounts.{amount, amounts, amounts_all}
 use Rattle.lower_budget.proofs.Operators.{code_worth-append}
 use Rattle.lower_budget.proofs.Statements.{call_cost, get_cost, kept_cost, put_cost, return_cost, set_cost, test_cost}
 use Rattle.lower_budget.proofs.Sums.{among, repeats, weighted}
@@ -20,11 +20,11 @@ use Rattle.lower_budget.proofs.Pieces.{Measure, cost, costs, pieces_cost}
 module _ (worth : ℕ → ℕ) (scope : Scope) where
   -- what the code of single statements is worth at most
   abbrev pub basic : high.Statement → ℕ
-  basic (high.Set x e) = 16 * (expr_operations e + 1)
-  basic (high.Put e) = 16 * (expr_operations e + 1)
+  basic (high.Set x e) = 16 * (amount scope.shifts e + 1)
+  basic (high.Put e) = 16 * (amount scope.shifts e + 1)
   basic (high.Get x) = 16
-  basic (high.Keep array i e) = 16 * (expr_operations i + expr_operations e + 1)
-  basic (high.Call g es bs into) = 16 * (sum_by expr_operations es + length es + length bs + 1) + worth (place_in scope.order g)
+  basic (high.Keep array i e) = 16 * (amount scope.shifts i + amount scope.shifts e + 1)
+  basic (high.Call g es bs into) = 16 * (sum_by (amount scope.shifts) es + length es + length bs + 1) + worth (place_in scope.order g)
   basic (high.Mark m) = 0
   basic (high.Seq parts) = 0
   basic (high.If test first other) = 0
@@ -42,7 +42,7 @@ module _ (worth : ℕ → ℕ) (scope : Scope) where
     return = 4;
     mark = λ m. 0;
     of_statement = basic;
-    of_test = λ e. 16 * expr_operations e;
+    of_test = λ e. 16 * amount scope.shifts e;
     joined = λ code k e. let a = code_worth-append worth code k.code in omega (arith, a);
     jumping = λ code n. omega arith;
     bare = λ n. omega arith;
@@ -85,7 +85,7 @@ end_same last (Return x) = refl
 abbrev pub once : ℕ → ℕ
 once m = 1
 
--- the operations of a statement pay for its code
+-- what pays for the code of a statement
 module _ (scope : Scope) where
   abbrev nothing : ℕ → ℕ
   nothing f = 0
@@ -94,7 +94,7 @@ module _ (scope : Scope) where
   plain = rooms nothing scope
 
   mutual
-    pub cost_few : (s : high.Statement) → cost once scope plain s ≤ 16 * operations s
+    pub cost_few : (s : high.Statement) → cost once scope plain s ≤ 16 * amounts scope.shifts s
     cost_few (high.Set x e) = omega arith
     cost_few (high.Put e) = omega arith
     cost_few (high.Get x) = omega arith
@@ -108,7 +108,7 @@ module _ (scope : Scope) where
     cost_few (high.Call f values arrays into) = omega arith
     cost_few (high.Return e) = omega arith
 
-    costs_few : (ss : high.Statements) → costs once scope plain ss ≤ 16 * operations_all ss
+    costs_few : (ss : high.Statements) → costs once scope plain ss ≤ 16 * amounts_all scope.shifts ss
     costs_few high.End = omega arith
     costs_few (high.Then first rest) = let a = cost_few first in let b = costs_few rest in omega (arith, a, b)
 
@@ -132,7 +132,7 @@ module _ (scope : Scope) where
       omega (arith, h, c, w, z, e, r)
 
   -- the room of a function's blocks
-  pub function_few : (f : ℕ) (h : high.Function) → sum_by block_room (map (turned (length (body_piece scope f h.body).new)) ((body_piece scope f h.body).first ∷ (body_piece scope f h.body).new)) ≤ 16 * (operations h.body + 1)
+  pub function_few : (f : ℕ) (h : high.Function) → sum_by block_room (map (turned (length (body_piece scope f h.body).new)) ((body_piece scope f h.body).first ∷ (body_piece scope f h.body).new)) ≤ 16 * (amounts scope.shifts h.body + 1)
   function_few f h =
       let p = body_piece scope f h.body in
       let last = length p.new in

@@ -16,8 +16,9 @@ use Rattle.lower_definition.specs.Objects.{kind_of, scale_of}
 use Rattle.lower_definition.specs.Operators.{binary_code, only, operate, unary_code}
 use Rattle.lower_definition.specs.Values.{Scope, Share, Coded, Valued, Index, Offset, address, base_of, bytes, element_into, forms, in_register, index_register, is_constant, leaf, load_into, minus, offset_by, offset_of, operand, operand_by, plain_index, plus, register_of, scaled, scaled_as, scaled_by, scaled_in, shared, sides_into, split, split_register, unary_into, variable}
 use Rattle.lower_budget.specs.Costs.{code_worth}
+use Rattle.lower_budget.proofs.Amounts.{amount, of_leaf}
 use Rattle.lower_budget.proofs.Covers.{Covers, Has, covers_back, covers_front}
-use Rattle.lower_budget.proofs.Operators.{binary_few, binary_room, code_worth-append, unary_few, unary_room}
+use Rattle.lower_budget.proofs.Operators.{binary_few, binary_room, code_worth-append, spared, unary_few, unary_room}
 
 -- a constant part that isn't 0 may be too large for an instruction
 abbrev pub far : ℕ → ℕ
@@ -56,6 +57,10 @@ own (Some x) = 0
 abbrev pub slack : Option (Operand ℕ) → ℕ
 slack None = 0
 slack (Some x) = 4
+
+leaf_spares : (shifts : Bool) (x : Operand ℕ) → spared shifts x ≤ 16 * of_leaf shifts
+leaf_spares shifts (Register r) = omega arith
+leaf_spares shifts (Constant w) = omega arith
 
 -- the register of an operand is that of a leaf, or its own
 abbrev pub Known : Operand ℕ → Option ℕ → Type 0
@@ -155,27 +160,28 @@ module _ (worth : ℕ → ℕ) (scope : Scope) where
 
     -- an expression in a register, and as an index
     pub record Costs (e : high.Expr) : Type 0 where
-      pub into_room : (d t : ℕ) → code_worth worth ((forms scope shares e).into d t).code + 7 * asked e ≤ 16 * expr_operations e + slack (leaf scope e)
+      pub into_room : (d t : ℕ) → code_worth worth ((forms scope shares e).into d t).code + 7 * asked e ≤ 16 * amount scope.shifts e + slack (leaf scope e)
       pub into_free : (d t : ℕ) → ((forms scope shares e).into d t).free + asked e + own (leaf scope e) ≤ t + 2 * expr_operations e
-      pub index_room : (t : ℕ) → code_worth worth ((forms scope shares e).index t).part.code + 7 * asked e + far ((forms scope shares e).index t).constant ≤ 16 * expr_operations e
+      pub index_room : (t : ℕ) → code_worth worth ((forms scope shares e).index t).part.code + 7 * asked e + far ((forms scope shares e).index t).constant ≤ 16 * amount scope.shifts e
       pub index_free : (t : ℕ) → ((forms scope shares e).index t).part.free + asked e ≤ t + 2 * expr_operations e
       pub known : (t : ℕ) → Known ((forms scope shares e).index t).part.value (index_register scope e)
 
     -- an expression as an operand
     pub record Found (e : high.Expr) (t : ℕ) : Type 0 where
-      pub room : code_worth worth (operand scope shares e t).code + 7 * asked e ≤ 16 * expr_operations e
+      pub room : code_worth worth (operand scope shares e t).code + 7 * asked e ≤ 16 * amount scope.shifts e
+      pub spare : code_worth worth (operand scope shares e t).code + 7 * asked e + spared scope.shifts (operand scope shares e t).value ≤ 16 * amount scope.shifts e
       pub free : (operand scope shares e t).free + asked e ≤ t + 2 * expr_operations e
 
     found : (e : high.Expr) (t : ℕ) → Costs e → Found e t
-    found (high.Constant w) t h = record { room = omega arith; free = omega arith }
-    found (high.Variable x) t h = record { room = omega arith; free = omega arith }
-    found (high.Element array index) t h = let a = h.into_room t (suc t) in let b = h.into_free t (suc t) in record { room = omega (arith, a); free = omega (arith, b) }
-    found (high.Unary operator e) t h = let a = h.into_room t (suc t) in let b = h.into_free t (suc t) in record { room = omega (arith, a); free = omega (arith, b) }
-    found (high.Binary operator left right) t h = let a = h.into_room t (suc t) in let b = h.into_free t (suc t) in record { room = omega (arith, a); free = omega (arith, b) }
+    found (high.Constant w) t h = record { room = omega arith; spare = let s = leaf_spares scope.shifts (Constant w) in omega (arith, s); free = omega arith }
+    found (high.Variable x) t h = record { room = omega arith; spare = let s = leaf_spares scope.shifts (variable scope x) in omega (arith, s); free = omega arith }
+    found (high.Element array index) t h = let a = h.into_room t (suc t) in let b = h.into_free t (suc t) in record { room = omega (arith, a); spare = omega (arith, a); free = omega (arith, b) }
+    found (high.Unary operator e) t h = let a = h.into_room t (suc t) in let b = h.into_free t (suc t) in record { room = omega (arith, a); spare = omega (arith, a); free = omega (arith, b) }
+    found (high.Binary operator left right) t h = let a = h.into_room t (suc t) in let b = h.into_free t (suc t) in record { room = omega (arith, a); spare = omega (arith, a); free = omega (arith, b) }
 
     -- an access, for an index that costs so much
     record Element (array : Array) (index : high.Expr) (d t : ℕ) (i : Index) : Type 0 where
-      room : code_worth worth (element_into scope shares array d i).code + 7 * (length (scaled_as (scale_of array.kind) (index_register scope index)) + asked index) ≤ 16 * expr_operations index + 15
+      room : code_worth worth (element_into scope shares array d i).code + 7 * (length (scaled_as (scale_of array.kind) (index_register scope index)) + asked index) ≤ 16 * amount scope.shifts index + 15
       free : (element_into scope shares array d i).free + (length (scaled_as (scale_of array.kind) (index_register scope index)) + asked index) ≤ t + 2 * expr_operations index + 1
 
     element : (array : Array) (index : high.Expr) (d t : ℕ) → Costs index → Covers shares (scaled_as (scale_of array.kind) (index_register scope index)) → Element array index d t ((forms scope shares index).index t)
@@ -193,11 +199,11 @@ module _ (worth : ℕ → ℕ) (scope : Scope) where
         record { room = omega (arith, a, c, x); free = omega (arith, b, f, y) }
 
     -- an operation whose parts cost so much
-    record Computed (n : ℕ) (asks t : ℕ) (c : Coded) : Type 0 where
+    record Computed (n m : ℕ) (asks t : ℕ) (c : Coded) : Type 0 where
       room : code_worth worth c.code + 7 * asks ≤ 16 * n + 14
-      free : c.free + asks ≤ t + 2 * n + 1
+      free : c.free + asks ≤ t + 2 * m + 1
 
-    unary_cost : (operator : UnaryOperator) (d t : ℕ) (e : high.Expr) → Costs e → Computed (expr_operations e) (asked e) t (unary_into operator d (operand scope shares e t))
+    unary_cost : (operator : UnaryOperator) (d t : ℕ) (e : high.Expr) → Costs e → Computed (amount scope.shifts e) (expr_operations e) (asked e) t (unary_into operator d (operand scope shares e t))
     unary_cost operator d t e h =
         let x = operand scope shares e t in
         let f = found e t h in
@@ -208,7 +214,7 @@ module _ (worth : ℕ → ℕ) (scope : Scope) where
         let s = code_worth-append worth x.code (unary_code operator d x.free x.value) in
         record { room = omega (arith, a, c, s); free = omega (arith, b, m) }
 
-    binary_cost : (operator : BinaryOperator) (d t : ℕ) (left right : high.Expr) → Costs left → Costs right → Computed (expr_operations left + expr_operations right) (asked left + asked right) t (sides_into operator d (operand scope shares left t) (operand scope shares right))
+    binary_cost : (operator : BinaryOperator) (d t : ℕ) (left right : high.Expr) → Costs left → Costs right → Computed (amount scope.shifts left + amount scope.shifts right) (expr_operations left + expr_operations right) (asked left + asked right) t (sides_into scope.shifts operator d (operand scope shares left t) (operand scope shares right))
     binary_cost operator d t left right h k =
         let x = operand scope shares left t in
         let y = operand scope shares right x.free in
@@ -216,50 +222,50 @@ module _ (worth : ℕ → ℕ) (scope : Scope) where
         let g = found right x.free k in
         let a = f.room in
         let b = f.free in
-        let a2 = g.room in
+        let a2 = g.spare in
         let b2 = g.free in
-        let own_code = binary_code operator d y.free x.value y.value in
-        let c = binary_room worth operator d y.free x.value y.value in
+        let own_code = binary_code scope.shifts operator d y.free x.value y.value in
+        let c = binary_room worth scope.shifts operator d y.free x.value y.value in
         let m = binary_few operator in
         let s = code_worth-append worth x.code (y.code ++ own_code) in
         let s2 = code_worth-append worth y.code own_code in
         record { room = omega (arith, a, a2, c, s, s2); free = omega (arith, b, b2, m) }
 
     -- an index that is one of these
-    record Indexed (n asks t : ℕ) (i : Index) : Type 0 where
+    record Indexed (n m asks t : ℕ) (i : Index) : Type 0 where
       room : code_worth worth i.part.code + 7 * asks + far i.constant ≤ 16 * n
-      free : i.part.free + asks ≤ t + 2 * n
+      free : i.part.free + asks ≤ t + 2 * m
 
-    plus_cost : (n asks t : ℕ) (v : Valued) (o : Option (Operand ℕ)) (other : Index) → code_worth worth v.code + 7 * asks + 2 ≤ 16 * n → v.free + asks ≤ t + 2 * n → Indexed n asks t other → Indexed n asks t (plus v o other)
-    plus_cost n asks t v (Some (Constant w)) other a b h = let f = far_most w in record { room = omega (arith, a, f); free = b }
-    plus_cost n asks t v (Some (Register r)) other a b h = h
-    plus_cost n asks t v None other a b h = h
+    plus_cost : (n m asks t : ℕ) (v : Valued) (o : Option (Operand ℕ)) (other : Index) → code_worth worth v.code + 7 * asks + 2 ≤ 16 * n → v.free + asks ≤ t + 2 * m → Indexed n m asks t other → Indexed n m asks t (plus v o other)
+    plus_cost n m asks t v (Some (Constant w)) other a b h = let f = far_most w in record { room = omega (arith, a, f); free = b }
+    plus_cost n m asks t v (Some (Register r)) other a b h = h
+    plus_cost n m asks t v None other a b h = h
 
-    minus_cost : (n asks t : ℕ) (v : Valued) (o : Option (Operand ℕ)) (other : Index) → code_worth worth v.code + 7 * asks + 2 ≤ 16 * n → v.free + asks ≤ t + 2 * n → Indexed n asks t other → Indexed n asks t (minus v o other)
-    minus_cost n asks t v (Some (Constant w)) other a b h = let f = far_most (minus v (Some (Constant w)) other).constant in record { room = omega (arith, a, f); free = b }
-    minus_cost n asks t v (Some (Register r)) other a b h = h
-    minus_cost n asks t v None other a b h = h
+    minus_cost : (n m asks t : ℕ) (v : Valued) (o : Option (Operand ℕ)) (other : Index) → code_worth worth v.code + 7 * asks + 2 ≤ 16 * n → v.free + asks ≤ t + 2 * m → Indexed n m asks t other → Indexed n m asks t (minus v o other)
+    minus_cost n m asks t v (Some (Constant w)) other a b h = let f = far_most (minus v (Some (Constant w)) other).constant in record { room = omega (arith, a, f); free = b }
+    minus_cost n m asks t v (Some (Register r)) other a b h = h
+    minus_cost n m asks t v None other a b h = h
 
-    split_cost : (operator : BinaryOperator) (n asks t : ℕ) (left right : Option (Operand ℕ)) (l r : Valued) (whole : Index) → code_worth worth l.code + 7 * asks + 2 ≤ 16 * n → l.free + asks ≤ t + 2 * n → code_worth worth r.code + 7 * asks + 2 ≤ 16 * n → r.free + asks ≤ t + 2 * n → Indexed n asks t whole → Indexed n asks t (split operator left right l r whole)
-    split_cost Add n asks t left right l r whole a b c d h = plus_cost n asks t l right (plus r left whole) a b (plus_cost n asks t r left whole c d h)
-    split_cost Subtract n asks t left right l r whole a b c d h = minus_cost n asks t l right whole a b h
-    split_cost Multiply n asks t left right l r whole a b c d h = h
-    split_cost Divide n asks t left right l r whole a b c d h = h
-    split_cost DivideUnsigned n asks t left right l r whole a b c d h = h
-    split_cost Remainder n asks t left right l r whole a b c d h = h
-    split_cost RemainderUnsigned n asks t left right l r whole a b c d h = h
-    split_cost And n asks t left right l r whole a b c d h = h
-    split_cost Or n asks t left right l r whole a b c d h = h
-    split_cost Xor n asks t left right l r whole a b c d h = h
-    split_cost ShiftLeft n asks t left right l r whole a b c d h = h
-    split_cost ShiftRight n asks t left right l r whole a b c d h = h
-    split_cost ShiftRightUnsigned n asks t left right l r whole a b c d h = h
-    split_cost Equal n asks t left right l r whole a b c d h = h
-    split_cost NotEqual n asks t left right l r whole a b c d h = h
-    split_cost Less n asks t left right l r whole a b c d h = h
-    split_cost LessUnsigned n asks t left right l r whole a b c d h = h
-    split_cost AtLeast n asks t left right l r whole a b c d h = h
-    split_cost AtLeastUnsigned n asks t left right l r whole a b c d h = h
+    split_cost : (operator : BinaryOperator) (n m asks t : ℕ) (left right : Option (Operand ℕ)) (l r : Valued) (whole : Index) → code_worth worth l.code + 7 * asks + 2 ≤ 16 * n → l.free + asks ≤ t + 2 * m → code_worth worth r.code + 7 * asks + 2 ≤ 16 * n → r.free + asks ≤ t + 2 * m → Indexed n m asks t whole → Indexed n m asks t (split operator left right l r whole)
+    split_cost Add n m asks t left right l r whole a b c d h = plus_cost n m asks t l right (plus r left whole) a b (plus_cost n m asks t r left whole c d h)
+    split_cost Subtract n m asks t left right l r whole a b c d h = minus_cost n m asks t l right whole a b h
+    split_cost Multiply n m asks t left right l r whole a b c d h = h
+    split_cost Divide n m asks t left right l r whole a b c d h = h
+    split_cost DivideUnsigned n m asks t left right l r whole a b c d h = h
+    split_cost Remainder n m asks t left right l r whole a b c d h = h
+    split_cost RemainderUnsigned n m asks t left right l r whole a b c d h = h
+    split_cost And n m asks t left right l r whole a b c d h = h
+    split_cost Or n m asks t left right l r whole a b c d h = h
+    split_cost Xor n m asks t left right l r whole a b c d h = h
+    split_cost ShiftLeft n m asks t left right l r whole a b c d h = h
+    split_cost ShiftRight n m asks t left right l r whole a b c d h = h
+    split_cost ShiftRightUnsigned n m asks t left right l r whole a b c d h = h
+    split_cost Equal n m asks t left right l r whole a b c d h = h
+    split_cost NotEqual n m asks t left right l r whole a b c d h = h
+    split_cost Less n m asks t left right l r whole a b c d h = h
+    split_cost LessUnsigned n m asks t left right l r whole a b c d h = h
+    split_cost AtLeast n m asks t left right l r whole a b c d h = h
+    split_cost AtLeastUnsigned n m asks t left right l r whole a b c d h = h
 
     known_variable : (x : ℕ) → Known (variable scope x) (register_of (Some (variable scope x)))
     known_variable x = known_leaf (variable scope x)
@@ -292,9 +298,10 @@ module _ (worth : ℕ → ℕ) (scope : Scope) where
         let h = costs left (covers_front shares (scaled_in scope left) (scaled_in scope right) covers) in
         let k = costs right (covers_back shares (scaled_in scope left) (scaled_in scope right) covers) in
         let total = length-append (scaled_in scope left) (scaled_in scope right) in
-        let n = expr_operations left + expr_operations right + 1 in
+        let n = amount scope.shifts left + amount scope.shifts right + 1 in
+        let m = expr_operations left + expr_operations right + 1 in
         let asks = asked left + asked right in
-        let index : (t : ℕ) → Indexed n asks t ((forms scope shares (high.Binary operator left right)).index t) =
+        let index : (t : ℕ) → Indexed n m asks t ((forms scope shares (high.Binary operator left right)).index t) =
         λ t.
         let l = operand scope shares left t in
         let r = operand scope shares right t in
@@ -309,10 +316,10 @@ module _ (worth : ℕ → ℕ) (scope : Scope) where
         let sl2 = asked_less left h in
         let sr2 = asked_less right k in
         let c = binary_cost operator t (suc t) left right h k in
-        let whole = plain_index (in_register t (sides_into operator t (operand scope shares left (suc t)) (operand scope shares right))) in
+        let whole = plain_index (in_register t (sides_into scope.shifts operator t (operand scope shares left (suc t)) (operand scope shares right))) in
         let c1 = c.room in
         let c2 = c.free in
-        split_cost operator n asks t (leaf scope left) (leaf scope right) l r whole (omega (arith, a, sr)) (omega (arith, b, sr2)) (omega (arith, a2, sl)) (omega (arith, b2, sl2)) (record { room = omega (arith, c1); free = omega (arith, c2) }) in
+        split_cost operator n m asks t (leaf scope left) (leaf scope right) l r whole (omega (arith, a, sr)) (omega (arith, b, sr2)) (omega (arith, a2, sl)) (omega (arith, b2, sl2)) (record { room = omega (arith, c1); free = omega (arith, c2) }) in
         record {
           into_room = λ d t. let c = binary_cost operator d t left right h k in let a = c.room in omega (arith, a, total);
           into_free = λ d t. let c = binary_cost operator d t left right h k in let a = c.free in omega (arith, a, total);
@@ -320,10 +327,10 @@ module _ (worth : ℕ → ℕ) (scope : Scope) where
           index_free = λ t. let i = index t in let a = i.free in omega (arith, a, total);
           known = λ t.
               known_split operator (leaf scope left) (leaf scope right) (operand scope shares left t) (operand scope shares right t)
-              (plain_index (in_register t (sides_into operator t (operand scope shares left (suc t)) (operand scope shares right)))) (known_operand (leaf scope left) (forms scope shares left).into t) (known_operand (leaf scope right) (forms scope shares right).into t) (inr refl);
+              (plain_index (in_register t (sides_into scope.shifts operator t (operand scope shares left (suc t)) (operand scope shares right)))) (known_operand (leaf scope left) (forms scope shares left).into t) (known_operand (leaf scope right) (forms scope shares right).into t) (inr refl);
         }
       where
-        asked_few : (e : high.Expr) → Costs e → 7 * asked e ≤ 16 * expr_operations e
+        asked_few : (e : high.Expr) → Costs e → 7 * asked e ≤ 16 * amount scope.shifts e
         asked_few e h = let a = h.index_room 0 in omega (arith, a)
 
         asked_less : (e : high.Expr) → Costs e → asked e ≤ 2 * expr_operations e

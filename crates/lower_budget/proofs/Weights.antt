@@ -1,13 +1,11 @@
 -- How much a run may execute.
 use Rattle.std.proofs.Common.{◌≡◌, ℕ, zero, suc, ◌+◌, ◌*◌, ◌<◌, ◌≤◌, true, List, [], ◌∷◌, length, Some, refl, sym, ap, ◌∙◌, arith}
-use Rattle.std.specs.Prelude.{All, slice_get, sum_by}
+use Rattle.std.specs.Prelude.{All, slice_get}
 use Rattle.std.proofs.Math.Nat.{mul-le-mul_left}
 use Rattle.std.proofs.lemmas.List.Elements.{All-head, All-tail}
-use Rattle.std.proofs.lemmas.List.Sums.{sum_by-cons}
 use Rattle.std.proofs.lemmas.Option.{same_Some}
 use Rattle.high_ir.specs.Formed.{IsHigh}
 use Rattle.high_ir.specs.Runs.{rank_or}
-use Rattle.high_ir.specs.Size.{expr_nodes, expr_operations}
 use Rattle.high_ir.specs.Standing.{callees_of, callees_of_all}
 use Rattle.high_ir.specs.Tree as high
 use Rattle.high_ir.specs.Tree.{Function, Program}
@@ -31,26 +29,11 @@ use Rattle.lower_nesting.specs.Blocks.{AllOf}
 use Rattle.lower_nesting.proofs.Loops.{all_loops_inside}
 use Rattle.lower_nesting.proofs.Marks.{of_back, of_front}
 use Rattle.lower_budget.specs.Costs.{block_worth}
+use Rattle.lower_budget.proofs.Amounts.{all_nodes_more, nodes_more}
 use Rattle.lower_budget.proofs.Pieces.{cost, costs}
 use Rattle.lower_budget.proofs.Rooms.{body_cost, code_worth-is, end_same, rooms}
 use Rattle.lower_budget.proofs.Sums.{repeats_before}
 use Rattle.lower_budget.proofs.Turned.{most, repeated-turned}
-
-pub nodes_more : (e : high.Expr) → expr_operations e ≤ expr_nodes e
-nodes_more (high.Constant w) = omega arith
-nodes_more (high.Variable x) = omega arith
-nodes_more (high.Element array index) = let h = nodes_more index in omega (arith, h)
-nodes_more (high.Unary operator e) = let h = nodes_more e in omega (arith, h)
-nodes_more (high.Binary operator left right) = let a = nodes_more left in let b = nodes_more right in omega (arith, a, b)
-
-all_nodes_more : (es : List high.Expr) → sum_by expr_operations es ≤ sum_by expr_nodes es
-all_nodes_more [] = omega arith
-all_nodes_more (e ∷ es) =
-    let h = all_nodes_more es in
-    let k = nodes_more e in
-    let a = sum_by-cons expr_operations e es in
-    let b = sum_by-cons expr_nodes e es in
-    omega (arith, h, k, a, b)
 
 -- what a statement costs, where calls cost at most 64 more than 16 times what they weigh
 module _ (scope : Scope) (worth callee : ℕ → ℕ) where
@@ -65,22 +48,22 @@ module _ (scope : Scope) (worth callee : ℕ → ℕ) where
 
   mutual
     pub cost_light : (s : high.Statement) → AllOf (λ g. worth (place_in scope.order g) ≤ 64 + 16 * callee g) (callees_of s) → cost most scope (rooms worth scope) s ≤ 16 * weight_of callee s
-    cost_light (high.Set x e) h = let k = nodes_more e in omega (arith, k)
-    cost_light (high.Put e) h = let k = nodes_more e in omega (arith, k)
+    cost_light (high.Set x e) h = let k = nodes_more scope.shifts e in omega (arith, k)
+    cost_light (high.Put e) h = let k = nodes_more scope.shifts e in omega (arith, k)
     cost_light (high.Get x) h = omega arith
-    cost_light (high.Keep array i e) h = let k = nodes_more i in let l = nodes_more e in omega (arith, k, l)
+    cost_light (high.Keep array i e) h = let k = nodes_more scope.shifts i in let l = nodes_more scope.shifts e in omega (arith, k, l)
     cost_light (high.Mark m) h = omega arith
     cost_light (high.Seq parts) h = let k = costs_light parts h in omega (arith, k)
     cost_light (high.If test first other) h =
         let a = cost_light first (of_front Covered (callees_of first) (callees_of other) h) in
         let b = cost_light other (of_back Covered (callees_of first) (callees_of other) h) in
-        let k = nodes_more test in
+        let k = nodes_more scope.shifts test in
         omega (arith, a, b, k)
     cost_light (high.Loop id least starts body) h = loop_less (most starts) (cost most scope (rooms worth scope) body) (weight_of callee body) (cost_light body h)
     cost_light (high.Block body) h = let k = cost_light body h in omega (arith, k)
     cost_light (high.Leave d) h = omega arith
-    cost_light (high.Call f values arrays into) h = let a = h.0 in let k = all_nodes_more values in omega (arith, a, k)
-    cost_light (high.Return e) h = let k = nodes_more e in omega (arith, k)
+    cost_light (high.Call f values arrays into) h = let a = h.0 in let k = all_nodes_more scope.shifts values in omega (arith, a, k)
+    cost_light (high.Return e) h = let k = nodes_more scope.shifts e in omega (arith, k)
 
     costs_light : (ss : high.Statements) → AllOf (λ g. worth (place_in scope.order g) ≤ 64 + 16 * callee g) (callees_of_all ss) → costs most scope (rooms worth scope) ss ≤ 16 * weight_of_all callee ss
     costs_light high.End h = omega arith

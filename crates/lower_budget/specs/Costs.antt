@@ -1,5 +1,5 @@
 -- What code costs.
-use Rattle.std.specs.Prelude.{◌≡◌, ℕ, ◌+◌, ◌*◌, ◌≤◌, [], ◌∷◌, length, map, Option, Some, None, sum_by}
+use Rattle.std.specs.Prelude.{◌≡◌, ℕ, ◌+◌, ◌*◌, ◌≤◌, max, [], ◌∷◌, length, map, Option, Some, None, sum_by}
 use Rattle.high_ir.specs.Formed.{IsHigh}
 use Rattle.high_ir.specs.Size.{operations, program_operations}
 use Rattle.high_ir.specs.Standing.{Bounded, loops_of, marks_of}
@@ -24,8 +24,9 @@ module _ (worth : ℕ → ℕ) where
   abbrev pub block_worth : Block ℕ Note → ℕ
   block_worth b = code_worth b.code + end_room b.end
 
+-- a program of few operations pays for its code by those that it might have
 abbrev pub RoomIsBounded : Type 0
-RoomIsBounded = (p : high.Program) → IsHigh p → room (lowered p) ≤ 16 * program_operations p + 64 * length (lowered p).functions
+RoomIsBounded = (p : high.Program) → IsHigh p → room (lowered p) ≤ 16 * max (program_operations p) 98304 + 64 * length (lowered p).functions
 
 abbrev pub FunctionsAreFew : Type 0
 FunctionsAreFew = (p : high.Program) → IsHigh p → length (lowered p).functions ≤ length p.functions

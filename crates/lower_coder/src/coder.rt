@@ -1,7 +1,7 @@
 // Instructions, one after another.
 ghost use Rattle.std.specs.Prelude.{◌≡◌, ◌++◌, IfOk, suc};
 ghost use Rattle.low_ir.specs.View.{instr_of};
-ghost use Rattle.lower_coder.specs.declared.coder.Few.TheVariants.{Two};
+ghost use Rattle.lower_coder.specs.declared.coder.Few.TheVariants.{Lone, Two};
 ghost use Rattle.lower_coder.specs.View.{coded_of, few_code, few_needs, more};
 ghost use Rattle.lower_definition.specs.Operators.{only};
 ghost use Rattle.lower_definition.specs.Statements.{nothing};
@@ -18,11 +18,14 @@ pub struct Coder {
     pub free: u32,
 }
 
-/// What an operator becomes: an instruction, or two that pass a value in a register of their own.
+/// What an operator becomes: an instruction, or several that pass a value in a register of their own.
 #[derive(Drop)]
 pub enum Few {
     One(Instr),
     Two(Instr, Instr),
+    /// One that leaves the register unused.
+    Lone(Instr),
+    Four(Instr, Instr, Instr, Instr),
 }
 
 impl Coder {
@@ -61,11 +64,28 @@ impl Coder {
         match few {
             Few::One(instr) => Ok(self.push(instr)?),
             Few::Two(first, second) => Ok(self.push_both(first, second)?),
+            Few::Lone(instr) => Ok(self.push_lone(instr)?),
+            Few::Four(first, second, third, last) => match self.push_pair(first, second) {
+                Ok(()) => Ok(self.push_both(third, last)?),
+                Err(memory) => {
+                    drop(third);
+                    drop(last);
+                    Err(memory)
+                }
+            },
         }
     }
 
-    fn push_both(&mut self, first: Instr, second: Instr) -> Result<(), Memory>
-        ensures { IfOk result (λ _. coded_of self.new ≡ more (coded_of self.old) (few_code (Two first second)) 1) }
+    fn push_lone(&mut self, instr: Instr) -> Result<(), Memory>
+        ensures { IfOk result (λ _. coded_of self.new ≡ more (coded_of self.old) (few_code (Lone instr)) 1) }
+    {
+        self.push(instr)?;
+        self.fresh()?;
+        Ok(())
+    }
+
+    fn push_pair(&mut self, first: Instr, second: Instr) -> Result<(), Memory>
+        ensures { IfOk result (λ _. coded_of self.new ≡ more (coded_of self.old) (few_code (Two first second)) 0) }
     {
         match self.push(first) {
             Ok(()) => {}
@@ -74,7 +94,13 @@ impl Coder {
                 return Err(memory);
             }
         }
-        self.push(second)?;
+        Ok(self.push(second)?)
+    }
+
+    fn push_both(&mut self, first: Instr, second: Instr) -> Result<(), Memory>
+        ensures { IfOk result (λ _. coded_of self.new ≡ more (coded_of self.old) (few_code (Two first second)) 1) }
+    {
+        self.push_pair(first, second)?;
         self.fresh()?;
         Ok(())
     }

@@ -1,10 +1,10 @@
 // What operators become.
-ghost use Rattle.std.specs.Prelude.{◌≡◌, ◌≤◌, IfOk};
+ghost use Rattle.std.specs.Prelude.{◌≡◌, ◌<◌, ◌≤◌, IfOk, IfSome};
 ghost use Rattle.low_ir.specs.Code.{Constant, Register};
 ghost use Rattle.rv_core.specs.declared.row.Alu.TheVariants as alu;
 ghost use Rattle.low_ir.specs.View.{instr_of, operand_of};
 ghost use Rattle.lower_coder.specs.View.{few_code, few_needs, coded_of, more};
-ghost use Rattle.lower_definition.specs.Operators.{binary_code, binary_needs, by_shifts, condition_of, convert_code, convert_needs, difference, exponent_below, exponent_of, in_order, inverse, masked, negated, operate, product, quotient_unsigned, remainder_unsigned, shifted, unary_code, unary_needs};
+ghost use Rattle.lower_definition.specs.Operators.{binary_code, binary_needs, by_bias, by_shifts, condition_of, convert_code, convert_needs, difference, divided, divisor_exponent, exponent_below, exponent_of, in_order, inverse, masked, negated, operate, product, quotient, quotient_unsigned, remainder_unsigned, shifted, unary_code, unary_needs};
 
 use super::coder::{Coder, Few};
 use high_ir::expression::{BinaryOperator, UnaryOperator};
@@ -53,6 +53,61 @@ fn exponent_of(word: u32) -> Option<u32>
     ensures { result ≡ exponent_of word }
 {
     exponent_below(32, word)
+}
+
+/// The exponent of a divisor with a sign that is a power of two above 1.
+#[tactic(auto, unfolding(lower_definition::specs::Operators::divisor_exponent))]
+fn divisor_exponent(word: u32) -> Option<u32>
+    ensures value { result ≡ divisor_exponent word }
+    ensures small { IfSome result (λ k. k < 32) }
+{
+    match exponent_below(31, word) {
+        None => None,
+        Some(exponent) => {
+            if exponent == 0 {
+                return None;
+            }
+            Some(exponent)
+        }
+    }
+}
+
+/// A quotient that is rounded towards zero, by a power of two.
+fn by_bias(exponent: u32, into: u32, free: u32, left: Operand) -> Few
+    requires { exponent ≤ 32 }
+    ensures code { few_code result ≡ by_bias exponent into free (operand_of left) }
+    ensures needs { few_needs result ≡ 1 }
+{
+    let by = Operand::Register(free);
+    Few::Four(
+        operate(Alu::ShiftRightSigned, free, left, Operand::Constant(31)),
+        operate(Alu::ShiftRight, free, by, Operand::Constant(32 - exponent)),
+        operate(Alu::Sum, free, left, by),
+        operate(Alu::ShiftRightSigned, into, by, Operand::Constant(exponent)),
+    )
+}
+
+fn divided(into: u32, free: u32, left: Operand, word: u32) -> Few
+    ensures code { few_code result ≡ divided into free (operand_of left) word (divisor_exponent word) }
+    ensures needs { few_needs result ≡ 1 }
+{
+    match divisor_exponent(word) {
+        None => Few::Lone(operate(Alu::Quotient, into, left, Operand::Constant(word))),
+        Some(exponent) => by_bias(exponent, into, free, left),
+    }
+}
+
+fn quotient(shifts: bool, into: u32, free: u32, left: Operand, right: Operand) -> Few
+    ensures code { few_code result ≡ quotient shifts into free (operand_of left) (operand_of right) }
+    ensures needs { few_needs result ≡ 1 }
+{
+    if !shifts {
+        return Few::Lone(operate(Alu::Quotient, into, left, right));
+    }
+    match right {
+        Operand::Register(_) => Few::Lone(operate(Alu::Quotient, into, left, right)),
+        Operand::Constant(word) => divided(into, free, left, word),
+    }
 }
 
 /// An operator that takes its operands in any order: a constant stands to the right.
@@ -154,8 +209,15 @@ fn untrue(into: u32, register: u32) -> Instr
 }
 
 /// What an operator between two operands becomes. The register `free` is one that it may take.
-pub fn binary(operator: BinaryOperator, into: u32, free: u32, left: Operand, right: Operand) -> Few
-    ensures code { few_code result ≡ binary_code operator into free (operand_of left) (operand_of right) }
+pub fn binary(
+    shifts: bool,
+    operator: BinaryOperator,
+    into: u32,
+    free: u32,
+    left: Operand,
+    right: Operand,
+) -> Few
+    ensures code { few_code result ≡ binary_code shifts operator into free (operand_of left) (operand_of right) }
     ensures needs { few_needs result ≡ binary_needs operator }
 {
     let by = Operand::Register(free);
@@ -163,7 +225,7 @@ pub fn binary(operator: BinaryOperator, into: u32, free: u32, left: Operand, rig
         BinaryOperator::Add => Few::One(in_order(Alu::Sum, into, left, right)),
         BinaryOperator::Subtract => Few::One(difference(into, left, right)),
         BinaryOperator::Multiply => Few::One(product(into, left, right)),
-        BinaryOperator::Divide => Few::One(operate(Alu::Quotient, into, left, right)),
+        BinaryOperator::Divide => quotient(shifts, into, free, left, right),
         BinaryOperator::DivideUnsigned => Few::One(quotient_unsigned(into, left, right)),
         BinaryOperator::Remainder => Few::One(operate(Alu::Remainder, into, left, right)),
         BinaryOperator::RemainderUnsigned => Few::One(remainder_unsigned(into, left, right)),
@@ -250,14 +312,15 @@ impl Coder {
     /// An operator between two operands, whose value goes to a register.
     pub fn binary(
         &mut self,
+        shifts: bool,
         operator: BinaryOperator,
         into: u32,
         left: Operand,
         right: Operand,
     ) -> Result<(), Memory>
-        ensures { IfOk result (λ _. coded_of self.new ≡ more (coded_of self.old) (binary_code operator into self.old.free (operand_of left) (operand_of right)) (binary_needs operator)) }
+        ensures { IfOk result (λ _. coded_of self.new ≡ more (coded_of self.old) (binary_code shifts operator into self.old.free (operand_of left) (operand_of right)) (binary_needs operator)) }
     {
-        Ok(self.emit(binary(operator, into, self.free, left, right))?)
+        Ok(self.emit(binary(shifts, operator, into, self.free, left, right))?)
     }
 
     /// An operator before an operand, whose value goes to a register.

@@ -1,5 +1,5 @@
 -- What operators become: instructions that put a value into the register d, by way of the register t where they need two.
-use Rattle.std.specs.Prelude.{ℕ, zero, suc, ◌-◌, ◌%◌, ◌^◌, ◌==◌, if◌then◌else◌, List, [], ◌∷◌, Option, Some, None}
+use Rattle.std.specs.Prelude.{ℕ, zero, suc, ◌-◌, ◌%◌, ◌^◌, ◌==◌, Bool, true, false, if◌then◌else◌, List, [], ◌∷◌, Option, Some, None}
 use Rattle.rv_core.specs.declared.row.Alu.{Alu}
 use Rattle.rv_core.specs.declared.row.Alu.TheVariants as alu
 use Rattle.rv_core.specs.declared.row.Condition.{Condition}
@@ -68,6 +68,32 @@ abbrev pub remainder_unsigned : ℕ → Operand ℕ → Operand ℕ → Instr �
 remainder_unsigned d x (Register r) = operate alu.RemainderUnsigned d x (Register r)
 remainder_unsigned d x (Constant w) = masked d x w (exponent_of w)
 
+-- the exponent of a divisor with a sign that is a power of two above 1
+abbrev pub above_one : Option ℕ → Option ℕ
+above_one None = None
+above_one (Some zero) = None
+above_one (Some (suc k)) = Some (suc k)
+
+unfoldable pub divisor_exponent : ℕ → Option ℕ
+divisor_exponent w = above_one (exponent_below 31 w)
+
+-- a quotient that is rounded towards zero: what is negative gets 2^k - 1 more, and then the bits go down
+abbrev pub by_bias : (k d t : ℕ) → Operand ℕ → Code
+by_bias k d t x =
+    operate alu.ShiftRightSigned t x (Constant 31)
+    ∷ operate alu.ShiftRight t (Register t) (Constant (32 - k))
+    ∷ operate alu.Sum t x (Register t)
+    ∷ only (operate alu.ShiftRightSigned d (Register t) (Constant k))
+
+abbrev pub divided : (d t : ℕ) → Operand ℕ → ℕ → Option ℕ → Code
+divided d t x w None = only (operate alu.Quotient d x (Constant w))
+divided d t x w (Some k) = by_bias k d t x
+
+abbrev pub quotient : Bool → (d t : ℕ) → Operand ℕ → Operand ℕ → Code
+quotient false d t x y = only (operate alu.Quotient d x y)
+quotient true d t x (Register r) = only (operate alu.Quotient d x (Register r))
+quotient true d t x (Constant w) = divided d t x w (divisor_exponent w)
+
 abbrev pub is_zero : ℕ → Operand ℕ → Instr ℕ Note
 is_zero d x = operate alu.IsLessUnsigned d x (Constant 1)
 
@@ -78,29 +104,31 @@ isnt_zero d x = operate alu.IsLessUnsigned d (Constant 0) x
 abbrev pub untrue : ℕ → Operand ℕ → Instr ℕ Note
 untrue d x = operate alu.BitXor d x (Constant 1)
 
-abbrev pub binary_code : BinaryOperator → (d t : ℕ) → (x y : Operand ℕ) → Code
-binary_code Add d t x y = only (in_order alu.Sum d x y)
-binary_code Subtract d t x y = only (difference d x y)
-binary_code Multiply d t x y = only (product d x y)
-binary_code Divide d t x y = only (operate alu.Quotient d x y)
-binary_code DivideUnsigned d t x y = only (quotient_unsigned d x y)
-binary_code Remainder d t x y = only (operate alu.Remainder d x y)
-binary_code RemainderUnsigned d t x y = only (remainder_unsigned d x y)
-binary_code And d t x y = only (in_order alu.BitAnd d x y)
-binary_code Or d t x y = only (in_order alu.BitOr d x y)
-binary_code Xor d t x y = only (in_order alu.BitXor d x y)
-binary_code ShiftLeft d t x y = only (operate alu.ShiftLeft d x y)
-binary_code ShiftRight d t x y = only (operate alu.ShiftRightSigned d x y)
-binary_code ShiftRightUnsigned d t x y = only (operate alu.ShiftRight d x y)
-binary_code Equal d t x y = in_order alu.BitXor t x y ∷ only (is_zero d (Register t))
-binary_code NotEqual d t x y = in_order alu.BitXor t x y ∷ only (isnt_zero d (Register t))
-binary_code Less d t x y = only (operate alu.IsLess d x y)
-binary_code LessUnsigned d t x y = only (operate alu.IsLessUnsigned d x y)
-binary_code AtLeast d t x y = operate alu.IsLess t x y ∷ only (untrue d (Register t))
-binary_code AtLeastUnsigned d t x y = operate alu.IsLessUnsigned t x y ∷ only (untrue d (Register t))
+-- where a quotient may be several instructions, or may not
+abbrev pub binary_code : (shifts : Bool) → BinaryOperator → (d t : ℕ) → (x y : Operand ℕ) → Code
+binary_code shifts Add d t x y = only (in_order alu.Sum d x y)
+binary_code shifts Subtract d t x y = only (difference d x y)
+binary_code shifts Multiply d t x y = only (product d x y)
+binary_code shifts Divide d t x y = quotient shifts d t x y
+binary_code shifts DivideUnsigned d t x y = only (quotient_unsigned d x y)
+binary_code shifts Remainder d t x y = only (operate alu.Remainder d x y)
+binary_code shifts RemainderUnsigned d t x y = only (remainder_unsigned d x y)
+binary_code shifts And d t x y = only (in_order alu.BitAnd d x y)
+binary_code shifts Or d t x y = only (in_order alu.BitOr d x y)
+binary_code shifts Xor d t x y = only (in_order alu.BitXor d x y)
+binary_code shifts ShiftLeft d t x y = only (operate alu.ShiftLeft d x y)
+binary_code shifts ShiftRight d t x y = only (operate alu.ShiftRightSigned d x y)
+binary_code shifts ShiftRightUnsigned d t x y = only (operate alu.ShiftRight d x y)
+binary_code shifts Equal d t x y = in_order alu.BitXor t x y ∷ only (is_zero d (Register t))
+binary_code shifts NotEqual d t x y = in_order alu.BitXor t x y ∷ only (isnt_zero d (Register t))
+binary_code shifts Less d t x y = only (operate alu.IsLess d x y)
+binary_code shifts LessUnsigned d t x y = only (operate alu.IsLessUnsigned d x y)
+binary_code shifts AtLeast d t x y = operate alu.IsLess t x y ∷ only (untrue d (Register t))
+binary_code shifts AtLeastUnsigned d t x y = operate alu.IsLessUnsigned t x y ∷ only (untrue d (Register t))
 
 -- how many registers of their own its instructions need
 abbrev pub binary_needs : BinaryOperator → ℕ
+binary_needs Divide = 1
 binary_needs Equal = 1
 binary_needs NotEqual = 1
 binary_needs AtLeast = 1

@@ -1,6 +1,7 @@
 -- The program in the low form that a program in the high form becomes.
-use Rattle.std.specs.Prelude.{ℕ, ◌+◌, ◌-◌, List, [], ◌∷◌, ◌++◌, length, map, Option, Some, None, slice_get, slice_index_or}
+use Rattle.std.specs.Prelude.{ℕ, ◌+◌, ◌-◌, Bool, nat_le, List, [], ◌∷◌, ◌++◌, length, map, Option, Some, None, slice_get, slice_index_or}
 use Rattle.std.specs.List.{flat_map, range_with_len}
+use Rattle.high_ir.specs.Size.{program_nodes}
 use Rattle.high_ir.specs.Tree as high
 use Rattle.low_ir.specs.Code.{Constant, End, Jump, Branch, Return, Block, Loop, Function, Low, Note}
 use Rattle.lower_definition.specs.Objects.{object_of}
@@ -36,10 +37,14 @@ function_of scope h p =
 abbrev pub lowered_function : Scope → ℕ → high.Function → Function ℕ Note
 lowered_function scope f h = function_of scope h (body_piece scope f h.body)
 
+-- a program whose nodes, each twice, are no more than the operations that programs have
+unfoldable pub is_small : high.Program → Bool
+is_small p = nat_le (program_nodes p) 49152
+
 -- the functions of a program behind those that have n claims; it has each function of its order
 module _ (p : high.Program) (passed : Passed) where
   abbrev pub scope_of : high.Function → List (Option ℕ) → Scope
-  scope_of h claims = record { variables = h.values + h.locals; claims = claims; objects = length p.objects; order = order p }
+  scope_of h claims = record { variables = h.values + h.locals; claims = claims; objects = length p.objects; order = order p; shifts = is_small p }
 
   abbrev pub lowered_in : ℕ → ℕ → Option high.Function → List (Function ℕ Note)
   lowered_in n f None = []

@@ -17,12 +17,14 @@ use Rattle.lower_definition.specs.Objects.{kind_of, scale_of}
 use Rattle.lower_definition.specs.Operators.{Code, only, operate, negated, binary_code, binary_needs, unary_code, unary_needs, condition_of, inverse}
 
 -- what a function's code goes by: how many variables it has, the claim of each of its array parameters, or none where no call passes
--- an array for it, how many arrays the program has, and the functions in the order of the low program
+-- an array for it, how many arrays the program has, the functions in the order of the low program, and whether quotients may be
+-- several instructions
 pub record Scope : Type 0 where
   pub variables : ℕ
   pub claims : List (Option ℕ)
   pub objects : ℕ
   pub order : List ℕ
+  pub shifts : Bool
 
 -- the registers of a function: its variables, then the arrays that it takes, then those of its expressions
 abbrev pub pointer : Scope → ℕ → ℕ
@@ -102,12 +104,12 @@ set_to x d t = coded (Do (Set d x)) t
 abbrev pub unary_into : UnaryOperator → ℕ → Valued → Coded
 unary_into operator d x = behind x (unary_code operator d x.free x.value) (x.free + unary_needs operator)
 
-abbrev pub binary_into : BinaryOperator → ℕ → (left right : Valued) → Coded
-binary_into operator d left right = record { code = left.code ++ (right.code ++ binary_code operator d right.free left.value right.value); free = right.free + binary_needs operator }
+abbrev pub binary_into : Bool → BinaryOperator → ℕ → (left right : Valued) → Coded
+binary_into shifts operator d left right = record { code = left.code ++ (right.code ++ binary_code shifts operator d right.free left.value right.value); free = right.free + binary_needs operator }
 
 -- the registers of the right side are free behind the left one
-abbrev pub sides_into : BinaryOperator → ℕ → Valued → (ℕ → Valued) → Coded
-sides_into operator d left right = binary_into operator d left (right left.free)
+abbrev pub sides_into : Bool → BinaryOperator → ℕ → Valued → (ℕ → Valued) → Coded
+sides_into shifts operator d left right = binary_into shifts operator d left (right left.free)
 
 -- an index whose constant part is 0
 abbrev pub plain_index : Valued → Index
@@ -183,9 +185,9 @@ module _ (scope : Scope) (shares : List Share) where
     index = λ t. plain_index (in_register t (unary_into operator t (operand_by (leaf scope operand) (forms operand).into (suc t))));
   }
   forms (high.Binary operator left right) = record {
-    into = λ d t. sides_into operator d (operand_by (leaf scope left) (forms left).into t) (operand_by (leaf scope right) (forms right).into);
+    into = λ d t. sides_into scope.shifts operator d (operand_by (leaf scope left) (forms left).into t) (operand_by (leaf scope right) (forms right).into);
     index = λ t. split operator (leaf scope left) (leaf scope right) (operand_by (leaf scope left) (forms left).into t) (operand_by (leaf scope right) (forms right).into t)
-        (plain_index (in_register t (sides_into operator t (operand_by (leaf scope left) (forms left).into (suc t)) (operand_by (leaf scope right) (forms right).into))));
+        (plain_index (in_register t (sides_into scope.shifts operator t (operand_by (leaf scope left) (forms left).into (suc t)) (operand_by (leaf scope right) (forms right).into))));
   }
 
   -- the value of an expression in the register d, or as an operand

@@ -15,7 +15,7 @@ use Rattle.lower_expression.specs.declared.sharing.Share.{Share}
 use Rattle.lower_expression.specs.declared.testing.Comparison.{Comparison}
 
 abbrev pub scope_of : Scope → values.Scope
-scope_of s = record { variables = s.variables; claims = s.claims.now; objects = s.objects; order = s.order.now }
+scope_of s = record { variables = s.variables; claims = s.claims.now; objects = s.objects; order = s.order.now; shifts = s.shifts }
 
 abbrev pub share_of : Share → values.Share
 share_of s = record { variable = s.variable; scale = s.scale; register = s.register }

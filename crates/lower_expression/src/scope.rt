@@ -21,6 +21,8 @@ pub struct Scope<'a> {
     pub objects: u32,
     /// The functions in the order of the low program.
     pub order: &'a [u32],
+    /// Whether quotients may be several instructions.
+    pub shifts: bool,
 }
 
 /// The register of a variable; no good run has one that isn't there.

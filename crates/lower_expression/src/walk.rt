@@ -62,7 +62,7 @@ pub fn value_into(
         } => {
             let left = operand(scope, shares, left, coder)?;
             let right = operand(scope, shares, right, coder)?;
-            coder.binary(*operator, into, left, right)?;
+            coder.binary(scope.shifts, *operator, into, left, right)?;
             Ok(())
         }
     }

@@ -1,5 +1,5 @@
 -- What the instructions of operators name.
-use Rattle.std.proofs.Common.{ℕ, ◌+◌, ◌<◌, ◌≤◌, [], ◌∷◌, ◌++◌, Option, Some, None, arith}
+use Rattle.std.proofs.Common.{ℕ, ◌+◌, ◌<◌, ◌≤◌, Bool, true, false, [], ◌∷◌, ◌++◌, Option, Some, None, arith}
 use Rattle.rv_core.specs.declared.row.Alu.{Alu}
 use Rattle.rv_core.specs.declared.row.Alu.TheVariants as alu
 use Rattle.high_ir.specs.declared.object.Kind.{Kind}
@@ -9,7 +9,7 @@ use Rattle.high_ir.specs.declared.expression.UnaryOperator.TheVariants.{Negate, 
 use Rattle.high_ir.specs.declared.expression.BinaryOperator.{BinaryOperator}
 use Rattle.high_ir.specs.declared.expression.BinaryOperator.TheVariants.{Add, Subtract, Multiply, Divide, DivideUnsigned, Remainder, RemainderUnsigned, And, Or, Xor, ShiftLeft, ShiftRight, ShiftRightUnsigned, Equal, NotEqual, Less, LessUnsigned, AtLeast, AtLeastUnsigned}
 use Rattle.low_ir.specs.Code.{Operand, Register, Constant, Instr, Note}
-use Rattle.lower_definition.specs.Operators.{Code, binary_code, binary_needs, convert_code, convert_needs, difference, exponent_of, in_order, masked, product, quotient_unsigned, remainder_unsigned, shifted, times, unary_code, unary_needs}
+use Rattle.lower_definition.specs.Operators.{Code, binary_code, binary_needs, convert_code, convert_needs, difference, divided, divisor_exponent, exponent_of, in_order, masked, product, quotient, quotient_unsigned, remainder_unsigned, shifted, times, unary_code, unary_needs}
 use Rattle.lower_formed.specs.Names.{CodeOk, InstrOk, OperandOk}
 
 module _ (size objects claims f : ℕ) where
@@ -62,26 +62,35 @@ module _ (size objects claims f : ℕ) where
   by_way : (t n : ℕ) → t + n ≤ size → 0 < n → t < size
   by_way t n room some = omega (arith, room, some)
 
-  pub binary_ok : (operator : BinaryOperator) (d t : ℕ) (x y : Operand ℕ) → d < size → In x → In y → t + binary_needs operator ≤ size → Codes (binary_code operator d t x y)
-  binary_ok Add d t x y h a b room = (in_order_ok alu.Sum d x y h a b, tt)
-  binary_ok Subtract d t x y h a b room = (difference_ok d x y h a b, tt)
-  binary_ok Multiply d t x y h a b room = (product_ok d x y h a b, tt)
-  binary_ok Divide d t x y h a b room = ((h, (a, b)), tt)
-  binary_ok DivideUnsigned d t x y h a b room = (quotient_ok d x y h a b, tt)
-  binary_ok Remainder d t x y h a b room = ((h, (a, b)), tt)
-  binary_ok RemainderUnsigned d t x y h a b room = (remainder_ok d x y h a b, tt)
-  binary_ok And d t x y h a b room = (in_order_ok alu.BitAnd d x y h a b, tt)
-  binary_ok Or d t x y h a b room = (in_order_ok alu.BitOr d x y h a b, tt)
-  binary_ok Xor d t x y h a b room = (in_order_ok alu.BitXor d x y h a b, tt)
-  binary_ok ShiftLeft d t x y h a b room = ((h, (a, b)), tt)
-  binary_ok ShiftRight d t x y h a b room = ((h, (a, b)), tt)
-  binary_ok ShiftRightUnsigned d t x y h a b room = ((h, (a, b)), tt)
-  binary_ok Equal d t x y h a b room = let u = by_way t 1 room (omega arith) in (in_order_ok alu.BitXor t x y u a b, ((h, (u, tt)), tt))
-  binary_ok NotEqual d t x y h a b room = let u = by_way t 1 room (omega arith) in (in_order_ok alu.BitXor t x y u a b, ((h, (tt, u)), tt))
-  binary_ok Less d t x y h a b room = ((h, (a, b)), tt)
-  binary_ok LessUnsigned d t x y h a b room = ((h, (a, b)), tt)
-  binary_ok AtLeast d t x y h a b room = let u = by_way t 1 room (omega arith) in ((u, (a, b)), ((h, (u, tt)), tt))
-  binary_ok AtLeastUnsigned d t x y h a b room = let u = by_way t 1 room (omega arith) in ((u, (a, b)), ((h, (u, tt)), tt))
+  divided_ok : (d t : ℕ) (x : Operand ℕ) (w : ℕ) (o : Option ℕ) → d < size → In x → t < size → Codes (divided d t x w o)
+  divided_ok d t x w None h a u = ((h, (a, tt)), tt)
+  divided_ok d t x w (Some k) h a u = ((u, (a, tt)), ((u, (u, tt)), ((u, (a, u)), ((h, (u, tt)), tt))))
+
+  signed_ok : (shifts : Bool) (d t : ℕ) (x y : Operand ℕ) → d < size → In x → In y → t < size → Codes (quotient shifts d t x y)
+  signed_ok false d t x y h a b u = ((h, (a, b)), tt)
+  signed_ok true d t x (Register r) h a b u = ((h, (a, b)), tt)
+  signed_ok true d t x (Constant w) h a b u = divided_ok d t x w (divisor_exponent w) h a u
+
+  pub binary_ok : (shifts : Bool) (operator : BinaryOperator) (d t : ℕ) (x y : Operand ℕ) → d < size → In x → In y → t + binary_needs operator ≤ size → Codes (binary_code shifts operator d t x y)
+  binary_ok shifts Add d t x y h a b room = (in_order_ok alu.Sum d x y h a b, tt)
+  binary_ok shifts Subtract d t x y h a b room = (difference_ok d x y h a b, tt)
+  binary_ok shifts Multiply d t x y h a b room = (product_ok d x y h a b, tt)
+  binary_ok shifts Divide d t x y h a b room = signed_ok shifts d t x y h a b (by_way t 1 room (omega arith))
+  binary_ok shifts DivideUnsigned d t x y h a b room = (quotient_ok d x y h a b, tt)
+  binary_ok shifts Remainder d t x y h a b room = ((h, (a, b)), tt)
+  binary_ok shifts RemainderUnsigned d t x y h a b room = (remainder_ok d x y h a b, tt)
+  binary_ok shifts And d t x y h a b room = (in_order_ok alu.BitAnd d x y h a b, tt)
+  binary_ok shifts Or d t x y h a b room = (in_order_ok alu.BitOr d x y h a b, tt)
+  binary_ok shifts Xor d t x y h a b room = (in_order_ok alu.BitXor d x y h a b, tt)
+  binary_ok shifts ShiftLeft d t x y h a b room = ((h, (a, b)), tt)
+  binary_ok shifts ShiftRight d t x y h a b room = ((h, (a, b)), tt)
+  binary_ok shifts ShiftRightUnsigned d t x y h a b room = ((h, (a, b)), tt)
+  binary_ok shifts Equal d t x y h a b room = let u = by_way t 1 room (omega arith) in (in_order_ok alu.BitXor t x y u a b, ((h, (u, tt)), tt))
+  binary_ok shifts NotEqual d t x y h a b room = let u = by_way t 1 room (omega arith) in (in_order_ok alu.BitXor t x y u a b, ((h, (tt, u)), tt))
+  binary_ok shifts Less d t x y h a b room = ((h, (a, b)), tt)
+  binary_ok shifts LessUnsigned d t x y h a b room = ((h, (a, b)), tt)
+  binary_ok shifts AtLeast d t x y h a b room = let u = by_way t 1 room (omega arith) in ((u, (a, b)), ((h, (u, tt)), tt))
+  binary_ok shifts AtLeastUnsigned d t x y h a b room = let u = by_way t 1 room (omega arith) in ((u, (a, b)), ((h, (u, tt)), tt))
 
   convert_ok : (kind : Kind) (d t : ℕ) (x : Operand ℕ) → d < size → In x → t + convert_needs kind ≤ size → Codes (convert_code kind d t x)
   convert_ok Unsigned8 d t x h a room = ((h, (a, tt)), tt)

@@ -241,14 +241,14 @@ module _ (size claims f : ℕ) (scope : Scope) (ok : ScopeOk size claims scope) 
         let k = h (omega (arith, room)) in
         append x.code (unary_code operator d x.free x.value) k.0 (unary_ok size scope.objects claims f operator d x.free x.value a k.1 room)
 
-    sides_form : (operator : BinaryOperator) (d t : ℕ) (left right : high.Expr) → d < size → FormOk left → FormOk right → (sides_into operator d (operand scope shares left t) (operand scope shares right)).free ≤ size → Codes (sides_into operator d (operand scope shares left t) (operand scope shares right)).code
+    sides_form : (operator : BinaryOperator) (d t : ℕ) (left right : high.Expr) → d < size → FormOk left → FormOk right → (sides_into scope.shifts operator d (operand scope shares left t) (operand scope shares right)).free ≤ size → Codes (sides_into scope.shifts operator d (operand scope shares left t) (operand scope shares right)).code
     sides_form operator d t left right a h k room =
         let x = operand scope shares left t in
         let y = operand scope shares right x.free in
         let up = operand_free scope shares right x.free in
         let hx = operand_ok left t h (omega (arith, up, room)) in
         let hy = operand_ok right x.free k (omega (arith, room)) in
-        append x.code _ hx.0 (append y.code _ hy.0 (binary_ok size scope.objects claims f operator d y.free x.value y.value a hx.1 hy.1 room))
+        append x.code _ hx.0 (append y.code _ hy.0 (binary_ok size scope.objects claims f scope.shifts operator d y.free x.value y.value a hx.1 hy.1 room))
 
     plus_ok : (v : Valued) (o : Option (Operand ℕ)) (other : Index) → Finds v → Finds other.part → Finds (plus v o other).part
     plus_ok v (Some (Constant w)) other h k = h
@@ -309,8 +309,8 @@ module _ (size claims f : ℕ) (scope : Scope) (ok : ScopeOk size claims scope) 
         record {
           into = λ d t a room. sides_form operator d t left right a h k room;
           index = λ t. split_ok operator (leaf scope left) (leaf scope right) (operand scope shares left t) (operand scope shares right t)
-              (plain_index (in_register t (sides_into operator t (operand scope shares left (suc t)) (operand scope shares right)))) (operand_ok left t h) (operand_ok right t k)
-              (in_own t (sides_into operator t (operand scope shares left (suc t)) (operand scope shares right)) (g.into t (suc t)) (λ a room. sides_form operator t (suc t) left right a h k room));
+              (plain_index (in_register t (sides_into scope.shifts operator t (operand scope shares left (suc t)) (operand scope shares right)))) (operand_ok left t h) (operand_ok right t k)
+              (in_own t (sides_into scope.shifts operator t (operand scope shares left (suc t)) (operand scope shares right)) (g.into t (suc t)) (λ a room. sides_form operator t (suc t) left right a h k room));
         }
 
     pub value_ok : (e : high.Expr) (d t : ℕ) → d < size → (value_into scope shares e d t).free ≤ size → Codes (value_into scope shares e d t).code

@@ -19,7 +19,7 @@ use Rattle.low_ir.specs.declared.object.Kind.{Kind}
 use Rattle.low_ir.specs.Code.{Address, Operand, Register, Constant, Base, Fixed, Set, Operate, Point, Load, Store, Put, Get, Instr, Do, Call, End, Jump, Branch, Return, Block, Note}
 use Rattle.low_ir.specs.Formed.{addresses, only_jump}
 use Rattle.lower_definition.specs.Objects.{kind_of, scale_of}
-use Rattle.lower_definition.specs.Operators.{Code, binary_code, condition_of, convert_code, difference, exponent_of, in_order, masked, only, product, quotient_unsigned, remainder_unsigned, shifted, times, unary_code}
+use Rattle.lower_definition.specs.Operators.{Code, binary_code, condition_of, convert_code, difference, divided, divisor_exponent, exponent_of, in_order, masked, only, product, quotient, quotient_unsigned, remainder_unsigned, shifted, times, unary_code}
 use Rattle.lower_definition.specs.Values.{Scope, Share, Coded, Valued, Index, Offset, Tested, arrays_passed, base_of, coded, compared, element_into, first_free, forms, in_register, index_of, leaf, load_into, minus, negated_or, offset_by, offset_of, operand, operand_by, passed_array, plain_index, plus, scaled, scaled_by, scaled_in, scaled_in_all, share_code, shared, shares_from, sides_into, split, tested, unary_into, unless_zero, value_into, values_passed}
 use Rattle.lower_definition.specs.Statements.{Piece, before, before_by, block, call_code, get_code, keep_code, kept_value, landed, landed_by, marked_by, one_block, only_if, piece, pieces, put_code, set_code, store_by}
 use Rattle.lower_definition.specs.Programs.{body_piece, lowered_function, turned}
@@ -76,26 +76,35 @@ module _ (P : Base ℕ → Type 0) where
   remainder_begins d x (Register r) = tt
   remainder_begins d x (Constant w) = masked_begins d x w (exponent_of w)
 
-  binary_begins : (operator : BinaryOperator) (d t : ℕ) (x y : Operand ℕ) → CodeBegins (binary_code operator d t x y)
-  binary_begins Add d t x y = (in_order_begins alu.Sum d x y, tt)
-  binary_begins Subtract d t x y = (difference_begins d x y, tt)
-  binary_begins Multiply d t x y = (product_begins d x y, tt)
-  binary_begins Divide d t x y = (tt, tt)
-  binary_begins DivideUnsigned d t x y = (quotient_begins d x y, tt)
-  binary_begins Remainder d t x y = (tt, tt)
-  binary_begins RemainderUnsigned d t x y = (remainder_begins d x y, tt)
-  binary_begins And d t x y = (in_order_begins alu.BitAnd d x y, tt)
-  binary_begins Or d t x y = (in_order_begins alu.BitOr d x y, tt)
-  binary_begins Xor d t x y = (in_order_begins alu.BitXor d x y, tt)
-  binary_begins ShiftLeft d t x y = (tt, tt)
-  binary_begins ShiftRight d t x y = (tt, tt)
-  binary_begins ShiftRightUnsigned d t x y = (tt, tt)
-  binary_begins Equal d t x y = (in_order_begins alu.BitXor t x y, (tt, tt))
-  binary_begins NotEqual d t x y = (in_order_begins alu.BitXor t x y, (tt, tt))
-  binary_begins Less d t x y = (tt, tt)
-  binary_begins LessUnsigned d t x y = (tt, tt)
-  binary_begins AtLeast d t x y = (tt, (tt, tt))
-  binary_begins AtLeastUnsigned d t x y = (tt, (tt, tt))
+  divided_begins : (d t : ℕ) (x : Operand ℕ) (w : ℕ) (o : Option ℕ) → CodeBegins (divided d t x w o)
+  divided_begins d t x w None = (tt, tt)
+  divided_begins d t x w (Some k) = (tt, (tt, (tt, (tt, tt))))
+
+  signed_begins : (shifts : Bool) (d t : ℕ) (x y : Operand ℕ) → CodeBegins (quotient shifts d t x y)
+  signed_begins false d t x y = (tt, tt)
+  signed_begins true d t x (Register r) = (tt, tt)
+  signed_begins true d t x (Constant w) = divided_begins d t x w (divisor_exponent w)
+
+  binary_begins : (shifts : Bool) (operator : BinaryOperator) (d t : ℕ) (x y : Operand ℕ) → CodeBegins (binary_code shifts operator d t x y)
+  binary_begins shifts Add d t x y = (in_order_begins alu.Sum d x y, tt)
+  binary_begins shifts Subtract d t x y = (difference_begins d x y, tt)
+  binary_begins shifts Multiply d t x y = (product_begins d x y, tt)
+  binary_begins shifts Divide d t x y = signed_begins shifts d t x y
+  binary_begins shifts DivideUnsigned d t x y = (quotient_begins d x y, tt)
+  binary_begins shifts Remainder d t x y = (tt, tt)
+  binary_begins shifts RemainderUnsigned d t x y = (remainder_begins d x y, tt)
+  binary_begins shifts And d t x y = (in_order_begins alu.BitAnd d x y, tt)
+  binary_begins shifts Or d t x y = (in_order_begins alu.BitOr d x y, tt)
+  binary_begins shifts Xor d t x y = (in_order_begins alu.BitXor d x y, tt)
+  binary_begins shifts ShiftLeft d t x y = (tt, tt)
+  binary_begins shifts ShiftRight d t x y = (tt, tt)
+  binary_begins shifts ShiftRightUnsigned d t x y = (tt, tt)
+  binary_begins shifts Equal d t x y = (in_order_begins alu.BitXor t x y, (tt, tt))
+  binary_begins shifts NotEqual d t x y = (in_order_begins alu.BitXor t x y, (tt, tt))
+  binary_begins shifts Less d t x y = (tt, tt)
+  binary_begins shifts LessUnsigned d t x y = (tt, tt)
+  binary_begins shifts AtLeast d t x y = (tt, (tt, tt))
+  binary_begins shifts AtLeastUnsigned d t x y = (tt, (tt, tt))
 
   convert_begins : (kind : HighKind) (d t : ℕ) (x : Operand ℕ) → CodeBegins (convert_code kind d t x)
   convert_begins Unsigned8 d t x = (tt, tt)
@@ -152,11 +161,11 @@ module _ (P : Base ℕ → Type 0) where
       unary_form : (operator : UnaryOperator) (d : ℕ) (x : Valued) → CodeBegins x.code → CodeBegins (unary_into operator d x).code
       unary_form operator d x h = append x.code _ h (unary_begins operator d x.free x.value)
 
-      sides_form : (operator : BinaryOperator) (d t : ℕ) (left right : high.Expr) → FormBegins left → FormBegins right → CodeBegins (sides_into operator d (operand scope shares left t) (operand scope shares right)).code
+      sides_form : (operator : BinaryOperator) (d t : ℕ) (left right : high.Expr) → FormBegins left → FormBegins right → CodeBegins (sides_into scope.shifts operator d (operand scope shares left t) (operand scope shares right)).code
       sides_form operator d t left right h k =
           let x = operand scope shares left t in
           let y = operand scope shares right x.free in
-          append x.code _ (operand_begins left t h) (append y.code _ (operand_begins right x.free k) (binary_begins operator d y.free x.value y.value))
+          append x.code _ (operand_begins left t h) (append y.code _ (operand_begins right x.free k) (binary_begins scope.shifts operator d y.free x.value y.value))
 
       plus_begins : (v : Valued) (o : Option (Operand ℕ)) (other : Index) → CodeBegins v.code → CodeBegins other.part.code → CodeBegins (plus v o other).part.code
       plus_begins v (Some (Constant w)) other h k = h
@@ -210,7 +219,7 @@ module _ (P : Base ℕ → Type 0) where
           record {
             into = λ d t. sides_form operator d t left right h k;
             index = λ t. split_begins operator (leaf scope left) (leaf scope right) (operand scope shares left t) (operand scope shares right t)
-                (plain_index (in_register t (sides_into operator t (operand scope shares left (suc t)) (operand scope shares right)))) (operand_begins left t h) (operand_begins right t k)
+                (plain_index (in_register t (sides_into scope.shifts operator t (operand scope shares left (suc t)) (operand scope shares right)))) (operand_begins left t h) (operand_begins right t k)
                 (sides_form operator t (suc t) left right h k);
           }
 

@@ -1,5 +1,5 @@
 -- What the low program of a program in the high form keeps of it.
-use Rattle.std.specs.Prelude.{◌≡◌, ℕ, ◌*◌, ◌+◌, ◌<◌, ◌≤◌, ◌^◌, List, length, map, Some, All, slice_get, sum_by}
+use Rattle.std.specs.Prelude.{◌≡◌, ℕ, ◌*◌, ◌+◌, ◌<◌, ◌≤◌, ◌^◌, max, List, length, map, Some, All, slice_get, sum_by}
 use Rattle.high_ir.specs.Formed.{IsHigh}
 use Rattle.high_ir.specs.Runs.{hrun}
 use Rattle.high_ir.specs.Size.{local_object_bytes, program_operations}
@@ -40,8 +40,8 @@ pub record KeepsProgram (p : Program) (q : Low) : Type 0 where
   -- it has no more loops, and no more places with marks than the program has operations
   pub loops : sum_by (λ (fn : Function ℕ Note). length fn.loops) q.functions ≤ p.loops
   pub marks : sum_by (λ (fn : Function ℕ Note). sum_by marks_at fn.blocks) q.functions ≤ program_operations p
-  -- how many machine instructions it takes, how many a run may execute, and how often a run may pass a mark
-  pub room : room q ≤ 16 * program_operations p + 64 * length q.functions
+  -- how many machine instructions it takes, by the operations that it has or might have, how many a run may execute, and how often a run may pass a mark
+  pub room : room q ≤ 16 * max (program_operations p) 98304 + 64 * length q.functions
   pub weight : weight q ≤ 16 * high.weight p + 64
   pub reach : (mark : ℕ) → reach q mark ≤ high.reach p mark
 

@@ -1,4 +1,5 @@
 pub mod Words
+pub mod Quotients
 pub mod Writing
 pub mod Operators
 pub mod Kept

@@ -1,10 +1,10 @@
 -- The instructions of an operator put what it computes into their register.
-use Rattle.std.proofs.Common.{◌≡◌, ℕ, ◌+◌, ◌-◌, ◌^◌, ◌<◌, ◌≤◌, List, ◌∷◌, length, Option, Some, None, refl, sym, ap, ◌∙◌, subst, arith}
-use Rattle.std.specs.Prelude.{int_lt, nat_lt}
+use Rattle.std.proofs.Common.{◌≡◌, ℕ, ◌+◌, ◌-◌, ◌^◌, ◌<◌, ◌≤◌, Bool, true, false, List, ◌∷◌, length, Option, Some, None, refl, sym, ap, ◌∙◌, subst, arith, get_or-set_same, length-set}
+use Rattle.std.specs.Prelude.{int_lt, nat_lt, slice_set}
 use Rattle.rv_core.specs.declared.row.Alu.{Alu}
 use Rattle.rv_core.specs.declared.row.Alu.TheVariants as alu
 use Rattle.rv_core.specs.Arithmetic.{alu_value}
-use Rattle.wcc_base.specs.Words.{signed_word, sum_word, difference_word, xor_word, less_word, signed_less_word}
+use Rattle.wcc_base.specs.Words.{signed_word, sum_word, difference_word, signed_quotient_word, xor_word, right_shift_word, signed_right_shift_word, less_word, signed_less_word}
 use Rattle.high_ir.specs.declared.object.Kind.{Kind as HighKind}
 use Rattle.high_ir.specs.declared.object.Kind.TheVariants as kinds
 use Rattle.high_ir.specs.declared.expression.UnaryOperator.{UnaryOperator}
@@ -16,11 +16,13 @@ use Rattle.low_ir.specs.declared.run.Value.TheVariants.{Word}
 use Rattle.low_ir.specs.Code.{Operand, Register, Constant, Set}
 use Rattle.low_ir.specs.Effects.{World}
 use Rattle.low_ir.specs.Runs.{Bank, virtual, operand_value}
-use Rattle.lower_definition.specs.Operators.{only, operate, negated, exponent_of, in_order, difference, shifted, masked, times, product, quotient_unsigned, remainder_unsigned, binary_code, binary_needs, convert_code, convert_needs, unary_code, unary_needs}
+use Rattle.lower_definition.specs.Operators.{only, operate, negated, exponent_of, divisor_exponent, in_order, difference, by_bias, divided, quotient, shifted, masked, times, product, quotient_unsigned, remainder_unsigned, binary_code, binary_needs, convert_code, convert_needs, unary_code, unary_needs}
 use Rattle.lower_values.specs.Computing.{Has, Puts}
-use Rattle.lower_values.proofs.Words.{sum-negated, negated_below, sum_sides, product_sides, exponent_found, product-shift, quotient-shift, remainder-mask, equal-xor, not_equal-xor, zero-less, untrue-xor, low8-mask, low16-shifts, fill8-shifts, fill16-shifts}
+use Rattle.lower_values.specs.Meeting.{IsBelow}
+use Rattle.lower_values.proofs.Quotients.{quotient-bias}
+use Rattle.lower_values.proofs.Words.{IsDivisor, divisor_found, sum-negated, negated_below, sum_sides, product_sides, exponent_found, product-shift, quotient-shift, remainder-mask, equal-xor, not_equal-xor, zero-less, untrue-xor, low8-mask, low16-shifts, fill8-shifts, fill16-shifts}
 use Rattle.std.proofs.lemmas.Nat.{and_comm, or_comm, xor_comm}
-use Rattle.lower_values.proofs.Writing.{has_word, has_constant, puts_one, puts_operate, puts_operates, puts_operates_right, set_after}
+use Rattle.lower_values.proofs.Writing.{has_word, has_constant, has_behind, operate_behind, puts_one, puts_operate, puts_operates, puts_operates_right, set_after}
 
 -- operators that take their operands in any order
 record Commutes (operator : Alu) : Type 0 where
@@ -97,6 +99,43 @@ module _ (claims : List (List ℕ)) (u : World) (s : Bank) (t d : ℕ) (inside :
       subst (λ n. Puts claims u (only (remainder_unsigned d x (Constant w))) s t d (binary_word RemainderUnsigned a n)) y
       (masked_puts x w a (binary_word RemainderUnsigned a w) (exponent_of w) (subst (λ n. n < 2 ^ 32) (sym y) hb) ex refl (λ k e. remainder-mask a w k (exponent_found w k e)))
 
+  -- a quotient with a sign by a power of two, by way of t
+  bias_puts : (x : Operand ℕ) (w a k : ℕ) → d < t → t < length s → a < 2 ^ 32 → IsBelow t x → Has s x a → IsDivisor w k → Puts claims u (by_bias k d t x) s t d (signed_quotient_word a w)
+  unfolding alu_value
+  bias_puts x w a k low room small below hx is =
+      let some = is.some in
+      let few = is.few in
+      let sign = signed_right_shift_word a 31 in
+      let bias = right_shift_word sign (32 - k) in
+      let sum = sum_word a bias in
+      let s1 = slice_set s t (Some (Word sign)) in
+      let s2 = slice_set s1 t (Some (Word bias)) in
+      let s3 = slice_set s2 t (Some (Word sum)) in
+      let same1 = length-set s t (Some (Word sign)) in
+      let same2 = length-set s1 t (Some (Word bias)) in
+      let same3 = length-set s2 t (Some (Word sum)) in
+      let room1 : t < length s1 = omega (arith, room, same1) in
+      let room2 : t < length s2 = omega (arith, room1, same2) in
+      let has2 = has_behind s1 t x a (Word bias) below (has_behind s t x a (Word sign) below hx) in
+      operate_behind claims u _ s alu.ShiftRightSigned t d x (Constant 31) a 31 sign _ room (has_word s x a small hx) (has_constant s 31 (omega arith)) refl
+      (operate_behind claims u _ s1 alu.ShiftRight t d (Register t) (Constant (32 - k)) sign (32 - k) bias _ room1 (get_or-set_same s t (Some (Word sign)) None room) (has_constant s1 (32 - k) (omega arith)) refl
+      (operate_behind claims u _ s2 alu.Sum t d x (Register t) a bias sum _ room2 (has_word s2 x a small has2) (get_or-set_same s1 t (Some (Word bias)) None room1) refl
+      (puts_operate claims u s3 alu.ShiftRightSigned t d (Register t) (Constant k) sum k _ (omega (arith, low, room2, same3)) (get_or-set_same s2 t (Some (Word sum)) None room2) (has_constant s3 k (omega (arith, few)))
+      (quotient-bias a k small some few ∙ ap (signed_quotient_word a) is.power))))
+
+  divided_puts : (x : Operand ℕ) (w a : ℕ) (o : Option ℕ) → d < t → t < length s → w < 2 ^ 32 → a < 2 ^ 32 → IsBelow t x → Has s x a → ((k : ℕ) → o ≡ Some k → IsDivisor w k) → Puts claims u (divided d t x w o) s t d (signed_quotient_word a w)
+  unfolding alu_value
+  divided_puts x w a None low room divisor small below hx by = puts_operate claims u s alu.Quotient t d x (Constant w) a w _ inside (has_word s x a small hx) (has_constant s w divisor) refl
+  divided_puts x w a (Some k) low room divisor small below hx by = bias_puts x w a k low room small below hx (by k refl)
+
+  signed_puts : (shifts : Bool) (x y : Operand ℕ) (a b : ℕ) → d < t → t < length s → a < 2 ^ 32 → b < 2 ^ 32 → IsBelow t x → Has s x a → Has s y b → Puts claims u (quotient shifts d t x y) s t d (signed_quotient_word a b)
+  unfolding alu_value
+  signed_puts false x y a b low room ha hb below hx hy = puts_operate claims u s alu.Quotient t d x y a b _ inside (has_word s x a ha hx) (has_word s y b hb hy) refl
+  signed_puts true x (Register r) a b low room ha hb below hx hy = puts_operate claims u s alu.Quotient t d x (Register r) a b _ inside (has_word s x a ha hx) hy refl
+  signed_puts true x (Constant w) a b low room ha hb below hx hy =
+      subst (λ n. Puts claims u (quotient true d t x (Constant w)) s t d (signed_quotient_word a n)) hy
+      (divided_puts x w a (divisor_exponent w) low room (subst (λ n. n < 2 ^ 32) (sym hy) hb) ha below hx (divisor_found w))
+
   -- two words that are compared by their bits
   xor_then : (second : Alu) (x y : Operand ℕ) (a b c v : ℕ) → d < t → t < length s → c < 2 ^ 32 → operand_value virtual s x ≡ Some (Word a) → operand_value virtual s y ≡ Some (Word b) → alu_value second (xor_word a b) c ≡ v → Puts claims u (in_order alu.BitXor t x y ∷ only (operate second d (Register t) (Constant c))) s t d v
   unfolding alu_value
@@ -108,28 +147,28 @@ module _ (claims : List (List ℕ)) (u : World) (s : Bank) (t d : ℕ) (inside :
   xor_before second (Register r) y a b c v low there small ex ey is = puts_operates_right claims u s alu.BitXor second t d (Register r) y a b c (xor_word a b) v low there small ex ey refl is
   xor_before second (Constant w) y a b c v low there small ex ey is = puts_operates_right claims u s alu.BitXor second t d y (Constant w) b a c (xor_word a b) v low there small ey ex (xor_comm b a) is
 
-  pub binary_puts : (operator : BinaryOperator) (x y : Operand ℕ) (a b : ℕ) → d < t → t + binary_needs operator ≤ length s → a < 2 ^ 32 → b < 2 ^ 32 → Has s x a → Has s y b → Puts claims u (binary_code operator d t x y) s t d (binary_word operator a b)
+  pub binary_puts : (shifts : Bool) (operator : BinaryOperator) (x y : Operand ℕ) (a b : ℕ) → d < t → t + binary_needs operator ≤ length s → a < 2 ^ 32 → b < 2 ^ 32 → IsBelow t x → Has s x a → Has s y b → Puts claims u (binary_code shifts operator d t x y) s t d (binary_word operator a b)
   unfolding alu_value binary_word
-  binary_puts Add x y a b low room ha hb hx hy = ordered_puts alu.Sum x y a b _ sum_commutes (has_word s x a ha hx) (has_word s y b hb hy) refl
-  binary_puts Subtract x y a b low room ha hb hx hy = difference_puts x y a b hb (has_word s x a ha hx) hy
-  binary_puts Multiply x y a b low room ha hb hx hy = product_puts x y a b ha hb hx hy
-  binary_puts Divide x y a b low room ha hb hx hy = puts_operate claims u s alu.Quotient t d x y a b _ inside (has_word s x a ha hx) (has_word s y b hb hy) refl
-  binary_puts DivideUnsigned x y a b low room ha hb hx hy = quotient_puts x y a b hb (has_word s x a ha hx) hy
-  binary_puts Remainder x y a b low room ha hb hx hy = puts_operate claims u s alu.Remainder t d x y a b _ inside (has_word s x a ha hx) (has_word s y b hb hy) refl
-  binary_puts RemainderUnsigned x y a b low room ha hb hx hy = remainder_puts x y a b hb (has_word s x a ha hx) hy
-  binary_puts And x y a b low room ha hb hx hy = ordered_puts alu.BitAnd x y a b _ and_commutes (has_word s x a ha hx) (has_word s y b hb hy) refl
-  binary_puts Or x y a b low room ha hb hx hy = ordered_puts alu.BitOr x y a b _ or_commutes (has_word s x a ha hx) (has_word s y b hb hy) refl
-  binary_puts Xor x y a b low room ha hb hx hy = ordered_puts alu.BitXor x y a b _ xor_commutes (has_word s x a ha hx) (has_word s y b hb hy) refl
-  binary_puts ShiftLeft x y a b low room ha hb hx hy = puts_operate claims u s alu.ShiftLeft t d x y a b _ inside (has_word s x a ha hx) (has_word s y b hb hy) refl
-  binary_puts ShiftRight x y a b low room ha hb hx hy = puts_operate claims u s alu.ShiftRightSigned t d x y a b _ inside (has_word s x a ha hx) (has_word s y b hb hy) refl
-  binary_puts ShiftRightUnsigned x y a b low room ha hb hx hy = puts_operate claims u s alu.ShiftRight t d x y a b _ inside (has_word s x a ha hx) (has_word s y b hb hy) refl
-  binary_puts Equal x y a b low room ha hb hx hy = xor_then alu.IsLessUnsigned x y a b 1 _ low (omega (arith, room)) one_small (has_word s x a ha hx) (has_word s y b hb hy) (equal-xor a b)
-  binary_puts NotEqual x y a b low room ha hb hx hy = xor_before alu.IsLessUnsigned x y a b 0 _ low (omega (arith, room)) (omega arith) (has_word s x a ha hx) (has_word s y b hb hy) (not_equal-xor a b)
-  binary_puts Less x y a b low room ha hb hx hy = puts_operate claims u s alu.IsLess t d x y a b _ inside (has_word s x a ha hx) (has_word s y b hb hy) refl
-  binary_puts LessUnsigned x y a b low room ha hb hx hy = puts_operate claims u s alu.IsLessUnsigned t d x y a b _ inside (has_word s x a ha hx) (has_word s y b hb hy) refl
-  binary_puts AtLeast x y a b low room ha hb hx hy =
+  binary_puts shifts Add x y a b low room ha hb below hx hy = ordered_puts alu.Sum x y a b _ sum_commutes (has_word s x a ha hx) (has_word s y b hb hy) refl
+  binary_puts shifts Subtract x y a b low room ha hb below hx hy = difference_puts x y a b hb (has_word s x a ha hx) hy
+  binary_puts shifts Multiply x y a b low room ha hb below hx hy = product_puts x y a b ha hb hx hy
+  binary_puts shifts Divide x y a b low room ha hb below hx hy = signed_puts shifts x y a b low (omega (arith, room)) ha hb below hx hy
+  binary_puts shifts DivideUnsigned x y a b low room ha hb below hx hy = quotient_puts x y a b hb (has_word s x a ha hx) hy
+  binary_puts shifts Remainder x y a b low room ha hb below hx hy = puts_operate claims u s alu.Remainder t d x y a b _ inside (has_word s x a ha hx) (has_word s y b hb hy) refl
+  binary_puts shifts RemainderUnsigned x y a b low room ha hb below hx hy = remainder_puts x y a b hb (has_word s x a ha hx) hy
+  binary_puts shifts And x y a b low room ha hb below hx hy = ordered_puts alu.BitAnd x y a b _ and_commutes (has_word s x a ha hx) (has_word s y b hb hy) refl
+  binary_puts shifts Or x y a b low room ha hb below hx hy = ordered_puts alu.BitOr x y a b _ or_commutes (has_word s x a ha hx) (has_word s y b hb hy) refl
+  binary_puts shifts Xor x y a b low room ha hb below hx hy = ordered_puts alu.BitXor x y a b _ xor_commutes (has_word s x a ha hx) (has_word s y b hb hy) refl
+  binary_puts shifts ShiftLeft x y a b low room ha hb below hx hy = puts_operate claims u s alu.ShiftLeft t d x y a b _ inside (has_word s x a ha hx) (has_word s y b hb hy) refl
+  binary_puts shifts ShiftRight x y a b low room ha hb below hx hy = puts_operate claims u s alu.ShiftRightSigned t d x y a b _ inside (has_word s x a ha hx) (has_word s y b hb hy) refl
+  binary_puts shifts ShiftRightUnsigned x y a b low room ha hb below hx hy = puts_operate claims u s alu.ShiftRight t d x y a b _ inside (has_word s x a ha hx) (has_word s y b hb hy) refl
+  binary_puts shifts Equal x y a b low room ha hb below hx hy = xor_then alu.IsLessUnsigned x y a b 1 _ low (omega (arith, room)) one_small (has_word s x a ha hx) (has_word s y b hb hy) (equal-xor a b)
+  binary_puts shifts NotEqual x y a b low room ha hb below hx hy = xor_before alu.IsLessUnsigned x y a b 0 _ low (omega (arith, room)) (omega arith) (has_word s x a ha hx) (has_word s y b hb hy) (not_equal-xor a b)
+  binary_puts shifts Less x y a b low room ha hb below hx hy = puts_operate claims u s alu.IsLess t d x y a b _ inside (has_word s x a ha hx) (has_word s y b hb hy) refl
+  binary_puts shifts LessUnsigned x y a b low room ha hb below hx hy = puts_operate claims u s alu.IsLessUnsigned t d x y a b _ inside (has_word s x a ha hx) (has_word s y b hb hy) refl
+  binary_puts shifts AtLeast x y a b low room ha hb below hx hy =
       puts_operates claims u s alu.IsLess alu.BitXor t d x y a b 1 (signed_less_word a b) _ low (omega (arith, room)) one_small (has_word s x a ha hx) (has_word s y b hb hy) refl (untrue-xor (int_lt (signed_word a) (signed_word b)))
-  binary_puts AtLeastUnsigned x y a b low room ha hb hx hy =
+  binary_puts shifts AtLeastUnsigned x y a b low room ha hb below hx hy =
       puts_operates claims u s alu.IsLessUnsigned alu.BitXor t d x y a b 1 (less_word a b) _ low (omega (arith, room)) one_small (has_word s x a ha hx) (has_word s y b hb hy) refl (untrue-xor (nat_lt a b))
 
   convert_puts : (kind : HighKind) (x : Operand ℕ) (a : ℕ) → d < t → t + convert_needs kind ≤ length s → operand_value virtual s x ≡ Some (Word a) → Puts claims u (convert_code kind d t x) s t d (converted kind a)

@@ -95,7 +95,7 @@ module _ (scope : Scope) (shares : List Share) where
     pub into : (d t : ℕ) → t ≤ ((forms scope shares e).into d t).free
     pub index : (t : ℕ) → t ≤ ((forms scope shares e).index t).part.free
 
-  sides_grow : (operator : BinaryOperator) (d t : ℕ) (left right : Expr) → Grows left → Grows right → t ≤ (sides_into operator d (operand scope shares left t) (operand scope shares right)).free
+  sides_grow : (operator : BinaryOperator) (d t : ℕ) (left right : Expr) → Grows left → Grows right → t ≤ (sides_into scope.shifts operator d (operand scope shares left t) (operand scope shares right)).free
   sides_grow operator d t left right a b =
       let l = operand_grows (leaf scope left) (forms scope shares left).into t a.into in
       let r = operand_grows (leaf scope right) (forms scope shares right).into (operand scope shares left t).free b.into in
@@ -122,7 +122,7 @@ module _ (scope : Scope) (shares : List Share) where
       record {
         into = λ d t. sides_grow operator d t left right g h;
         index = λ t. split_grows t operator (leaf scope left) (leaf scope right) (operand scope shares left t) (operand scope shares right t)
-            (plain_index (in_register t (sides_into operator t (operand scope shares left (suc t)) (operand scope shares right))))
+            (plain_index (in_register t (sides_into scope.shifts operator t (operand scope shares left (suc t)) (operand scope shares right))))
             (operand_grows (leaf scope left) (forms scope shares left).into t g.into)
             (operand_grows (leaf scope right) (forms scope shares right).into t h.into)
             (let a = sides_grow operator t (suc t) left right g h in omega (arith, a));
@@ -206,6 +206,10 @@ module _ (scope : Scope) (shares : List Share) (claims : List (List ℕ)) (u : W
   has_after s s' n (Register r) v low same h = same r low ∙ h
   has_after s s' n (Literal c) v low same h = h
 
+  below_more : (n m : ℕ) (x : Operand ℕ) → n ≤ m → IsBelow n x → IsBelow m x
+  below_more n m (Register r) le low = omega (arith, le, low)
+  below_more n m (Literal c) le low = low
+
   unary_works : (operator : UnaryOperator) (e : Expr) (a : ℕ) (s : Bank) (d t : ℕ) → high.value_of passed vars w e ≡ Some a → Works e a → Ready s t → d < t → (unary_into operator d (operand scope shares e t)).free ≤ length s → Puts claims u (unary_into operator d (operand scope shares e t)).code s t d (unary_word operator a)
   unary_works operator e a s d t is works h low room =
       let x = operand scope shares e t in
@@ -222,7 +226,7 @@ module _ (scope : Scope) (shares : List Share) (claims : List (List ℕ)) (u : W
         others = λ q below other. p.others q (omega (arith, below, more)) other ∙ f.finds.others q below;
       }
 
-  binary_works : (operator : BinaryOperator) (left right : Expr) (a b : ℕ) (s : Bank) (d t : ℕ) → high.value_of passed vars w left ≡ Some a → high.value_of passed vars w right ≡ Some b → Works left a → Works right b → Ready s t → d < t → (sides_into operator d (operand scope shares left t) (operand scope shares right)).free ≤ length s → Puts claims u (sides_into operator d (operand scope shares left t) (operand scope shares right)).code s t d (binary_word operator a b)
+  binary_works : (operator : BinaryOperator) (left right : Expr) (a b : ℕ) (s : Bank) (d t : ℕ) → high.value_of passed vars w left ≡ Some a → high.value_of passed vars w right ≡ Some b → Works left a → Works right b → Ready s t → d < t → (sides_into scope.shifts operator d (operand scope shares left t) (operand scope shares right)).free ≤ length s → Puts claims u (sides_into scope.shifts operator d (operand scope shares left t) (operand scope shares right)).code s t d (binary_word operator a b)
   binary_works operator left right a b s d t is_a is_b works_a works_b h low room =
       let x = operand scope shares left t in
       let y = operand scope shares right x.free in
@@ -234,11 +238,11 @@ module _ (scope : Scope) (shares : List Share) (claims : List (List ℕ)) (u : W
       let g = operand_found right b s1 x.free is_b works_b (stands_after scope claims passed vars shares s s1 t x.free h f.finds.others more) (omega (arith, room, size)) in
       let s2 = g.finds.store in
       let size2 = g.finds.size in
-      let p = binary_puts claims u s2 y.free d (omega (arith, low, more, further, room, size, size2)) operator x.value y.value a b (omega (arith, low, more, further)) (omega (arith, room, size, size2)) works_a.small works_b.small (has_after s1 s2 x.free x.value a f.below g.finds.others f.finds.value) g.finds.value in
+      let p = binary_puts claims u s2 y.free d (omega (arith, low, more, further, room, size, size2)) scope.shifts operator x.value y.value a b (omega (arith, low, more, further)) (omega (arith, room, size, size2)) works_a.small works_b.small (below_more x.free y.free x.value further f.below) (has_after s1 s2 x.free x.value a f.below g.finds.others f.finds.value) g.finds.value in
       record {
         store = p.store;
-        does = computed_then claims u x.code (y.code ++ binary_code operator d y.free x.value y.value) s s1 p.store f.finds.does
-            (computed_then claims u y.code (binary_code operator d y.free x.value y.value) s1 s2 p.store g.finds.does p.does);
+        does = computed_then claims u x.code (y.code ++ binary_code scope.shifts operator d y.free x.value y.value) s s1 p.store f.finds.does
+            (computed_then claims u y.code (binary_code scope.shifts operator d y.free x.value y.value) s1 s2 p.store g.finds.does p.does);
         size = p.size ∙ size2 ∙ size;
         value = p.value;
         others = λ q below other. p.others q (omega (arith, below, more, further)) other ∙ g.finds.others q (omega (arith, below, more)) ∙ f.finds.others q below;
@@ -467,7 +471,7 @@ module _ (scope : Scope) (shares : List Share) (claims : List (List ℕ)) (u : W
     small = binary_below operator a b works_a.small works_b.small;
     into = λ s d t h low room. binary_works operator left right a b s d t is_a is_b works_a works_b h low room;
     index = λ s t h room.
-        let c = sides_into operator t (operand scope shares left (suc t)) (operand scope shares right) in
+        let c = sides_into scope.shifts operator t (operand scope shares left (suc t)) (operand scope shares right) in
         let more = sides_grow scope shares operator t (suc t) left right (grows scope shares left) (grows scope shares right) in
         split_found operator (leaf scope left) (leaf scope right) (operand scope shares left t) (operand scope shares right t) (plain_index (in_register t c)) s t a b
         (record {

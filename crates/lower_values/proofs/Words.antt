@@ -1,5 +1,5 @@
 -- What operators compute of words, in the high form and on the machine.
-use Rattle.std.proofs.Common.{◌≡◌, ◌≢◌, ℕ, zero, suc, ◌-◌, ◌*◌, ◌/◌, ◌%◌, ◌^◌, ◌<◌, ◌≤◌, Bool, true, false, nat_lt, pos, negsuc, Some, refl, sym, ap, ◌∙◌, subst, ⊎_elim, arith}
+use Rattle.std.proofs.Common.{◌≡◌, ◌≢◌, ℕ, zero, suc, ◌-◌, ◌*◌, ◌/◌, ◌%◌, ◌^◌, ◌<◌, ◌≤◌, Bool, true, false, nat_lt, pos, negsuc, Option, Some, None, refl, sym, ap, ◌∙◌, subst, ⊎_elim, arith}
 use Rattle.std.specs.Prelude.{◌==◌, if◌then◌else◌, bit_and, bit_xor}
 use Rattle.std.specs.Int.Bits.{xor_self, xor_add_and}
 use Rattle.std.proofs.lemmas.Nat.{and_le_l, and_le_r, and_mask, pow_below}
@@ -8,9 +8,8 @@ use Rattle.std.proofs.lemmas.Bool.Decides.{nat_tests}
 use Rattle.std.proofs.lemmas.Option.{same_Some}
 use Rattle.wcc_base.specs.Signs.{signed_of}
 use Rattle.wcc_base.specs.Words.{signed_word, wrapped, sign_filled, truth_word, sum_word, difference_word, product_word, quotient_word, remainder_word, and_word, xor_word, left_shift_word, right_shift_word, floor_shift, signed_right_shift_word, equal_word, less_word}
-use Rattle.high_ir.specs.declared.object.Kind.TheVariants as kinds
 use Rattle.high_ir.specs.Words.{untrue_word}
-use Rattle.lower_definition.specs.Operators.{negated, exponent_below, exponent_of}
+use Rattle.lower_definition.specs.Operators.{negated, above_one, divisor_exponent, exponent_below, exponent_of}
 
 -- a sum with the complement is a difference
 pub sum-negated : (a w : ℕ) → w < 2 ^ 32 → sum_word a (negated w) ≡ difference_word a w
@@ -30,20 +29,41 @@ pub record IsPower (w k : ℕ) : Type 0 where
   pub power : 2 ^ k ≡ w
   pub below : k < 32
 
-found : (n w k : ℕ) → n ≤ 32 → exponent_below n w ≡ Some k → IsPower w k
-found zero w k le e = cc
-found (suc n) w k le e = at (2 ^ n == w) refl e (λ f. found n w k (omega (arith, le)) f)
+found : (n w k : ℕ) → exponent_below n w ≡ Some k → (2 ^ k ≡ w) × (k < n)
+found zero w k e = cc
+found (suc n) w k e = at (2 ^ n == w) refl e (found n w k)
   where
-    at : (b : Bool) → (2 ^ n == w) ≡ b → (if b then Some n else exponent_below n w) ≡ Some k → (exponent_below n w ≡ Some k → IsPower w k) → IsPower w k
+    at : (b : Bool) → (2 ^ n == w) ≡ b → (if b then Some n else exponent_below n w) ≡ Some k → (exponent_below n w ≡ Some k → (2 ^ k ≡ w) × (k < n)) → (2 ^ k ≡ w) × (k < suc n)
     at true t e more =
         let same : n ≡ k = same_Some n k e in
         let is : 2 ^ n ≡ w = grind (arith, nat_tests, t) in
-        record { power = subst (λ m. 2 ^ m ≡ w) same is; below = omega (arith, same, le) }
-    at false t e more = more e
+        (subst (λ m. 2 ^ m ≡ w) same is, omega (arith, same))
+    at false t e more = let h = more e in let less = h.1 in (h.0, omega (arith, less))
 
 pub exponent_found : (w k : ℕ) → exponent_of w ≡ Some k → IsPower w k
 unfolding exponent_of
-exponent_found w k e = found 32 w k (omega arith) e
+exponent_found w k e = let h = found 32 w k e in record { power = h.0; below = h.1 }
+
+-- a power of two that a quotient with a sign is taken by
+pub record IsDivisor (w k : ℕ) : Type 0 where
+  pub power : 2 ^ k ≡ w
+  pub some : 0 < k
+  pub few : k < 31
+
+above_found : (n w k : ℕ) → n ≤ 31 → above_one (exponent_below n w) ≡ Some k → IsDivisor w k
+above_found n w k le e = at (exponent_below n w) refl e
+  where
+    at : (o : Option ℕ) → exponent_below n w ≡ o → above_one o ≡ Some k → IsDivisor w k
+    at None q e = cc
+    at (Some zero) q e = cc
+    at (Some (suc j)) q e =
+        let h = found n w (suc j) q in
+        let less = h.1 in
+        subst (IsDivisor w) (same_Some (suc j) k e) (record { power = h.0; some = omega arith; few = omega (arith, less, le) })
+
+pub divisor_found : (w k : ℕ) → divisor_exponent w ≡ Some k → IsDivisor w k
+unfolding divisor_exponent
+divisor_found w k e = above_found 31 w k (omega arith) e
 
 small_shift : (k : ℕ) → k < 32 → k % 32 ≡ k
 small_shift k h = omega (arith, h)

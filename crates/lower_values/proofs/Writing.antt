@@ -9,8 +9,9 @@ use Rattle.low_ir.specs.declared.run.Value.TheVariants.{Word}
 use Rattle.low_ir.specs.Code.{Operand, Register, Constant, Plain, Set, Operate, Do}
 use Rattle.low_ir.specs.Effects.{World, there, effect}
 use Rattle.low_ir.specs.Runs.{Bank, virtual, set_in, values_cons, operand_value, write_to}
-use Rattle.lower_definition.specs.Operators.{only, operate}
+use Rattle.lower_definition.specs.Operators.{Code, only, operate}
 use Rattle.lower_values.specs.Computing.{after_instr, computed, Has, Puts}
+use Rattle.lower_values.specs.Meeting.{IsBelow}
 
 pub write_inside : (s : Bank) (d : ℕ) (x : Value) → d < length s → virtual.write s d x ≡ Some (slice_set s d (Some x))
 write_inside s d x inside =
@@ -28,6 +29,11 @@ has_word s (Constant w) v small h =
 pub has_constant : (s : Bank) (w : ℕ) → w < 2 ^ 32 → operand_value virtual s (Constant w) ≡ Some (Word w)
 has_constant s w small = has_word s (Constant w) w small refl
 
+-- an operand is still there where a register above it is written
+pub has_behind : (s : Bank) (t : ℕ) (x : Operand ℕ) (v : ℕ) (z : Value) → IsBelow t x → Has s x v → Has (slice_set s t (Some z)) x v
+has_behind s t (Register r) v z below h = get_or-set_other s t r (Some z) None (λ e. omega (arith, e, below)) ∙ h
+has_behind s t (Constant w) v z below h = h
+
 module _ (claims : List (List ℕ)) (u : World) where
   pub operate_after : (s : Bank) (operator : Alu) (d : ℕ) (x y : Operand ℕ) (m n : ℕ) → d < length s → operand_value virtual s x ≡ Some (Word m) → operand_value virtual s y ≡ Some (Word n) → after_instr claims u (Operate operator d x y) s ≡ Some (slice_set s d (Some (Word (alu_value operator m n))))
   operate_after s operator d x y m n inside ex ey =
@@ -40,7 +46,7 @@ module _ (claims : List (List ℕ)) (u : World) where
       ap (λ o. there (there (values_cons o (Some [])) (λ xs. effect claims (Set d x) xs u)) (λ e. write_to virtual s (Some d) e.value)) ex
       ∙ write_inside s d v inside
 
-  -- code of one instruction, and of two, the first of which writes the register t
+  -- code of one instruction
   pub puts_one : (i : Plain ℕ) (s : Bank) (t d v : ℕ) → d < length s → after_instr claims u i s ≡ Some (slice_set s d (Some (Word v))) → Puts claims u (only (Do i)) s t d v
   puts_one i s t d v inside e = record {
     store = slice_set s d (Some (Word v));
@@ -50,17 +56,26 @@ module _ (claims : List (List ℕ)) (u : World) where
     others = λ q below other. get_or-set_other s d q (Some (Word v)) None other;
   }
 
+  -- code behind an instruction that writes the register t
+  pub puts_behind : (i : Plain ℕ) (code : Code) (s : Bank) (t d w v : ℕ) → after_instr claims u i s ≡ Some (slice_set s t (Some (Word w))) → Puts claims u code (slice_set s t (Some (Word w))) t d v → Puts claims u (Do i ∷ code) s t d v
+  puts_behind i code s t d w v e p = record {
+    store = p.store;
+    does = ap (λ o. there o (computed claims u code)) e ∙ p.does;
+    size = p.size ∙ length-set s t (Some (Word w));
+    value = p.value;
+    others = λ q below other. p.others q below other ∙ get_or-set_other s t q (Some (Word w)) None (λ e. omega (arith, e, below));
+  }
+
   pub puts_two : (i j : Plain ℕ) (s : Bank) (t d w v : ℕ) → d < t → t < length s → after_instr claims u i s ≡ Some (slice_set s t (Some (Word w))) → after_instr claims u j (slice_set s t (Some (Word w))) ≡ Some (slice_set (slice_set s t (Some (Word w))) d (Some (Word v))) → Puts claims u (Do i ∷ only (Do j)) s t d v
   puts_two i j s t d w v low inside ei ej =
       let s1 = slice_set s t (Some (Word w)) in
       let same = length-set s t (Some (Word w)) in
-      record {
-        store = slice_set s1 d (Some (Word v));
-        does = ap (λ o. there o (computed claims u (only (Do j)))) ei ∙ ap (λ o. there o (computed claims u [])) ej;
-        size = length-set s1 d (Some (Word v)) ∙ same;
-        value = get_or-set_same s1 d (Some (Word v)) None (omega (arith, low, inside, same));
-        others = λ q below other. get_or-set_other s1 d q (Some (Word v)) None other ∙ get_or-set_other s t q (Some (Word w)) None (λ e. omega (arith, e, below));
-      }
+      puts_behind i (only (Do j)) s t d w v ei (puts_one j s1 t d v (omega (arith, low, inside, same)) ej)
+
+  -- an operator into the register t, and then code
+  pub operate_behind : (code : Code) (s : Bank) (operator : Alu) (t d : ℕ) (x y : Operand ℕ) (m n w v : ℕ) → t < length s → operand_value virtual s x ≡ Some (Word m) → operand_value virtual s y ≡ Some (Word n) → alu_value operator m n ≡ w → Puts claims u code (slice_set s t (Some (Word w))) t d v → Puts claims u (operate operator t x y ∷ code) s t d v
+  operate_behind code s operator t d x y m n w v inside ex ey is p =
+      puts_behind (Operate operator t x y) code s t d w v (operate_after s operator t x y m n inside ex ey ∙ ap (λ z. Some (slice_set s t (Some (Word z)))) is) p
 
   pub puts_operate : (s : Bank) (operator : Alu) (t d : ℕ) (x y : Operand ℕ) (m n v : ℕ) → d < length s → operand_value virtual s x ≡ Some (Word m) → operand_value virtual s y ≡ Some (Word n) → alu_value operator m n ≡ v → Puts claims u (only (operate operator d x y)) s t d v
   puts_operate s operator t d x y m n v inside ex ey is =
