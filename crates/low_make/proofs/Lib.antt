@@ -4,3 +4,4 @@ pub mod Marks
 pub mod Adding
 pub mod Registers
 pub mod Visiting
+pub mod Holding

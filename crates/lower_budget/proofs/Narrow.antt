@@ -1,6 +1,7 @@
 -- How many registers the code of a statement takes.
-use Rattle.std.proofs.Common.{ℕ, suc, ◌+◌, ◌*◌, ◌≤◌, List, ◌∷◌, length, arith}
+use Rattle.std.proofs.Common.{ℕ, suc, ◌+◌, ◌*◌, ◌≤◌, List, ◌∷◌, length, arith, length-append}
 use Rattle.high_ir.specs.Size.{operations, operations_all}
+use Rattle.high_ir.specs.Standing.{loops_of, loops_of_all}
 use Rattle.high_ir.specs.Tree as high
 use Rattle.low_ir.specs.Code.{Block, Note}
 use Rattle.low_ir.specs.Formed.{only_jump}
@@ -14,7 +15,7 @@ no_worth f = 0
 
 module _ (scope : Scope) where
   mutual
-    pub piece_narrow : (s : high.Statement) (exits : List ℕ) (n t : ℕ) (k : Block ℕ Note) → (piece scope s exits n t k).free ≤ t + 2 * operations s
+    pub piece_narrow : (s : high.Statement) (exits : List ℕ) (n t : ℕ) (k : Block ℕ Note) → (piece scope s exits n t k).free + 2 * length (loops_of s) ≤ t + 2 * operations s
     piece_narrow (high.Set x e) exits n t k = let c = set_cost no_worth scope x e t in let b = c.free in let f = before_free n k (set_code scope x e t) in omega (arith, b, f)
     piece_narrow (high.Put e) exits n t k = let c = put_cost no_worth scope e t in let b = c.free in let f = before_free n k (put_code scope e t) in omega (arith, b, f)
     piece_narrow (high.Get x) exits n t k = let c = get_cost no_worth scope x t in let b = c.free in let f = before_free n k (get_code scope x t) in omega (arith, b, f)
@@ -35,7 +36,8 @@ module _ (scope : Scope) where
         let z = c.free in
         let fa = landed_free m2 r in
         let fb = landed_free m p in
-        omega (arith, x, y, z, fa, fb)
+        let l = length-append (loops_of first) (loops_of other) in
+        omega (arith, x, y, z, fa, fb, l)
     piece_narrow (high.Loop id least most body) exits n t k = let h = piece_narrow body exits (suc n) t (only_jump n) in omega (arith, h)
     piece_narrow (high.Block body) exits n t k =
         let join = landed n (one_block k t) in
@@ -45,10 +47,11 @@ module _ (scope : Scope) where
     piece_narrow (high.Call g values arrays into) exits n t k = let c = call_cost no_worth scope g values arrays into t in let b = c.free in let f = before_free n k (call_code scope g values arrays into t) in omega (arith, b, f)
     piece_narrow (high.Return e) exits n t k = let c = return_cost no_worth scope e t in let b = c.1 in omega (arith, b)
 
-    pub pieces_narrow : (ss : high.Statements) (exits : List ℕ) (n t : ℕ) (k : Block ℕ Note) → (pieces scope ss exits n t k).free ≤ t + 2 * operations_all ss
+    pub pieces_narrow : (ss : high.Statements) (exits : List ℕ) (n t : ℕ) (k : Block ℕ Note) → (pieces scope ss exits n t k).free + 2 * length (loops_of_all ss) ≤ t + 2 * operations_all ss
     pieces_narrow high.End exits n t k = omega arith
     pieces_narrow (high.Then first rest) exits n t k =
         let r = pieces scope rest exits n t k in
         let a = pieces_narrow rest exits n t k in
         let b = piece_narrow first exits (n + length r.new) r.free r.first in
-        omega (arith, a, b)
+        let l = length-append (loops_of first) (loops_of_all rest) in
+        omega (arith, a, b, l)

@@ -1,12 +1,13 @@
 -- The budgets of programs.
-use Rattle.std.proofs.Common.{◌≡◌, ◌≢◌, ℕ, zero, suc, ◌+◌, ◌*◌, ◌≤◌, Bool, true, false, List, [], ◌∷◌, ◌++◌, length, map, Some, refl, sym, ap, ◌∙◌, subst, arith, get_or-set_other}
+use Rattle.std.proofs.Common.{◌≡◌, ◌≢◌, ℕ, zero, suc, ◌+◌, ◌*◌, ◌≤◌, Bool, true, false, List, [], ◌∷◌, ◌++◌, length, map, Some, refl, sym, ap, ◌∙◌, subst, arith, get_or-set_other, length-append}
 use Rattle.std.specs.Prelude.{◌==◌, max, nat_le, if◌then◌else◌, slice_get, slice_index_or, slice_set, sum_by}
 use Rattle.std.proofs.lemmas.Bool.Decides.{nat_tests}
-use Rattle.std.proofs.lemmas.List.{get_or-map}
+use Rattle.std.proofs.lemmas.List.{get_or-map, length-map}
 use Rattle.std.proofs.lemmas.List.Sums.{sum_by-cons}
 use Rattle.std.proofs.lemmas.Option.{slice_get_within, get_or_from_slice_get}
 use Rattle.high_ir.specs.Formed.{IsHigh}
 use Rattle.high_ir.specs.Size.{function_nodes, operations, program_nodes, program_operations}
+use Rattle.high_ir.specs.Standing.{loops_of}
 use Rattle.high_ir.specs.Tree.{Function, Program}
 use Rattle.high_ir.specs.Tree as high
 use Rattle.low_ir.specs.Effects.{is_member}
@@ -15,6 +16,7 @@ use Rattle.lower_definition.specs.Calls.{Passed, all_passed, claims_among, numbe
 use Rattle.lower_definition.specs.Values.{Scope, first_free}
 use Rattle.lower_definition.specs.Statements.{block, pieces}
 use Rattle.lower_definition.specs.Programs.{is_small, lowered, lowered_function, lowered_functions, lowered_in, scope_of}
+use Rattle.low_ir.specs.Code as code
 use Rattle.low_ir.specs.Code.{Constant, Return}
 use Rattle.lower_origins.specs.Orders.{IsOrdered}
 use Rattle.lower_origins.proofs.Members.{member_first}
@@ -24,8 +26,13 @@ use Rattle.lower_origins.proofs.Numbering.{AllThere, all_there}
 use Rattle.lower_nesting.proofs.Free.{marked_free}
 use Rattle.lower_formed.proofs.Distinct.{Distinct, order_distinct}
 use Rattle.lower_budget.proofs.Amounts.{amounts, statement_few, statement_nodes}
+use Rattle.lower_budget.specs.Costs.{bounded, loops_in}
+use Rattle.lower_budget.proofs.Loops.{loops_kept}
 use Rattle.lower_budget.proofs.Narrow.{pieces_narrow}
 use Rattle.lower_budget.proofs.Rooms.{function_few}
+
+pub loops_count : (scope : Scope) (f : ℕ) (h : Function) → length (lowered_function scope f h).loops ≡ length (loops_of h.body)
+loops_count scope f h = sym (length-map (lowered_function scope f h).loops bounded) ∙ ap length (loops_kept scope f h)
 
 -- numbers at some places
 abbrev pub total : List ℕ → ℕ
@@ -117,7 +124,7 @@ module _ (p : Program) (is_high : IsHigh p) where
   there : (f : ℕ) → is_member (order p) f ≡ true → (h : Function) × (slice_get p.functions f ≡ Some h)
   there f m = let a = order_is.places f m in (a.function, a.there)
 
-  functions_room : (gs : List ℕ) (n : ℕ) → AllThere p table gs → sum_by function_room (lowered_functions p table n gs) ≤ 64 * length (lowered_functions p table n gs) + 16 * total_at (map (measure (is_small p)) p.functions) gs
+  functions_room : (gs : List ℕ) (n : ℕ) → AllThere p table gs → sum_by function_room (lowered_functions p table n gs) + 8 * loops_in (lowered_functions p table n gs) ≤ 64 * length (lowered_functions p table n gs) + 16 * total_at (map (measure (is_small p)) p.functions) gs
   functions_room [] n all = omega arith
   functions_room (g ∷ gs) n all =
       let h = all.0.0 in
@@ -132,7 +139,9 @@ module _ (p : Program) (is_high : IsHigh p) where
       let a = functions_room gs m all.1 in
       let b = function_few scope g h in
       let c = sum_by-cons function_room fn rest in
-      subst (λ fns. sum_by function_room fns ≤ 64 * length fns + 16 * total_at (map (measure (is_small p)) p.functions) (g ∷ gs)) (sym same) (omega (arith, a, b, c, w))
+      let d = sum_by-cons (λ (x : code.Function ℕ code.Note). length x.loops) fn rest in
+      let l = loops_count scope g h in
+      subst (λ fns. sum_by function_room fns + 8 * loops_in fns ≤ 64 * length fns + 16 * total_at (map (measure (is_small p)) p.functions) (g ∷ gs)) (sym same) (omega (arith, a, b, c, d, l, w))
 
   functions_there : (gs : List ℕ) (n : ℕ) → AllThere p table gs → length (lowered_functions p table n gs) ≡ total_at (map single p.functions) gs
   functions_there [] n all = refl
@@ -153,7 +162,7 @@ module _ (p : Program) (is_high : IsHigh p) where
       let c = total-ones p.functions in
       omega (arith, a, b, c)
 
-  pub room_few : room (lowered p) ≤ 16 * max (program_operations p) 98304 + 64 * length (lowered p).functions
+  pub room_few : room (lowered p) + 8 * loops_in (lowered p).functions ≤ 16 * max (program_operations p) 98304 + 64 * length (lowered p).functions
   room_few =
       let a = functions_room (order p) 0 (all_there p table (order p) there) in
       let b = distinct_less (map (measure (is_small p)) p.functions) (order p) (order_distinct p is_high) in
@@ -161,10 +170,12 @@ module _ (p : Program) (is_high : IsHigh p) where
       let d = program_few p in
       omega (arith, a, b, c, d)
 
-pub registers_few : (scope : Scope) (f : ℕ) (h : Function) → (lowered_function scope f h).size ≤ first_free scope + 2 * operations h.body
+pub registers_few : (scope : Scope) (f : ℕ) (h : Function) → (lowered_function scope f h).size + 2 * length (lowered_function scope f h).loops ≤ first_free scope + 2 * operations h.body
 registers_few scope f h =
     let behind = block [] (Return (Constant 0)) in
     let r = pieces scope (high.Then h.body high.End) [] 0 (first_free scope) behind in
     let a = pieces_narrow scope (high.Then h.body high.End) [] 0 (first_free scope) behind in
     let b = marked_free r.first.mark f (0 + length r.new) r.first r.free in
-    omega (arith, a, b)
+    let l = loops_count scope f h in
+    let e = length-append (loops_of h.body) [] in
+    omega (arith, a, b, l, e)

@@ -1,7 +1,8 @@
 -- The room of blocks as a measure.
-use Rattle.std.proofs.Common.{◌≡◌, ℕ, ◌+◌, ◌*◌, ◌≤◌, Bool, true, false, List, [], ◌∷◌, length, map, refl, ap, arith}
+use Rattle.std.proofs.Common.{◌≡◌, ℕ, ◌+◌, ◌*◌, ◌≤◌, Bool, true, false, List, [], ◌∷◌, length, map, refl, ap, arith, length-append}
 use Rattle.std.specs.Prelude.{if◌then◌else◌, sum_by}
 use Rattle.std.proofs.lemmas.List.Sums.{sum_by-cons}
+use Rattle.high_ir.specs.Standing.{loops_of, loops_of_all}
 use Rattle.high_ir.specs.Tree as high
 use Rattle.low_ir.specs.Code.{Block, Call, Constant, Do, End, Jump, Branch, Return, Loop, Note}
 use Rattle.low_ir.specs.Room.{block_room, called, end_room, instr_room}
@@ -94,23 +95,23 @@ module _ (scope : Scope) where
   plain = rooms nothing scope
 
   mutual
-    pub cost_few : (s : high.Statement) → cost once scope plain s ≤ 16 * amounts scope.shifts s
+    pub cost_few : (s : high.Statement) → cost once scope plain s + 8 * length (loops_of s) ≤ 16 * amounts scope.shifts s
     cost_few (high.Set x e) = omega arith
     cost_few (high.Put e) = omega arith
     cost_few (high.Get x) = omega arith
     cost_few (high.Keep array i e) = omega arith
     cost_few (high.Mark m) = omega arith
     cost_few (high.Seq parts) = let h = costs_few parts in omega (arith, h)
-    cost_few (high.If test first other) = let a = cost_few first in let b = cost_few other in omega (arith, a, b)
+    cost_few (high.If test first other) = let a = cost_few first in let b = cost_few other in let l = length-append (loops_of first) (loops_of other) in omega (arith, a, b, l)
     cost_few (high.Loop id least most body) = let h = cost_few body in omega (arith, h)
     cost_few (high.Block body) = let h = cost_few body in omega (arith, h)
     cost_few (high.Leave d) = omega arith
     cost_few (high.Call f values arrays into) = omega arith
     cost_few (high.Return e) = omega arith
 
-    costs_few : (ss : high.Statements) → costs once scope plain ss ≤ 16 * amounts_all scope.shifts ss
+    costs_few : (ss : high.Statements) → costs once scope plain ss + 8 * length (loops_of_all ss) ≤ 16 * amounts_all scope.shifts ss
     costs_few high.End = omega arith
-    costs_few (high.Then first rest) = let a = cost_few first in let b = costs_few rest in omega (arith, a, b)
+    costs_few (high.Then first rest) = let a = cost_few first in let b = costs_few rest in let l = length-append (loops_of first) (loops_of_all rest) in omega (arith, a, b, l)
 
   pub repeats_once : (ls : List Loop) (i : ℕ) → repeats once ls i ≡ 1
   repeats_once [] i = refl
@@ -132,7 +133,7 @@ module _ (scope : Scope) where
       omega (arith, h, c, w, z, e, r)
 
   -- the room of a function's blocks
-  pub function_few : (f : ℕ) (h : high.Function) → sum_by block_room (map (turned (length (body_piece scope f h.body).new)) ((body_piece scope f h.body).first ∷ (body_piece scope f h.body).new)) ≤ 16 * (amounts scope.shifts h.body + 1)
+  pub function_few : (f : ℕ) (h : high.Function) → sum_by block_room (map (turned (length (body_piece scope f h.body).new)) ((body_piece scope f h.body).first ∷ (body_piece scope f h.body).new)) + 8 * length (loops_of h.body) ≤ 16 * (amounts scope.shifts h.body + 1)
   function_few f h =
       let p = body_piece scope f h.body in
       let last = length p.new in

@@ -1,19 +1,19 @@
 -- How much a run may execute.
-use Rattle.std.proofs.Common.{◌≡◌, ℕ, zero, suc, ◌+◌, ◌*◌, ◌<◌, ◌≤◌, true, List, [], ◌∷◌, length, Some, refl, sym, ap, ◌∙◌, arith}
+use Rattle.std.proofs.Common.{◌≡◌, ℕ, zero, suc, ◌+◌, ◌*◌, ◌<◌, ◌≤◌, true, List, [], ◌∷◌, length, Some, refl, sym, ap, ◌∙◌, arith, length-append}
 use Rattle.std.specs.Prelude.{All, slice_get}
 use Rattle.std.proofs.Math.Nat.{mul-le-mul_left}
 use Rattle.std.proofs.lemmas.List.Elements.{All-head, All-tail}
 use Rattle.std.proofs.lemmas.Option.{same_Some}
 use Rattle.high_ir.specs.Formed.{IsHigh}
 use Rattle.high_ir.specs.Runs.{rank_or}
-use Rattle.high_ir.specs.Standing.{callees_of, callees_of_all}
+use Rattle.high_ir.specs.Standing.{callees_of, callees_of_all, loops_of, loops_of_all}
 use Rattle.high_ir.specs.Tree as high
 use Rattle.high_ir.specs.Tree.{Function, Program}
 use Rattle.high_ir.specs.Weight as heavy
 use Rattle.high_ir.specs.Weight.{weight_of, weight_of_all}
 use Rattle.low_ir.specs.Code.{Block, Note}
 use Rattle.low_ir.specs.Effects.{is_member}
-use Rattle.low_ir.specs.Room.{block_room, called, repeated_in, weight, weights}
+use Rattle.low_ir.specs.Room.{block_room, called, repeated_in, weights}
 use Rattle.low_ir.specs.Code as code
 use Rattle.lower_definition.specs.Calls.{Passed, all_passed, numbered, order, place_in}
 use Rattle.lower_definition.specs.Values.{Scope, first_free}
@@ -28,9 +28,10 @@ use Rattle.lower_events.specs.Segments.{AllInside}
 use Rattle.lower_nesting.specs.Blocks.{AllOf}
 use Rattle.lower_nesting.proofs.Loops.{all_loops_inside}
 use Rattle.lower_nesting.proofs.Marks.{of_back, of_front}
-use Rattle.lower_budget.specs.Costs.{block_worth}
+use Rattle.lower_budget.specs.Costs.{AreSpared, block_worth}
 use Rattle.lower_budget.proofs.Amounts.{all_nodes_more, nodes_more}
 use Rattle.lower_budget.proofs.Pieces.{cost, costs}
+use Rattle.lower_budget.proofs.Programs.{loops_count}
 use Rattle.lower_budget.proofs.Rooms.{body_cost, code_worth-is, end_same, rooms}
 use Rattle.lower_budget.proofs.Sums.{repeats_before}
 use Rattle.lower_budget.proofs.Turned.{most, repeated-turned}
@@ -40,14 +41,19 @@ module _ (scope : Scope) (worth callee : ℕ → ℕ) where
   abbrev Covered : ℕ → Type 0
   Covered g = worth (place_in scope.order g) ≤ 64 + 16 * callee g
 
-  loop_less : (m c w : ℕ) → c ≤ 16 * w → 2 + m * (c + 2 * 2) ≤ 16 * (4 + m * (3 + w))
-  loop_less m c w h =
-      let a : m * (c + 2 * 2) ≤ m * (16 * w + 48) = mul-le-mul_left m (omega (arith, h)) in
+  loop_less : (m c l w : ℕ) → 1 ≤ m → c + 8 * l ≤ 16 * w → 2 + m * (c + 2 * 2) + 8 * suc l ≤ 16 * (4 + m * (3 + w))
+  loop_less m c l w one h =
+      let a : m * (c + 2 * 2 + 8 * l) ≤ m * (16 * w + 48) = mul-le-mul_left m (omega (arith, h)) in
       let b : m * (16 * w + 48) ≡ 16 * (m * (3 + w)) = omega arith in
-      omega (arith, a, b)
+      let d : m * (c + 2 * 2 + 8 * l) ≡ m * (c + 2 * 2) + 8 * l * m = omega arith in
+      let e : 8 * l * 1 ≤ 8 * l * m = mul-le-mul_left (8 * l) one in
+      omega (arith, a, b, d, e)
+
+  at_least_one : (starts : ℕ) → 1 ≤ most starts
+  at_least_one starts = omega arith
 
   mutual
-    pub cost_light : (s : high.Statement) → AllOf (λ g. worth (place_in scope.order g) ≤ 64 + 16 * callee g) (callees_of s) → cost most scope (rooms worth scope) s ≤ 16 * weight_of callee s
+    pub cost_light : (s : high.Statement) → AllOf (λ g. worth (place_in scope.order g) ≤ 64 + 16 * callee g) (callees_of s) → cost most scope (rooms worth scope) s + 8 * length (loops_of s) ≤ 16 * weight_of callee s
     cost_light (high.Set x e) h = let k = nodes_more scope.shifts e in omega (arith, k)
     cost_light (high.Put e) h = let k = nodes_more scope.shifts e in omega (arith, k)
     cost_light (high.Get x) h = omega arith
@@ -58,19 +64,21 @@ module _ (scope : Scope) (worth callee : ℕ → ℕ) where
         let a = cost_light first (of_front Covered (callees_of first) (callees_of other) h) in
         let b = cost_light other (of_back Covered (callees_of first) (callees_of other) h) in
         let k = nodes_more scope.shifts test in
-        omega (arith, a, b, k)
-    cost_light (high.Loop id least starts body) h = loop_less (most starts) (cost most scope (rooms worth scope) body) (weight_of callee body) (cost_light body h)
+        let l = length-append (loops_of first) (loops_of other) in
+        omega (arith, a, b, k, l)
+    cost_light (high.Loop id least starts body) h = loop_less (most starts) (cost most scope (rooms worth scope) body) (length (loops_of body)) (weight_of callee body) (at_least_one starts) (cost_light body h)
     cost_light (high.Block body) h = let k = cost_light body h in omega (arith, k)
     cost_light (high.Leave d) h = omega arith
     cost_light (high.Call f values arrays into) h = let a = h.0 in let k = all_nodes_more scope.shifts values in omega (arith, a, k)
     cost_light (high.Return e) h = let k = nodes_more scope.shifts e in omega (arith, k)
 
-    costs_light : (ss : high.Statements) → AllOf (λ g. worth (place_in scope.order g) ≤ 64 + 16 * callee g) (callees_of_all ss) → costs most scope (rooms worth scope) ss ≤ 16 * weight_of_all callee ss
+    costs_light : (ss : high.Statements) → AllOf (λ g. worth (place_in scope.order g) ≤ 64 + 16 * callee g) (callees_of_all ss) → costs most scope (rooms worth scope) ss + 8 * length (loops_of_all ss) ≤ 16 * weight_of_all callee ss
     costs_light high.End h = omega arith
     costs_light (high.Then first rest) h =
         let a = cost_light first (of_front Covered (callees_of first) (callees_of_all rest) h) in
         let b = costs_light rest (of_back Covered (callees_of first) (callees_of_all rest) h) in
-        omega (arith, a, b)
+        let l = length-append (loops_of first) (loops_of_all rest) in
+        omega (arith, a, b, l)
 
 -- a function's blocks, as often as loops start them
 pub function_inside : (scope : Scope) (f : ℕ) (h : Function) → AllInside 0 (length (body_piece scope f h.body).new) (body_piece scope f h.body).loops
@@ -124,24 +132,27 @@ module _ (p : Program) (is_high : IsHigh p) where
           let c = callee_there p.functions g h.rank (All-head (λ g. rank_or p.functions g h.rank < h.rank) g gs ranks) in
           (go g c.function (member g (member_first g gs)) c.there c.lower, rows gs (λ x y. member x (member_more g gs x y)) (All-tail (λ g. rank_or p.functions g h.rank < h.rank) g gs ranks))
 
-  weighs : (n f N : ℕ) (h : Function) → is_member (order p) f ≡ true → slice_get p.functions f ≡ Some h → h.rank < N → weights (lowered p).functions n (place_in (order p) f) ≤ 64 + 16 * heavy.weights p.functions N f
-  weighs zero f N h m e low = omega arith
-  weighs (suc n) f zero h m e low = absurd (omega (arith, low))
-  weighs (suc n) f (suc N) h m e low =
-      let low_weights = weights (lowered p).functions n in
-      let high_weights = heavy.weights p.functions N in
-      let s = placed f h m e in
-      let scope = scope_of p table h (numbered s.number (listed table f)) in
-      let a = ap (repeated_in (λ b. block_room b + called low_weights b.code)) s.is in
-      let b = function_weighs low_weights scope f h in
-      let c = cost_light scope low_weights high_weights h.body (of_callees (λ g. low_weights (place_in (order p) g) ≤ 64 + 16 * high_weights g) f h m e (λ g k m2 e2 lower. weighs n g N k m2 e2 (omega (arith, lower, low)))) in
-      let d = ap (λ o. heavy.body_weight o high_weights) e in
-      omega (arith, a, b, c, d)
+  -- functions of which a call may execute somewhat more
+  module _ (gs : List (code.Function ℕ Note)) (spared : AreSpared (lowered p).functions gs) where
+    weighs : (n f N : ℕ) (h : Function) → is_member (order p) f ≡ true → slice_get p.functions f ≡ Some h → h.rank < N → weights gs n (place_in (order p) f) ≤ 64 + 16 * heavy.weights p.functions N f
+    weighs zero f N h m e low = omega arith
+    weighs (suc n) f zero h m e low = absurd (omega (arith, low))
+    weighs (suc n) f (suc N) h m e low =
+        let low_weights = weights gs n in
+        let high_weights = heavy.weights p.functions N in
+        let s = placed f h m e in
+        let scope = scope_of p table h (numbered s.number (listed table f)) in
+        let a = spared (place_in (order p) f) (lowered_function scope f h) low_weights s.is in
+        let b = function_weighs low_weights scope f h in
+        let c = cost_light scope low_weights high_weights h.body (of_callees (λ g. low_weights (place_in (order p) g) ≤ 64 + 16 * high_weights g) f h m e (λ g k m2 e2 lower. weighs n g N k m2 e2 (omega (arith, lower, low)))) in
+        let d = ap (λ o. heavy.body_weight o high_weights) e in
+        let l = loops_count scope f h in
+        omega (arith, a, b, c, d, l)
 
-  pub weight_less : weight (lowered p) ≤ 16 * heavy.weight p + 64
-  weight_less =
-      let m = order_is.main in
-      let k = there p.main m in
-      let is = rank_is p.functions p.main 0 k.0 k.1 in
-      let a = weighs (suc (lowered p).main) p.main (suc (rank_or p.functions p.main 0)) k.0 m k.1 (omega (arith, is)) in
-      omega (arith, a)
+    pub weight_less : weights gs (suc (lowered p).main) (lowered p).main ≤ 16 * heavy.weight p + 64
+    weight_less =
+        let m = order_is.main in
+        let k = there p.main m in
+        let is = rank_is p.functions p.main 0 k.0 k.1 in
+        let a = weighs (suc (lowered p).main) p.main (suc (rank_or p.functions p.main 0)) k.0 m k.1 (omega (arith, is)) in
+        omega (arith, a)

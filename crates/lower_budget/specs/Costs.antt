@@ -1,12 +1,12 @@
 -- What code costs.
-use Rattle.std.specs.Prelude.{◌≡◌, ℕ, ◌+◌, ◌*◌, ◌≤◌, max, [], ◌∷◌, length, map, Option, Some, None, sum_by}
+use Rattle.std.specs.Prelude.{◌≡◌, ℕ, suc, ◌+◌, ◌*◌, ◌≤◌, max, List, [], ◌∷◌, length, map, Option, Some, None, slice_get, sum_by}
 use Rattle.high_ir.specs.Formed.{IsHigh}
 use Rattle.high_ir.specs.Size.{operations, program_operations}
 use Rattle.high_ir.specs.Standing.{Bounded, loops_of, marks_of}
 use Rattle.high_ir.specs.Tree as high
 use Rattle.high_ir.specs.Weight.{weight as high_weight, reach as high_reach}
-use Rattle.low_ir.specs.Code.{Block, Call, Do, Instr, Loop, Note}
-use Rattle.low_ir.specs.Room.{end_room, plain_room, reach, room, weight}
+use Rattle.low_ir.specs.Code.{Block, Call, Do, Function, Instr, Loop, Note}
+use Rattle.low_ir.specs.Room.{block_room, called, end_room, plain_room, reach, repeated_in, room, weights}
 use Rattle.lower_definition.specs.Operators.{Code}
 use Rattle.lower_definition.specs.Values.{Scope, first_free}
 use Rattle.lower_definition.specs.Programs.{lowered, lowered_function}
@@ -24,18 +24,26 @@ module _ (worth : ℕ → ℕ) where
   abbrev pub block_worth : Block ℕ Note → ℕ
   block_worth b = code_worth b.code + end_room b.end
 
--- a program of few operations pays for its code by those that it might have
+-- the loops of some functions
+abbrev pub loops_in : List (Function ℕ Note) → ℕ
+loops_in fns = sum_by (λ (fn : Function ℕ Note). length fn.loops) fns
+
+-- a program of few operations pays for its code by those that it might have; for each loop 8 are left
 abbrev pub RoomIsBounded : Type 0
-RoomIsBounded = (p : high.Program) → IsHigh p → room (lowered p) ≤ 16 * max (program_operations p) 98304 + 64 * length (lowered p).functions
+RoomIsBounded = (p : high.Program) → IsHigh p → room (lowered p) + 8 * loops_in (lowered p).functions ≤ 16 * max (program_operations p) 98304 + 64 * length (lowered p).functions
 
 abbrev pub FunctionsAreFew : Type 0
 FunctionsAreFew = (p : high.Program) → IsHigh p → length (lowered p).functions ≤ length p.functions
 
 abbrev pub RegistersAreFew : Type 0
-RegistersAreFew = (scope : Scope) (f : ℕ) (h : high.Function) → (lowered_function scope f h).size ≤ first_free scope + 2 * operations h.body
+RegistersAreFew = (scope : Scope) (f : ℕ) (h : high.Function) → (lowered_function scope f h).size + 2 * length (lowered_function scope f h).loops ≤ first_free scope + 2 * operations h.body
+
+-- functions with the numbers of others, where a call may execute at most 8 more for each loop of its function
+abbrev pub AreSpared : List (Function ℕ Note) → List (Function ℕ Note) → Type 0
+AreSpared fns gs = (f : ℕ) (fn : Function ℕ Note) (worth : ℕ → ℕ) → slice_get fns f ≡ Some fn → repeated_in (λ b. block_room b + called worth b.code) (slice_get gs f) ≤ 8 * length fn.loops + repeated_in (λ b. block_room b + called worth b.code) (Some fn)
 
 abbrev pub WeightIsBounded : Type 0
-WeightIsBounded = (p : high.Program) → IsHigh p → weight (lowered p) ≤ 16 * high_weight p + 64
+WeightIsBounded = (p : high.Program) → IsHigh p → (gs : List (Function ℕ Note)) → AreSpared (lowered p).functions gs → weights gs (suc (lowered p).main) (lowered p).main ≤ 16 * high_weight p + 64
 
 abbrev pub ReachIsBounded : Type 0
 ReachIsBounded = (p : high.Program) → IsHigh p → (mark : ℕ) → reach (lowered p) mark ≤ high_reach p mark

@@ -1,5 +1,5 @@
 -- The functions of a low program are those that calls reach from main.
-use Rattle.std.proofs.Common.{◌≡◌, ℕ, ◌+◌, ◌<◌, ◌≤◌, Bool, true, false, [], ◌++◌, length, get_or, Option, Some, None, refl, sym, ap, ◌∙◌, subst, arith, length-append}
+use Rattle.std.proofs.Common.{◌≡◌, ℕ, ◌+◌, ◌*◌, ◌<◌, ◌≤◌, Bool, true, false, [], ◌++◌, length, get_or, Option, Some, None, refl, sym, ap, ◌∙◌, subst, arith, length-append}
 use Rattle.std.specs.Prelude.{if◌then◌else◌, nat_lt, slice_get, slice_index_or}
 use Rattle.std.specs.List.{range_with_len}
 use Rattle.std.proofs.lemmas.Bool.{ltb-true}
@@ -89,6 +89,11 @@ module _ (p : high.Program) (is_high : IsHigh p) where
   there : (f : ℕ) → is_member (order p) f ≡ true → (h : high.Function) × (slice_get p.functions f ≡ Some h)
   there f m = let a = order_is.places f m in (a.function, a.there)
 
+  -- where a function comes from; for each of its loops it could have two registers more
+  pub record Comes (fn : Function ℕ Note) : Type 0 where
+    pub comes : ComesFrom p q fn
+    pub spared : fn.size + 2 * length fn.loops ≤ comes.function.values + comes.function.locals + comes.function.arrays + 2 * operations comes.function.body
+
   -- a function of the low program
   module _ (i f : ℕ) (h : high.Function) (e : slice_get p.functions f ≡ Some h) (s : Stood p table q.claims q.functions i f h) where
     abbrev scope : Scope
@@ -128,28 +133,31 @@ module _ (p : high.Program) (is_high : IsHigh p) where
         by_claim (Some None) is k = cc
         by_claim (Some (Some claim)) is k = subst (IsAccess p q f h fn) (same_Some (Through (pointer scope j) claim) c k) (parameter_is j claim is)
 
-    function_comes : is_member (order p) f ≡ true → ComesFrom p q fn
+    function_comes : is_member (order p) f ≡ true → Comes fn
     function_comes m =
         let few = registers_few scope f h in
         let free : first_free scope ≡ h.values + h.locals + h.arrays = ap (λ n. h.values + h.locals + n) arrays in
         let marks = marks_few scope f h in
         let less = marks_less h.body in
         record {
-          number = f;
-          function = h;
-          there = e;
-          reached = reaches.reached f m;
-          opens = first_mark scope f h;
-          loops = loops_kept scope f h;
-          registers = omega (arith, few, free);
-          marks = omega (arith, marks, less);
-          accesses = function_begins (IsAccess p q f h fn) scope named f h;
+          comes = record {
+            number = f;
+            function = h;
+            there = e;
+            reached = reaches.reached f m;
+            opens = first_mark scope f h;
+            loops = loops_kept scope f h;
+            registers = omega (arith, few, free);
+            marks = omega (arith, marks, less);
+            accesses = function_begins (IsAccess p q f h fn) scope named f h;
+          };
+          spared = omega (arith, few, free);
         }
 
-  pub functions_come : (i : ℕ) (fn : Function ℕ Note) → slice_get q.functions i ≡ Some fn → ComesFrom p q fn
+  pub functions_come : (i : ℕ) (fn : Function ℕ Note) → slice_get q.functions i ≡ Some fn → Comes fn
   functions_come i fn e =
       let a = function_at p is_high i fn e in
-      subst (ComesFrom p q) (sym a.same) (function_comes i a.number a.function a.there_is a.stands (member_at (order p) i a.number a.at))
+      subst Comes (sym a.same) (function_comes i a.number a.function a.there_is a.stands (member_at (order p) i a.number a.at))
 
   opens_at : (f : ℕ) → is_member (order p) f ≡ true → mark_of q (place_in (order p) f) 0 ≡ Some f
   opens_at f m =

@@ -11,6 +11,7 @@ use Rattle.low_ir.specs.Formed.{IsLow, mark_of}
 use Rattle.low_ir.specs.Places.{assignment, in_slots}
 use Rattle.low_ir.specs.Room.{reach, room, weight}
 use Rattle.low_ir.specs.Spacing.{Carries}
+use Rattle.low_constants.specs.Holding.{held_program}
 use Rattle.lower_definition.specs.Objects.{object_of}
 use Rattle.lower_definition.specs.Programs.{lowered}
 use Rattle.lower_program.specs.Kept.{IsKept}
@@ -45,5 +46,6 @@ pub record KeepsProgram (p : Program) (q : Low) : Type 0 where
   pub weight : weight q ≤ 16 * high.weight p + 64
   pub reach : (mark : ℕ) → reach q mark ≤ high.reach p mark
 
+-- and so whichever words have registers of their own
 abbrev pub LoweredKeeps : Type 0
-LoweredKeeps = (p : Program) → IsHigh p → KeepsProgram p (lowered p)
+LoweredKeeps = (p : Program) → IsHigh p → (words : List (List ℕ)) → KeepsProgram p (held_program words (lowered p))

@@ -1,17 +1,31 @@
-use Rattle.std.proofs.Common.{subst, sym}
+use Rattle.std.proofs.Common.{subst, sym, map}
 use Rattle.high_ir.specs.Programs.{program_of}
-use Rattle.lower_formed.proofs.Programs.{is_low}
+use Rattle.low_constants.proofs.Formed.{formed}
 use Rattle.low_ir.specs.Formed.{IsLow}
+use Rattle.low_ir.specs.View.{claim_of}
+use Rattle.lower_definition.specs.Programs.{lowered}
+use Rattle.lower_formed.proofs.Programs.{is_low}
 use Rattle.lower_law.specs.Programs.{KeepsProgram}
 use Rattle.lower_law.proofs.Law.{keeps}
+use Rattle.low_make.proofs.Holding.{parts_held}
 use Rattle.low_make.proofs.lowering.lower.Goals as goal
 
 pub invariant_of-result : goal.invariant_of-result
 invariant_of-result c =
     let high = c.args.program.now in
-    record { is_low = subst IsLow (sym c.in_ok-parts.ensures) (is_low (program_of high) high.is_high) }
+    let p = program_of high in
+    let words = c.deref-2.result.now in
+    record { is_low = subst IsLow (sym (parts_held p c.in_ok-parts.parts words c.in_ok-functions.functions.items c.deref-3.result.now c.in_ok-parts.ensures c.deref-3.ensures.value c.in_ok-functions.ensures)) (formed (map claim_of words) (lowered p) (is_low p high.is_high)) }
+
+pub returns-clause-lowered : goal.returns-clause-lowered
+returns-clause-lowered c =
+    let p = program_of c.args.program.now in
+    let words = c.deref-2.result.now in
+    record { words = map claim_of words; same = parts_held p c.in_ok-parts.parts words c.in_ok-functions.functions.items c.deref-3.result.now c.in_ok-parts.ensures c.deref-3.ensures.value c.in_ok-functions.ensures }
 
 pub returns-clause-keeps : goal.returns-clause-keeps
 returns-clause-keeps c =
     let high = c.args.program.now in
-    subst (KeepsProgram (program_of high)) (sym c.in_ok-parts.ensures) (keeps (program_of high) high.is_high)
+    let p = program_of high in
+    let words = c.deref-2.result.now in
+    subst (KeepsProgram p) (sym (parts_held p c.in_ok-parts.parts words c.in_ok-functions.functions.items c.deref-3.result.now c.in_ok-parts.ensures c.deref-3.ensures.value c.in_ok-functions.ensures)) (keeps p high.is_high (map claim_of words))
