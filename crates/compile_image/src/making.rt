@@ -14,6 +14,7 @@ use facts_front::Source;
 use high_ir::{Carried, High};
 use high_make::make;
 use image_memory::Placement;
+use low_copies::without_copies;
 use low_ir::LowReg;
 use low_layout::{Laid, lay};
 use low_live::live;
@@ -31,11 +32,12 @@ pub fn planned(alloc: Global, source: &Source) -> Result<Carried, Memory>
     make(alloc, &source.typed, &source.facts)
 }
 
-/// A program in the low form, with machine registers for its registers, and slots where there are too few.
+/// A program in the low form without needless copies, with machine registers for its registers, and slots where there are too few.
 fn code_of(alloc: Global, program: &High) -> Result<LowReg, Memory>
     ensures { IfOk result (IsLowered (program_of program.now)) }
 {
-    let low = lower(alloc, program)?;
+    let plain = lower(alloc, program)?;
+    let low = without_copies(alloc, plain)?;
     let live = live(alloc, &low)?;
     let code = allocate(alloc, low, &live)?;
     Ok(code)

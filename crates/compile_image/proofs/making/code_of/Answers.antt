@@ -5,14 +5,16 @@ use Rattle.low_ir.specs.Programs.{low_of}
 use Rattle.high_ir.specs.Programs.{program_of}
 use Rattle.low_registers.specs.Spills.{HaveFewSlots, SpillWhereCrowded}
 use Rattle.lower_law.specs.Programs.{KeepsProgram}
+use Rattle.lower_copied.proofs.Keeping.{keeps}
 use Rattle.compile_image.proofs.making.code_of.Goals as goal
 
 pub returns : goal.returns
 returns c =
     let code = c.in_ok-code.code in
     let same = sym c.in_ok-code.ensures.low in
+    let kept = keeps (program_of c.args.program.now) (low_of c.in_ok-plain.plain) (low_of c.in_ok-low.low) c.in_ok-plain.ensures.keeps c.in_ok-low.ensures in
     record {
-      keeps_program = subst (λ (l : Low). KeepsProgram (program_of c.args.program.now) (low_of l)) same c.in_ok-low.ensures.keeps;
+      keeps_program = subst (λ (l : Low). KeepsProgram (program_of c.args.program.now) (low_of l)) same kept;
       spills = subst (λ (l : Low). SpillWhereCrowded (low_of l) (placings_of code)) same c.in_ok-code.ensures.spills;
       slots = subst (λ (l : Low). HaveFewSlots (low_of l) (placings_of code)) same c.in_ok-code.ensures.slots;
     }

@@ -1,0 +1,6 @@
+pub mod Lists
+pub mod Stores
+pub mod Renamed
+pub mod Serving
+pub mod Costs
+pub mod Formed

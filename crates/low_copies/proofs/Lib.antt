@@ -1,0 +1,5 @@
+pub mod Wider
+pub mod Finding
+pub mod Standing
+pub mod Going
+pub mod Blocks

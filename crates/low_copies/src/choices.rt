@@ -1,0 +1,142 @@
+// What becomes of each copy of a block. Nothing is proved of it: a choice that can't be followed leaves the program as it is.
+use super::copy::{Copied, copy_at};
+use super::known::Known;
+use super::reading::{Reader, read_end, read_instr};
+use super::renaming::{writes, written};
+use low_ir::{Block, Instr};
+use std::alloc::Global;
+use wcc_base::Memory;
+
+/// What becomes of an instruction.
+#[derive(Clone, Copy)]
+pub enum Choice {
+    Stays,
+    /// A copy: the instruction before it writes to where it copies to.
+    Delivered,
+    /// A copy: what reads it reads what it is a copy of.
+    LeftOut,
+}
+
+/// What lies behind an instruction, of each register. Places of the code are counted from block to block, so that nothing has to be
+/// cleared for the next one.
+#[derive(Drop)]
+pub struct Behind {
+    /// The last place where the value that it has here is read.
+    read: Vec<u64>,
+    /// The next place where it is written.
+    written: Vec<u64>,
+    /// The first place of the block.
+    first: u64,
+    /// The place.
+    at: u64,
+}
+
+fn place_of(places: &[u64], register: u32) -> u64 {
+    match places.get(register as usize) {
+        None => 0,
+        Some(place) => *place,
+    }
+}
+
+impl Reader for Behind {
+    fn read(&mut self, register: u32) {
+        let first = self.first;
+        let at = self.at;
+        if let Some(place) = self.read.get_mut(register as usize) {
+            if *place < first {
+                *place = at;
+            }
+        }
+    }
+}
+
+impl Behind {
+    /// Nothing is behind, of so many registers.
+    pub fn new(alloc: Global, registers: u32) -> Result<Behind, Memory> {
+        Ok(Behind {
+            read: vec![in alloc; 0u64; registers as usize]?,
+            written: vec![in alloc; 0u64; registers as usize]?,
+            first: 1,
+            at: 1,
+        })
+    }
+
+    fn write(&mut self, register: u32) {
+        let at = self.at;
+        if let Some(place) = self.read.get_mut(register as usize) {
+            *place = 0;
+        }
+        if let Some(place) = self.written.get_mut(register as usize) {
+            *place = at;
+        }
+    }
+
+    fn pass(&mut self, instr: &Instr) {
+        if let Some(register) = written(instr) {
+            self.write(register);
+        }
+        read_instr(self, instr);
+    }
+
+    /// Whether a register may stand in another one from here on: it isn't read any more when that is written.
+    fn may_stand(&self, register: u32, place: u32) -> bool {
+        let next = place_of(&self.written, place);
+        next < self.first || place_of(&self.read, register) <= next
+    }
+
+    /// What becomes of a copy that stands at this place of the code.
+    fn choice(&self, known: &Known, code: &[Instr], at: usize, copy: Copied) -> Choice {
+        if self.is_delivered(known, code, at, copy) {
+            Choice::Delivered
+        } else if !known.is_lasting(copy.into) && self.may_stand(copy.into, copy.source) {
+            Choice::LeftOut
+        } else {
+            Choice::Stays
+        }
+    }
+
+    /// Whether the instruction before a copy can write to where it copies to.
+    fn is_delivered(&self, known: &Known, code: &[Instr], at: usize, copy: Copied) -> bool {
+        if at == 0 || copy.into == copy.source || known.is_lasting(copy.source) {
+            return false;
+        }
+        match code.get(at.wrapping_sub(1)) {
+            None => false,
+            Some(before) => {
+                writes(before, copy.source) && self.may_stand(copy.source, copy.into)
+            }
+        }
+    }
+
+    fn choice_of(&self, known: &Known, code: &[Instr], at: usize) -> Choice {
+        match copy_at(code, at) {
+            None => Choice::Stays,
+            Some(copy) => self.choice(known, code, at, copy),
+        }
+    }
+
+    /// By instruction of a block, what becomes of it.
+    pub fn choices(
+        &mut self,
+        alloc: Global,
+        known: &Known,
+        block: &Block,
+    ) -> Result<Vec<Choice>, Memory> {
+        let places = block.code.len();
+        let mut choices = vec![in alloc; Choice::Stays; places]?;
+        self.at = self.first.wrapping_add(places as u64);
+        read_end(self, block.end);
+        for at in (0..places).rev() {
+            self.at = self.at.wrapping_sub(1);
+            let new = self.choice_of(known, &block.code, at);
+            if let Some(choice) = choices.get_mut(at) {
+                *choice = new;
+            }
+            if let Some(instr) = block.code.get(at) {
+                self.pass(instr);
+            }
+        }
+        self.first = self.first.wrapping_add(places as u64).wrapping_add(1);
+        Ok(choices)
+    }
+}

@@ -1,0 +1,352 @@
+// A program without its copies.
+ghost use Rattle.std.specs.Prelude.{◌≡◌, ◌<◌, true, [], ◌∷◌, Some, length, map, IfOk, IfSome};
+ghost use Rattle.std.specs.List.{AllZip};
+ghost use Rattle.low_ir.specs.Code.{Do, Register, Set};
+ghost use Rattle.low_ir.specs.Formed.{written_by};
+ghost use Rattle.low_ir.specs.Programs.{low_of};
+ghost use Rattle.low_ir.specs.View.{block_of, function_of, instr_of};
+ghost use Rattle.low_copied.specs.Copies.{Code, FunctionCopied, IsCopied, MayBeCopied};
+ghost use Rattle.low_copies.specs.Making.{AreBlocks, Continues, Goes, IsBlock, IsPut};
+
+use super::choices::{Behind, Choice};
+use super::copy::copy_at;
+use super::known::Known;
+use super::lasting::lasting_in;
+use super::renaming::{renamed, renamed_end, writes, written};
+use low_ir::{Block, Function, Instr, Loop, Low};
+use std::alloc::Global;
+use wcc_base::Memory;
+
+/// An instruction that reads where values stand and writes to this register, behind others; or it can't be made.
+fn put(
+    alloc: Global,
+    known: &Known,
+    into: u32,
+    instr: &Instr,
+    made: &mut Vec<Instr>,
+) -> Result<bool, Memory>
+    ensures { IfOk result (λ b. b ≡ true → IsPut known.now into (instr_of instr.now) (map instr_of made.old.items) (map instr_of made.new.items)) }
+{
+    match renamed(alloc, known, into, instr)? {
+        None => Ok(false),
+        Some(new) => {
+            made.push(new)?;
+            Ok(true)
+        }
+    }
+}
+
+/// An instruction that writes this register.
+fn put_writing(
+    alloc: Global,
+    known: &mut Known,
+    register: u32,
+    instr: &Instr,
+    made: &mut Vec<Instr>,
+) -> Result<bool, Memory>
+    requires { written_by (instr_of instr.now) ≡ Some register }
+    ensures { IfOk result (λ b. b ≡ true → (rest : Code) → Goes (instr_of instr.now ∷ rest) known.old (map instr_of made.old.items) rest known.new (map instr_of made.new.items)) }
+{
+    if put(alloc, known, register, instr, made)? {
+        Ok(known.deliver(register, register))
+    } else {
+        Ok(false)
+    }
+}
+
+/// An instruction, which stays.
+fn put_one(
+    alloc: Global,
+    known: &mut Known,
+    instr: &Instr,
+    made: &mut Vec<Instr>,
+) -> Result<bool, Memory>
+    ensures { IfOk result (λ b. b ≡ true → (rest : Code) → Goes (instr_of instr.now ∷ rest) known.old (map instr_of made.old.items) rest known.new (map instr_of made.new.items)) }
+{
+    match written(instr) {
+        None => put(alloc, known, 0, instr, made),
+        Some(register) => put_writing(alloc, known, register, instr, made),
+    }
+}
+
+/// An instruction that delivers its value to where the next one would copy it.
+fn put_delivered(
+    alloc: Global,
+    known: &mut Known,
+    instr: &Instr,
+    into: u32,
+    source: u32,
+    made: &mut Vec<Instr>,
+) -> Result<bool, Memory>
+    ensures { IfOk result (λ b. b ≡ true → (rest : Code) → Goes (instr_of instr.now ∷ Do (Set into (Register source)) ∷ rest) known.old (map instr_of made.old.items) rest known.new (map instr_of made.new.items)) }
+{
+    if writes(instr, source) && into != source && !known.is_lasting(source) {
+        if put(alloc, known, into, instr, made)? {
+            return Ok(known.deliver(source, into));
+        }
+    }
+    Ok(false)
+}
+
+/// A copy is left out.
+fn leave_out(known: &mut Known, into: u32, source: u32) -> bool
+    ensures { result ≡ true → (rest : Code) → (made : Code) → Goes (Do (Set into (Register source)) ∷ rest) known.old made rest known.new made }
+{
+    if known.is_lasting(into) {
+        return false;
+    }
+    match known.find(source) {
+        None => false,
+        Some(place) => place == source && known.copy(into, place),
+    }
+}
+
+fn choice_at(choices: &[Choice], at: usize) -> Choice {
+    match choices.get(at) {
+        None => Choice::Stays,
+        Some(choice) => *choice,
+    }
+}
+
+fn is_delivered(choice: Choice) -> bool {
+    match choice {
+        Choice::Delivered => true,
+        _ => false,
+    }
+}
+
+fn is_left_out(choice: Choice) -> bool {
+    match choice {
+        Choice::LeftOut => true,
+        _ => false,
+    }
+}
+
+/// The instruction at a place, with the copy behind it.
+fn put_pair(
+    alloc: Global,
+    known: &mut Known,
+    code: &[Instr],
+    at: usize,
+    made: &mut Vec<Instr>,
+) -> Result<Option<usize>, Memory>
+    requires { at < length code.now }
+    ensures { IfOk result (λ o. IfSome o (Continues (map instr_of code.now) at known.old (map instr_of made.old.items) known.new (map instr_of made.new.items))) }
+{
+    let Some(copy) = copy_at(code, at + 1) else {
+        return Ok(None);
+    };
+    if put_delivered(alloc, known, &code[at], copy.into, copy.source, made)? {
+        Ok(Some(at + 2))
+    } else {
+        Ok(None)
+    }
+}
+
+fn put_single(
+    alloc: Global,
+    known: &mut Known,
+    code: &[Instr],
+    at: usize,
+    made: &mut Vec<Instr>,
+) -> Result<Option<usize>, Memory>
+    requires { at < length code.now }
+    ensures { IfOk result (λ o. IfSome o (Continues (map instr_of code.now) at known.old (map instr_of made.old.items) known.new (map instr_of made.new.items))) }
+{
+    if put_one(alloc, known, &code[at], made)? {
+        Ok(Some(at + 1))
+    } else {
+        Ok(None)
+    }
+}
+
+fn leave_copy(known: &mut Known, code: &[Instr], at: usize) -> Option<usize>
+    requires { at < length code.now }
+    ensures { IfSome result (λ next. (made : Code) → Continues (map instr_of code.now) at known.old made known.new made next) }
+{
+    match copy_at(code, at) {
+        None => None,
+        Some(copy) => {
+            if leave_out(known, copy.into, copy.source) {
+                Some(at + 1)
+            } else {
+                None
+            }
+        }
+    }
+}
+
+/// The next instruction of a block, as was chosen; or it can't be done. Answers where the code goes on.
+fn put_next(
+    alloc: Global,
+    known: &mut Known,
+    code: &[Instr],
+    choices: &[Choice],
+    at: usize,
+    made: &mut Vec<Instr>,
+) -> Result<Option<usize>, Memory>
+    requires { at < length code.now }
+    ensures { IfOk result (λ o. IfSome o (Continues (map instr_of code.now) at known.old (map instr_of made.old.items) known.new (map instr_of made.new.items))) }
+{
+    if is_delivered(choice_at(choices, at + 1)) {
+        put_pair(alloc, known, code, at, made)
+    } else if is_left_out(choice_at(choices, at)) {
+        Ok(leave_copy(known, code, at))
+    } else {
+        put_single(alloc, known, code, at, made)
+    }
+}
+
+/// The code of a block without its copies, if it can be made.
+fn code_of(
+    alloc: Global,
+    known: &mut Known,
+    code: &[Instr],
+    choices: &[Choice],
+) -> Result<Option<Vec<Instr>>, Memory>
+    ensures { IfOk result (λ o. IfSome o (λ made. Goes (map instr_of code.now) known.old [] [] known.new (map instr_of made.items))) }
+{
+    let mut made = Vec::new(alloc);
+    let mut at = 0;
+    while at < code.len() {
+        match put_next(alloc, known, code, choices, at, &mut made)? {
+            None => return Ok(None),
+            Some(next) => at = next,
+        }
+    }
+    Ok(Some(made))
+}
+
+/// A block without its copies, if it can be made.
+fn block_of(
+    alloc: Global,
+    known: &mut Known,
+    behind: &mut Behind,
+    block: &Block,
+) -> Result<Option<Block>, Memory>
+    ensures { IfOk result (λ o. IfSome o (λ b. IsBlock known.old known.new (block_of block.now) (block_of b))) }
+{
+    let choices = behind.choices(alloc, known, block)?;
+    known.open();
+    let Some(code) = code_of(alloc, known, &block.code, &choices)? else {
+        return Ok(None);
+    };
+    let Some(end) = renamed_end(known, block.end) else {
+        return Ok(None);
+    };
+    Ok(Some(Block {
+        mark: block.mark,
+        code,
+        end,
+    }))
+}
+
+/// Blocks without their copies, if they can be made.
+fn blocks_of(
+    alloc: Global,
+    known: &mut Known,
+    registers: u32,
+    blocks: &[Block],
+) -> Result<Option<Vec<Block>>, Memory>
+    ensures { IfOk result (λ o. IfSome o (λ made. AreBlocks registers known.old (map block_of blocks.now) (map block_of made.items))) }
+{
+    let mut behind = Behind::new(alloc, registers)?;
+    let mut made = Vec::new(alloc);
+    for block in blocks {
+        let Some(new) = block_of(alloc, known, &mut behind, block)? else {
+            return Ok(None);
+        };
+        made.push(new)?;
+    }
+    Ok(Some(made))
+}
+
+fn registers_of(alloc: Global, registers: &[u32]) -> Result<Vec<u32>, Memory>
+    ensures { IfOk result (λ same. same.items ≡ registers.now) }
+{
+    let mut same = Vec::new(alloc);
+    for register in registers {
+        same.push(*register)?;
+    }
+    Ok(same)
+}
+
+fn loops_of(alloc: Global, loops: &[Loop]) -> Result<Vec<Loop>, Memory>
+    ensures { IfOk result (λ same. same.items ≡ loops.now) }
+{
+    let mut same = Vec::new(alloc);
+    for each in loops {
+        same.push(*each)?;
+    }
+    Ok(same)
+}
+
+/// A function without its copies, if it can be made.
+fn function_of(alloc: Global, function: &Function) -> Result<Option<Function>, Memory>
+    ensures { IfOk result (λ o. IfSome o (λ g. FunctionCopied (function_of function.now) (function_of g))) }
+{
+    let registers = function.registers;
+    let mut known = Known::new(alloc, lasting_in(alloc, function)?, registers)?;
+    let Some(blocks) = blocks_of(alloc, &mut known, registers, &function.blocks)? else {
+        return Ok(None);
+    };
+    Ok(Some(Function {
+        parameters: registers_of(alloc, &function.parameters)?,
+        registers,
+        loops: loops_of(alloc, &function.loops)?,
+        blocks,
+    }))
+}
+
+pub fn functions_without_copies(
+    alloc: Global,
+    functions: &[Function],
+) -> Result<Option<Vec<Function>>, Memory>
+    ensures { IfOk result (λ o. IfSome o (λ made. AllZip FunctionCopied (map function_of functions.now) (map function_of made.items))) }
+{
+    let mut made = Vec::new(alloc);
+    for function in functions {
+        let Some(new) = function_of(alloc, function)? else {
+            return Ok(None);
+        };
+        made.push(new)?;
+    }
+    Ok(Some(made))
+}
+
+/// A program with other functions.
+fn with_functions(low: Low, new: Vec<Function>) -> Low
+    requires { AllZip FunctionCopied (map function_of low.functions.items) (map function_of new.items) }
+    ensures { IsCopied (low_of low) (low_of result) }
+{
+    let Low {
+        functions,
+        claims,
+        objects,
+        main,
+        marks,
+    } = low;
+    drop(functions);
+    Low {
+        functions: new,
+        claims,
+        objects,
+        main,
+        marks,
+    }
+}
+
+/// A program without copies that it can do without; or as it is, where a choice could not be followed, which no program is
+/// known to need.
+pub fn without_copies(alloc: Global, low: Low) -> Result<Low, Memory>
+    ensures { IfOk result (λ l. MayBeCopied (low_of low) (low_of l)) }
+{
+    match functions_without_copies(alloc, &low.functions) {
+        Ok(None) => Ok(low),
+        Ok(Some(functions)) => Ok(with_functions(low, functions)),
+        Err(memory) => {
+            drop(low);
+            Err(memory)
+        }
+    }
+}
