@@ -1,56 +1,62 @@
--- Choices of one item, of two lists, and of items in bytes.
-use Rattle.std.proofs.Common.{◌≡◌, ℕ, ◌+◌, ◌-◌, ◌*◌, ◌/◌, ◌<◌, ◌≤◌, inl, inr, pos, ◌≤ℤ◌, ◌<ℤ◌, List, [], ◌∷◌, ◌++◌, map, length, get_or, All, refl, sym, ap, subst, ◌∙◌, append-nil, append_assoc, arith}
+-- Choices of all useful items, of parts of a list, and of items in bytes.
+use Rattle.std.proofs.Common.{◌≡◌, ℕ, ◌+◌, ◌-◌, ◌*◌, ◌/◌, ◌≤◌, inl, inr, pos, ◌≤ℤ◌, List, [], ◌∷◌, ◌++◌, map, length, take, drop, All, refl, sym, ap, subst, ◌∙◌, append-nil, append_assoc, arith}
 use Rattle.std.proofs.lemmas.Int.{ints}
-use Rattle.std.proofs.lemmas.List.{map-append}
-use Rattle.std.proofs.lemmas.List.Elements.{All-append, All-cons, All-head, All-nil, All-tail}
+use Rattle.std.proofs.lemmas.List.{drop_all, drop-drop, length-drop, length-take-le, map-append, take-append-drop, take_all}
+use Rattle.std.proofs.lemmas.List.Elements.{All-append, All-head, All-nil, All-tail}
+use Rattle.std.proofs.Math.Seq.{take-add}
 use Rattle.spm_placement.specs.declared.item.Item.{Item}
+use Rattle.spm_placement.specs.declared.rows.Cell.{Cell}
 use Rattle.spm_placement.specs.Sets.{AreBest, Gains, HasWholeWords, IsBest, IsPartOf, bytes, gain, number}
-use Rattle.spm_placement.specs.Tops.{HasChosen, IsBestShare, IsTop, all_words, all_worth, top, words, worth}
-use Rattle.spm_placement.proofs.Tops.{beside_below, beside_most, whole_is, whole_most, whole_none, worth_most}
-use Rattle.spm_placement.proofs.Shares.{shared}
+use Rattle.spm_placement.specs.Tops.{HasChosen, HasChosenBefore, IsTop, all_words, all_worth, top, useful}
+use Rattle.spm_placement.specs.Rows.{IsCell}
+use Rattle.spm_placement.proofs.Tops.{top_all, whole_is, whole_most, worth_most}
+use Rattle.spm_placement.proofs.Useful.{part_all, part_of_useful, useful_gains, useful_part, useful_top}
 
--- nothing is chosen
+-- all that are useful
+pub all_chosen : (c : ℕ) (xs kept : List Item) (ids behind : List ℕ) → kept ≡ useful c xs → all_words kept ≤ c → behind ≡ ids ++ map number kept → HasChosen xs c ids behind
+all_chosen c xs kept ids behind e fits added =
+    let takes = ap all_words e in
+    let less = useful_top c xs c (omega arith) in
+    let most = top_all (useful c xs) c in
+    record {
+      chosen = useful c xs;
+      added = added ∙ ap (λ ys. ids ++ map number ys) e;
+      tops = record { part = useful_part c xs; fits = omega (arith, takes, fits); most = omega (arith, less, most); useful = useful_gains c xs };
+    }
 
-none_of : (xs : List Item) (c : ℕ) (ids : List ℕ) → IsPartOf [] xs → top xs c ≡ 0 → HasChosen xs c ids ids
-none_of xs c ids part none = record {
+-- those that were chosen before none are all
+module _ (c k : ℕ) (xs kept : List Item) (ids behind : List ℕ) (e : kept ≡ useful c xs) (n d : ℕ) (all : length kept ≤ n) (is : d ≡ c) where
+  pub useful_chosen : HasChosenBefore (take n kept) (drop n kept) d k ids behind → HasChosen xs c ids behind
+  useful_chosen h =
+      let own : take n kept ≡ useful c xs = take_all n kept all ∙ e in
+      let whole = ap (λ ys. top ys d) (take-append-drop n kept ∙ e) in
+      let wide = ap (top (useful c xs)) is in
+      let nothing = ap (λ ys. top ys k) (drop_all n kept all) in
+      let less = useful_top c xs c (omega arith) in
+      let most = h.most in
+      let fits = h.fits in
+      record {
+        chosen = h.chosen;
+        added = h.added;
+        tops = record {
+          part = part_of_useful c h.chosen xs (subst (IsPartOf h.chosen) own h.part);
+          fits = omega (arith, fits, is);
+          most = omega (arith, less, whole, wide, most, nothing);
+          useful = h.useful;
+        };
+      }
+
+-- part by part
+
+pub none_before : (xs : List Item) (upto c : ℕ) (ids : List ℕ) → upto ≡ 0 → HasChosenBefore (take upto xs) (drop upto xs) c c ids ids
+none_before xs upto c ids e = subst (λ n. HasChosenBefore (take n xs) (drop n xs) c c ids ids) (sym e) (record {
   chosen = [];
   added = sym (append-nil ids);
-  tops = record { part = part; fits = omega arith; most = omega (arith, none); useful = All-nil Gains };
-}
-
-pub none_chosen : (xs : List Item) (c : ℕ) (ids : List ℕ) → length xs ≡ 0 → HasChosen xs c ids ids
-none_chosen [] c ids h = none_of [] c ids refl refl
-none_chosen (x ∷ xs) c ids h = absurd (omega (arith, h))
-
-module _ (x : Item) (c : ℕ) (ids : List ℕ) where
-  pub useless : x.gain ≤ℤ pos 0 → HasChosen (x ∷ []) c ids ids
-  useless h =
-      let none = whole_none x.gain h in
-      let most : top (x ∷ []) c ≤ 0 = beside_most (words x) (worth x) (top []) c 0 (omega arith) (λ _. omega (arith, none)) in
-      none_of (x ∷ []) c ids (inl refl) (omega (arith, most))
-
-  pub too_large : c < words x → HasChosen (x ∷ []) c ids ids
-  too_large h = none_of (x ∷ []) c ids (inl refl) (beside_below (words x) (worth x) (top []) c h)
-
-  pub one_chosen : (behind : List ℕ) → pos 0 <ℤ x.gain → words x ≤ c → behind ≡ ids ++ x.id ∷ [] → HasChosen (x ∷ []) c ids behind
-  one_chosen behind useful fits e = record {
-    chosen = x ∷ [];
-    added = e;
-    tops = record {
-      part = inr ([], refl, refl);
-      fits = omega (arith, fits);
-      most = beside_most (words x) (worth x) (top []) c (all_worth (x ∷ [])) (omega arith) (λ _. omega arith);
-      useful = All-cons Gains x [] useful (All-nil Gains);
-    };
-  }
-
--- a list of one item
-pub alone : (xs : List Item) (x : Item) (c : ℕ) (before behind : List ℕ) → length xs ≡ 1 → x ≡ get_or xs 0 x → HasChosen (x ∷ []) c before behind → HasChosen xs c before behind
-alone [] x c before behind one is h = absurd (omega (arith, one))
-alone (y ∷ []) x c before behind one is h = subst (λ z. HasChosen (z ∷ []) c before behind) is h
-alone (y ∷ z ∷ zs) x c before behind one is h = absurd (omega (arith, one))
-
--- two lists
+  part = refl;
+  fits = omega arith;
+  most = omega arith;
+  useful = All-nil Gains;
+})
 
 parts_join : (s t xs ys : List Item) → IsPartOf s xs → IsPartOf t ys → IsPartOf (s ++ t) (xs ++ ys)
 parts_join s t [] ys p q = subst (λ u. IsPartOf (u ++ t) ys) (sym p) q
@@ -65,45 +71,64 @@ worth_join : (s t : List Item) → all_worth (s ++ t) ≡ all_worth s + all_wort
 worth_join [] t = omega arith
 worth_join (x ∷ s) t = let h = worth_join s t in omega (arith, h)
 
-module _ (xs ys : List Item) (c k : ℕ) (best : IsBestShare xs ys c k) where
-  tops_join : (s t : List Item) → IsTop xs k s → IsTop ys (c - k) t → IsTop (xs ++ ys) c (s ++ t)
-  tops_join s t p q =
+module _ (xs part ys : List Item) (c share : ℕ) (cell : Cell) (divided : IsCell part ys share cell) (ids between behind : List ℕ) where
+  join : HasChosenBefore xs (part ++ ys) c share ids between → HasChosen part (share - cell.left) between behind → HasChosenBefore (xs ++ part) ys c cell.left ids behind
+  join p q =
+      let s = p.chosen in
+      let t = q.chosen in
       let takes = words_join s t in
       let is = worth_join s t in
-      let within = best.within in
       let first = p.fits in
-      let second = q.fits in
+      let second = q.tops.fits in
+      let within = divided.within in
       let one = p.most in
-      let other = q.most in
-      let whole = shared xs ys c k best in
+      let other = q.tops.most in
+      let both = divided.divided in
+      let whole = ap (λ zs. top zs c) (append_assoc xs part ys) in
       record {
-        part = parts_join s t xs ys p.part q.part;
-        fits = omega (arith, takes, within, first, second);
-        most = omega (arith, is, one, other, whole);
-        useful = All-append Gains s t p.useful q.useful;
+        chosen = s ++ t;
+        added =
+            q.added
+            ∙ (ap (λ zs. zs ++ map number t) p.added
+            ∙ (append_assoc ids (map number s) (map number t)
+            ∙ ap (λ zs. ids ++ zs) (sym (map-append number s t))));
+        part = parts_join s t xs part p.part q.tops.part;
+        fits = omega (arith, takes, first, second, within);
+        most = omega (arith, is, one, other, both, whole);
+        useful = All-append Gains s t p.useful q.tops.useful;
       }
 
-  chosen_join : (ids between behind : List ℕ) → HasChosen xs k ids between → HasChosen ys (c - k) between behind → HasChosen (xs ++ ys) c ids behind
-  chosen_join ids between behind p q = record {
-    chosen = p.chosen ++ q.chosen;
-    added =
-        q.added
-        ∙ (ap (λ zs. zs ++ map number q.chosen) p.added
-        ∙ (append_assoc ids (map number p.chosen) (map number q.chosen)
-        ∙ ap (λ zs. ids ++ zs) (sym (map-append number p.chosen q.chosen))));
-    tops = tops_join p.chosen q.chosen p.tops q.tops;
-  }
+-- the items that were cut off
 
--- two parts of a list
-pub halves_chosen : (items xs ys : List Item) (c k : ℕ) (ids between behind : List ℕ) → items ≡ xs ++ ys → IsBestShare xs ys c k → HasChosen xs k ids between → HasChosen ys (c - k) between behind → HasChosen items c ids behind
-halves_chosen items xs ys c k ids between behind e best p q = subst (λ zs. HasChosen zs c ids behind) (sym e) (chosen_join xs ys c k best ids between behind p q)
+pub part_cut : (items : List Item) (from upto : ℕ) → from ≤ upto → drop from items ≡ take (upto - from) (drop from items) ++ drop upto items
+part_cut items from upto le =
+    let n : from + (upto - from) ≡ upto = omega (arith, le) in
+    sym (take-append-drop (upto - from) (drop from items)) ∙ ap (λ ys. take (upto - from) (drop from items) ++ ys) (drop-drop (upto - from) from items ∙ ap (λ k. drop k items) n)
+
+pub part_long : (items : List Item) (from upto : ℕ) → from ≤ upto → upto ≤ length items → length (take (upto - from) (drop from items)) ≡ upto - from
+part_long items from upto le within =
+    let long = length-drop from items in
+    length-take-le (upto - from) (drop from items) (omega (arith, long, le, within))
+
+first_cut : (items : List Item) (from upto : ℕ) → from ≤ upto → take upto items ≡ take from items ++ take (upto - from) (drop from items)
+first_cut items from upto le =
+    let n : from + (upto - from) ≡ upto = omega (arith, le) in
+    sym (ap (λ k. take k items) n) ∙ take-add from (upto - from) items
+
+module _ (items : List Item) (from upto c d share : ℕ) (le : from ≤ upto) (same : d ≡ c) (cell : Cell) (ids between behind : List ℕ) where
+  pub part_chosen :
+      HasChosenBefore (take from items) (drop from items) d share ids between →
+      IsCell (take (upto - from) (drop from items)) (drop upto items) share cell →
+      HasChosen (take (upto - from) (drop from items)) (share - cell.left) between behind →
+      HasChosenBefore (take upto items) (drop upto items) c cell.left ids behind
+  part_chosen p divided q =
+      subst (λ zs. HasChosenBefore zs (drop upto items) c cell.left ids behind) (sym (first_cut items from upto le))
+      (join (take from items) (take (upto - from) (drop from items)) (drop upto items) c share cell divided ids between behind
+      (subst (λ zs. HasChosenBefore (take from items) zs c share ids between) (part_cut items from upto le)
+      (subst (λ m. HasChosenBefore (take from items) (drop from items) m share ids between) same p))
+      q)
 
 -- in bytes
-
-part_all : (P : Item → Type 0) (s xs : List Item) → IsPartOf s xs → All P xs → All P s
-part_all P s [] p h = subst (All P) (sym p) (All-nil P)
-part_all P s (x ∷ xs) (inl p) h = part_all P s xs p (All-tail P x xs h)
-part_all P s (x ∷ xs) (inr p) h = subst (All P) (sym p.1) (All-cons P x p.0 (All-head P x xs h) (part_all P p.0 xs p.2 (All-tail P x xs h)))
 
 bytes_are : (s : List Item) → All HasWholeWords s → bytes s ≡ 4 * all_words s
 bytes_are [] h = omega arith

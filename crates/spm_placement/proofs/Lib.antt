@@ -1,7 +1,6 @@
 pub mod Tops
-pub mod Shares
+pub mod Useful
 pub mod Chosen
-pub mod Halves
 pub mod RowLemmas
 pub mod Marks
 pub mod Taking

@@ -1,5 +1,5 @@
 -- The most that items are worth: no part that fits is worth more, and it is small where gains are.
-use Rattle.std.proofs.Common.{◌≡◌, ℕ, ◌+◌, ◌-◌, ◌*◌, ◌^◌, ◌<◌, ◌≤◌, max, inl, inr, nat_lt, if◌then◌else◌, ℤ, pos, negsuc, unsigned_abs, ◌≤ℤ◌, ◌<ℤ◌, List, [], ◌∷◌, length, All, refl, sym, ap, ◌∙◌, arith}
+use Rattle.std.proofs.Common.{◌≡◌, ℕ, ◌+◌, ◌-◌, ◌*◌, ◌^◌, ◌<◌, ◌≤◌, max, inl, inr, if◌then◌else◌, ℤ, pos, negsuc, unsigned_abs, ◌≤ℤ◌, ◌<ℤ◌, List, [], ◌∷◌, length, All, refl, sym, ap, arith}
 use Rattle.std.proofs.lemmas.Bool.{cases_lt, le-ltb, lt-ltb}
 use Rattle.std.proofs.lemmas.Int.{ints}
 use Rattle.std.proofs.lemmas.List.Elements.{All-head, All-tail}
@@ -32,11 +32,6 @@ module _ (w g : ℕ) (f : ℕ → ℕ) (c : ℕ) where
     | inl h ↦ let e = beside_below h in omega (arith, e, less)
     | inr h ↦ let e = beside_within h in let m = more h in omega (arith, e, less, m)
   ]
-
-pub beside_same : (w g : ℕ) (f h : ℕ → ℕ) (c : ℕ) → f c ≡ h c → f (c - w) ≡ h (c - w) → beside w g f c ≡ beside w g h c
-beside_same w g f h c here back =
-    ap (λ n. if nat_lt c w then n else max n (f (c - w) + g)) here
-    ∙ ap (λ n. if nat_lt c w then h c else max (h c) (n + g)) back
 
 -- no part that fits is worth more
 pub worth_most : (xs s : List Item) (c : ℕ) → IsPartOf s xs → all_words s ≤ c → all_worth s ≤ top xs c
@@ -88,3 +83,21 @@ top_small (x ∷ xs) c h =
     let here = top_small xs c rest in
     let back = top_small xs (c - words x) rest in
     beside_most (words x) (worth x) (top xs) c (length (x ∷ xs) * 2 ^ 110) (omega (arith, here)) (λ _. omega (arith, one, back))
+
+-- more capacity is worth no less, and all items are worth the most
+pub top_grows : (xs : List Item) (a b : ℕ) → a ≤ b → top xs a ≤ top xs b
+top_grows [] a b le = omega arith
+top_grows (x ∷ xs) a b le =
+    let here = top_grows xs a b le in
+    let back = top_grows xs (a - words x) (b - words x) (omega (arith, le)) in
+    let without : top xs b ≤ top (x ∷ xs) b = beside_without (words x) (worth x) (top xs) b in
+    beside_most (words x) (worth x) (top xs) a (top (x ∷ xs) b) (omega (arith, here, without)) (λ w.
+    let more : top xs (b - words x) + worth x ≤ top (x ∷ xs) b = beside_with (words x) (worth x) (top xs) b (omega (arith, w, le)) in
+    omega (arith, back, more))
+
+pub top_all : (xs : List Item) (c : ℕ) → top xs c ≤ all_worth xs
+top_all [] c = omega arith
+top_all (x ∷ xs) c =
+    let here = top_all xs c in
+    let back = top_all xs (c - words x) in
+    beside_most (words x) (worth x) (top xs) c (all_worth (x ∷ xs)) (omega (arith, here)) (λ w. omega (arith, back))

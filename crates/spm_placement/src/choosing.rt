@@ -1,64 +1,61 @@
 // The best set of items that fits.
-ghost use Rattle.std.specs.Prelude.{◌≡◌, ◌+◌, ◌<◌, ◌≤◌, ◌++◌, ◌∷◌, [], length, All, IfOk, OnOk};
+ghost use Rattle.std.specs.Prelude.{◌≡◌, ◌+◌, ◌-◌, ◌<◌, ◌≤◌, drop, length, take, All, IfOk, OnOk};
 ghost use Rattle.spm_placement.specs.Sets.{AreBest, HasSmallGain, HasWholeWords};
-ghost use Rattle.spm_placement.specs.Tops.{HasChosen};
+ghost use Rattle.spm_placement.specs.Tops.{HasChosen, HasChosenBefore};
+ghost use Rattle.spm_placement.specs.Rows.{HasTops};
 
-use super::item::{Item, words_of};
-use super::sharing::best_share;
+use super::fitting::{all_fit, take_all, useful};
+use super::item::Item;
+use super::rows::{Cell, no_row, row_before};
 use std::alloc::Global;
 use wcc_base::Memory;
 
-/// Two parts of a list of items.
-#[derive(Clone, Copy)]
-struct Parts<'a> {
-    first: &'a [Item],
-    others: &'a [Item],
+/// How many parts a list is cut into, at most: each has a row until the parts before it have been chosen from.
+const PARTS: usize = 32;
+
+/// Where the last part of so many of the items begins.
+fn start_of(count: usize, upto: usize) -> usize
+    requires count { 1 < count }
+    requires most { count ≤ 131072 }
+    requires some { 0 < upto }
+    requires upto { upto ≤ count }
+    ensures before { result < upto }
+    ensures part { upto - result < count }
+{
+    upto.saturating_sub((count + PARTS - 1) / PARTS)
 }
 
-fn halves(items: &[Item]) -> Parts<'_>
+/// Chooses among so many of the items, by the row of those behind them, and answers how many words are left for these.
+#[cycle(parts)]
+fn choose_before(
+    alloc: Global,
+    items: &[Item],
+    upto: usize,
+    behind: &[Cell],
+    chosen: &mut Vec<u32>,
+) -> Result<usize, Memory>
     requires some { 1 < length items.now }
+    requires count { length items.now ≤ 131072 }
+    requires upto { upto ≤ length items.now }
     requires gains { All HasSmallGain items.now }
-    ensures whole { items.now ≡ result.first.now ++ result.others.now }
-    ensures count { length result.first.now + length result.others.now ≡ length items.now }
-    ensures first { length result.first.now < length items.now }
-    ensures others { length result.others.now < length items.now }
-    ensures gains { All HasSmallGain result.first.now }
-    ensures others_gains { All HasSmallGain result.others.now }
+    requires words { 0 < length behind.now }
+    requires most { length behind.now ≤ 16385 }
+    requires tops { HasTops (drop upto items.now) behind.now }
+    ensures { IfOk result (λ left. HasChosenBefore (take upto items.now) (drop upto items.now) (length behind.now - 1) left chosen.old.items chosen.new.items) }
 {
-    let (first, others) = items.split_at(items.len() / 2);
-    Parts { first, others }
+    if upto == 0 {
+        return Ok(behind.len() - 1);
+    }
+    let from = start_of(items.len(), upto);
+    let row = row_before(alloc, behind, items, from, upto)?;
+    let share = choose_before(alloc, items, from, &row, chosen)?;
+    let left = row[share].left;
+    choose_among(alloc, &items[from..upto], share - left, chosen)?;
+    Ok(left)
 }
 
-/// Of one item.
-#[tactic(auto, using(crate::proofs::Chosen::useless, crate::proofs::Chosen::too_large, crate::proofs::Chosen::one_chosen))]
-fn choose_one(item: &Item, words: usize, chosen: &mut Vec<u32>) -> Result<(), Memory>
-    ensures { OnOk result (HasChosen (item.now ∷ []) words chosen.old.items chosen.new.items) }
-{
-    if item.gain <= 0 {
-        return Ok(());
-    }
-    if words < words_of(item) {
-        return Ok(());
-    }
-    chosen.push(item.id)?;
-    Ok(())
-}
-
-/// Of at most one item.
-#[tactic(auto, using(crate::proofs::Chosen::none_chosen, crate::proofs::Chosen::alone))]
-fn choose_alone(items: &[Item], words: usize, chosen: &mut Vec<u32>) -> Result<(), Memory>
-    requires { length items.now < 2 }
-    ensures { OnOk result (HasChosen items.now words chosen.old.items chosen.new.items) }
-{
-    if items.is_empty() {
-        return Ok(());
-    }
-    choose_one(&items[0], words, chosen)?;
-    Ok(())
-}
-
-/// Behind those that are chosen: each half of the items gets its share of the words.
-#[tactic(auto, using(crate::proofs::Chosen::halves_chosen))]
+/// Behind those that are chosen: all that are useful, if they fit; or else part by part.
+#[cycle(parts)]
 fn choose_among(
     alloc: Global,
     items: &[Item],
@@ -70,14 +67,13 @@ fn choose_among(
     requires gains { All HasSmallGain items.now }
     ensures { OnOk result (HasChosen items.now words chosen.old.items chosen.new.items) }
 {
-    if items.len() < 2 {
-        choose_alone(items, words, chosen)?;
+    let useful = useful(alloc, items, words)?;
+    if all_fit(&useful, words) {
+        take_all(&useful, chosen)?;
         return Ok(());
     }
-    let parts = halves(items);
-    let share = best_share(alloc, parts.first, parts.others, words)?;
-    choose_among(alloc, parts.first, share, chosen)?;
-    choose_among(alloc, parts.others, words - share, chosen)?;
+    let row = no_row(alloc, words)?;
+    choose_before(alloc, &useful, useful.len(), &row, chosen)?;
     Ok(())
 }
 
