@@ -1,4 +1,5 @@
 """Changes of bytes: of any file, of texts by their words and lines, and of images by their fields."""
+import functools
 import re
 import struct
 
@@ -6,6 +7,7 @@ import struct
 ENDS = sorted({base + step for base in (0, 1, 2, 100, 1000, 1 << 7, 1 << 8, 1 << 15, 1 << 16, 1 << 31, 1 << 32, 1 << 48, 1 << 62, 1 << 63, 1 << 64,
                                         1 << 120, 1 << 126, 1 << 127, 1 << 128, 10**12, 10**40) for step in (-1, 0, 1)})
 WORD = re.compile(rb"[A-Za-z_0-9]+|[^\sA-Za-z_0-9]")
+ADDRESS = re.compile(rb"\b[0-9a-f]{8}\b")
 NUMBER = re.compile(rb"(?<![A-Za-z_])\d+")
 # The place and the size of each field of the header of a file, and of a program header.
 HEADER = ((16, 2), (18, 2), (20, 4), (24, 4), (28, 4), (32, 4), (36, 4), (40, 2), (42, 2), (44, 2), (46, 2), (48, 2), (50, 2))
@@ -64,12 +66,17 @@ def repeated(draw, data):
     return data[:end] + data[begin:end] * draw.choice((2, 10, 1000)) + data[end:]
 
 
-BYTES = (cut, beheaded, bit_changed, byte_changed, bytes_put_in, doubled, taken_out, exchanged, repeated)
+def twice(draw, data):
+    return data + data
+
+
+BYTES = (cut, beheaded, bit_changed, byte_changed, bytes_put_in, doubled, taken_out, exchanged, repeated, twice)
 
 
 # Of texts.
 
 
+@functools.lru_cache(64)
 def spans(pattern, data):
     return [it.span() for it in pattern.finditer(data)]
 
@@ -138,7 +145,19 @@ def lines_exchanged(draw, data):
     return b"".join(rows)
 
 
+def address_changed(draw, data):
+    """To one near it, to an end of a region, or to another one of the text."""
+    found = spans(ADDRESS, data)
+    if not found:
+        return data
+    begin, end = draw.choice(found)
+    old = int(data[begin:end], 16)
+    new = draw.choice((old - 4, old + 4, old + 1, 0, 0x0FFFFFFC, 0x10000000, 0x80000000, 0xFFFFFFFC, 0xFFFFFFFF, int(data[slice(*draw.choice(found))], 16)))
+    return data[:begin] + b"%08x" % (new & 0xFFFFFFFF) + data[end:]
+
+
 WORDS = (number_changed, number_changed, word_taken_out, word_doubled, words_exchanged, word_replaced, line_taken_out, line_doubled, lines_exchanged)
+REPORTS = (*WORDS, address_changed, address_changed)
 
 
 # Of images.
@@ -150,6 +169,13 @@ def fields(data):
     first, count = struct.unpack_from("<I", data, 28)[0], struct.unpack_from("<H", data, 44)[0]
     segments = [first + 32 * it for it in range(count)]
     return [*HEADER, *((at + place, size) for at in segments for place, size in SEGMENT if at + 32 <= len(data))]
+
+
+def memory_of(data):
+    """How many bytes an image wants of the machine's memory, by its program headers."""
+    first, count = struct.unpack_from("<I", data, 28)[0], struct.unpack_from("<H", data, 44)[0]
+    places = (first + 32 * it for it in range(count))
+    return sum(struct.unpack_from("<I", data, at + 20)[0] for at in places if at + 32 <= len(data))
 
 
 def field_changed(draw, data):
@@ -183,8 +209,19 @@ def code_changed(draw, data):
 FIELDS = (field_changed, field_changed, field_changed, fields_exchanged, code_changed, code_changed)
 
 
-def harmed(draw, data, ways):
-    """One to three changes, one of them likely, by any of these ways or those of any bytes."""
+def harmed(draw, data, ways, others):
+    """One to three changes, one of them likely, by any of these ways or those of any bytes; and seldom another file altogether."""
+    if draw.random() < 0.01:
+        return draw.choice(others)
     for _ in range(draw.choice((1, 1, 1, 2, 3))):
         data = draw.choice((*ways, *ways, *BYTES))(draw, data)
     return data
+
+
+# Of numbers among words.
+
+
+def number_of_word(draw, text):
+    """A number as it may be written, at an end of a range, or no number at all."""
+    number = draw.choice((*ENDS, *(it + step for it in (64, 100, 10000, 65536, 1 << 62) for step in (-1, 0, 1)), draw.randrange(120)))
+    return draw.choice(("{}", "{}", "{}", "+{}", "00{}", "-{}", "0x{}", "{} ", " {}", "{}.0", "{}e1", "", "+", "++{}", "{}_0", "1{}")).format(number)

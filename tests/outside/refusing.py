@@ -1,6 +1,7 @@
 """Calls of a built wcc in which one call of the system is refused, and what must hold of them."""
 import os
 import subprocess
+import sys
 import tempfile
 from collections import namedtuple
 from concurrent.futures import ThreadPoolExecutor
@@ -9,34 +10,44 @@ from pathlib import Path
 from subprocess import DEVNULL, PIPE
 
 HERE = Path(__file__).resolve().parent
+sys.path.insert(0, str(HERE.parent))
+from evaluation import behind  # noqa: E402
+
 EXAMPLES = HERE.parent.parent / "examples"
 SECONDS = 60
 WORST = 10  # how many calls of a command are told that did not end as they must
 TOGETHER = 32  # calls
 TASKS = b"task first 4000 first.elf first.txt\ntask crc16 900000 crc16.elf crc16.txt\n"
 OLDER = b"an older content\n" * 400
-READ = ("first.c", "crc16.c", "pid.c", "thermistor.c", "fft.c", "frame.c", "costs.toml")
-PASSES = "--inline 10000 --unroll 64"
+READ = ("first.c", "crc16.c", "pid.c", "thermistor.c", "fft.c", "fir.c", "frame.c", "gate.c", "costs.toml")
+QUICK = "/dev/shm"  # a folder in memory, where there is one
+BYSTANDER = "fft.c"
 # The words of each command, and the files that it writes in the order in which it does: those with small files first.
 COMMANDS = (
     ("compile first.c b.elf b.txt", ("b.elf", "b.txt")),
     ("eval crc16.c a.in b.out", ("b.out",)),
     ("run first.elf a.in b.out --table costs.toml --limit 1000", ("b.out",)),
     ("check crc16.elf crc16.txt --table costs.toml", ()),
-    ("respond tasks", ()),
+    ("respond tasks --table costs.toml", ()),
     ("make 1 b.c b.elf b.txt", ("b.c", "b.elf", "b.txt")),
     ("compile thermistor.c b.elf b.txt --derive", ("b.elf", "b.txt")),
     ("compile fft.c b.elf b.txt --table costs.toml", ("b.elf", "b.txt")),
-    (f"compile fft.c b.elf b.txt {PASSES}", ("b.elf", "b.txt")),
+    ("compile fir.c b.elf b.txt", ("b.elf", "b.txt")),
     ("compile frame.c b.elf b.txt", ("b.elf", "b.txt")),
+    ("compile gate.c b.elf b.txt --spm 4096 --inline 200 --unroll 4 --derive --table costs.toml", ("b.elf", "b.txt")),
     ("compile broken.c b.elf b.txt", ()),
+    ("eval thermistor.c a.in b.out --derive", ("b.out",)),
     ("run crc16.elf a.in b.out", ("b.out",)),
     ("check pid.elf pid.txt", ()),
     ("check large.elf large.txt", ()),
     ("report pid.txt", ()),
+    ("report large.txt", ()),
+    ("respond tasks", ()),
     ("compile first.c", ()),
     ("help", ()),
 )
+# The images and reports that are compiled before, the last of them a report of more than 100,000 bytes.
+COMPILED = {"first": "first.c", "crc16": "crc16.c", "pid": "pid.c", "large": "pid.c --inline 10000 --unroll 64"}
 # The statuses with which a call may end where a call of the system is refused, and the line.
 ENDS = {
     "memory": {6: b"memory\n"},
@@ -57,13 +68,6 @@ def shim():
         yield made
 
 
-def built(path):
-    """The program behind the launcher, which builds it first where that is needed."""
-    path = Path(path).resolve()
-    subprocess.run([path], stdin=DEVNULL, stdout=DEVNULL, stderr=DEVNULL)
-    return str(path.parent / "crates/wcc/out/wcc")
-
-
 class Room:
     """The files that the commands read, and those that they write, which have an older content."""
 
@@ -72,21 +76,28 @@ class Room:
         self.files = {it: (EXAMPLES / it).read_bytes() for it in READ}
         self.files |= {"a.in": bytes(range(1, 100)), "tasks": TASKS, "broken.c": b"int main(void) { return 1 2; }\n"}
         self.files |= {it: OLDER for it in ("b.c", "b.elf", "b.txt", "b.out")}
-        for name, words in (("first", "first.c"), ("crc16", "crc16.c"), ("pid", "pid.c"), ("large", f"fft.c {PASSES}")):
+        for name, words in COMPILED.items():
             source, *options = words.split()
             left = self.call(" ".join(("compile", source, "b.elf", "b.txt", *options))).files
             self.files |= {f"{name}.elf": left["b.elf"], f"{name}.txt": left["b.txt"]}
+        assert len(self.files["large.txt"]) > 100_000
+
+    def needed(self, words):
+        """The files that a call names, those that its list of tasks does, and one that has nothing to do with it."""
+        listed = TASKS.decode().split() if "tasks" in words else []
+        return {it: self.files[it] for it in (*words, *listed, BYSTANDER) if it in self.files}
 
     def call(self, words, refused=None, step=None):
         """One call in a fresh folder, in which the call of the system `refused`, as KIND:N, fails, and none moves more bytes than step."""
-        with tempfile.TemporaryDirectory(prefix="wcc-refused-") as folder:
-            for name, data in self.files.items():
+        words = words.split()
+        with tempfile.TemporaryDirectory(prefix="wcc-refused-", dir=QUICK if os.access(QUICK, os.W_OK) else None) as folder:
+            for name, data in self.needed(words).items():
                 Path(folder, name).write_bytes(data)
             told, tell = os.pipe()
             with open(told, "rb") as answer:
                 how = {"LD_PRELOAD": self.made, "PROGRAM": self.program, "REFUSE": refused, "TELL": str(tell)} if refused else {}
                 how |= {"STEP": str(step)} if refused and step else {}
-                ran = subprocess.run([self.program, *words.split()], cwd=folder, stdin=DEVNULL, stdout=PIPE, stderr=PIPE, timeout=SECONDS,
+                ran = subprocess.run([self.program, *words], cwd=folder, stdin=DEVNULL, stdout=PIPE, stderr=PIPE, timeout=SECONDS,
                                      env=how, pass_fds=[tell])
                 os.close(tell)
                 was_refused = answer.read() == b"!"
@@ -133,8 +144,8 @@ def refusals(room, pool, kind, step, words, written):
 def refuse_all(path, tries):
     """Refuses each call of these kinds in turn, with each step, and says how many were, and how many calls did not end as they must."""
     refused, failed = 0, 0
-    with shim() as made, ThreadPoolExecutor(os.cpu_count()) as pool:
-        room = Room(built(path), made)
+    with shim() as made, ThreadPoolExecutor(len(os.sched_getaffinity(0))) as pool:
+        room = Room(behind(path), made)
         for kind, step, most in tries:
             for words, written in COMMANDS[:most]:
                 plain, count, bad = refusals(room, pool, kind, step, words, written)

@@ -1,9 +1,16 @@
-//! Tests of the commands that compile and that answer tasks, on stores and sinks in memory: each call fails once.
+//! Tests of the commands on stores and sinks in memory, of which each call fails once.
 //!
-//! What becomes of the files then was worked out by hand from `docs/COMMANDS.md`.
+//! How a call must end is the definition of endings once more, in Rust (`endings`); what it makes is what it makes where
+//! nothing fails.
 //!
 //! This crate has no code but its tests.
 #![tactic(auto)]
 
 #[cfg(test)]
+mod endings;
+#[cfg(test)]
+mod given;
+#[cfg(test)]
 mod tests;
+#[cfg(test)]
+mod watched;

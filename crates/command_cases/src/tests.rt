@@ -1,187 +1,245 @@
-// A source that is compiled, and tasks that are answered, on a store and a sink in memory, where calls
-// fail.
+// Each command, where each call of its store and of its sink fails in turn.
+ghost use Rattle.std.specs.Prelude.{◌<◌};
 
+use crate::endings::{Seen, all_put, bytes_of, ends_with};
+use crate::given::{Case, given, make_case, words_of};
+use crate::watched::{WatchedSink, WatchedStore};
 use command_perform::perform;
 use std::alloc::Global;
+use std::process::Abort;
 use std::test::Fail;
-use wcc_base::{CalmSink, CalmStore, MemSink, MemStore, Status};
+use wcc_base::{MemSink, MemStore, Status};
 use wcc_compile::WccCompiler;
 
-// The words of a command.
-fn words_of(alloc: Global, line: &str) -> Result<Vec<String>, Fail> {
-    let mut words = Vec::new(alloc);
-    for word in line.split(' ') {
-        words.push(String::from_str(alloc, word)?)?;
-    }
-    Ok(words)
+// How a call ended: whether as it is defined, how many calls of the store and of the sink it made, and how many failed.
+#[derive(Clone, Copy)]
+struct Ended {
+    is_defined: bool,
+    status: Status,
+    calls: u32,
+    puts: u32,
+    faults: u32,
 }
 
-// What a file holds after a call, and nothing where it is absent.
-fn written<'a>(files: &'a [(String, Vec<u8>)], name: &str) -> &'a [u8] {
-    for file in files {
-        if file.0.as_str() == name {
-            return file.1.as_slice();
-        }
-    }
-    &[]
+// The list of this number.
+fn listed(alloc: Global, number: u32) -> Result<Vec<u32>, Fail> {
+    let mut list = Vec::new(alloc);
+    list.push(number)?;
+    Ok(list)
 }
 
-// A store with these files.
-fn store(alloc: Global, files: &[(&str, &[u8])]) -> Result<Vec<(String, Vec<u8>)>, Fail> {
-    let mut store = Vec::new(alloc);
-    for (name, bytes) in files {
-        store.push((
-            String::from_str(alloc, *name)?,
-            Vec::from_slice(alloc, *bytes)?,
-        ))?;
-    }
-    Ok(store)
-}
-
-// What a command answers and prints.
-fn said(alloc: Global, line: &str, store: &mut CalmStore) -> Result<(Status, Vec<u8>), Fail> {
-    let words = words_of(alloc, line)?;
-    let mut out = CalmSink::new(alloc);
-    let status = perform(&WccCompiler, alloc, &words, store, &mut out);
-    Ok((status, out.bytes))
-}
-
-const SOURCE: &str = "int main(void) { putchar(72); return 7; }";
-
-// How many bytes a row of calls moves that ends before its call number `failing`.
-fn moved(whole: usize, step: usize, first: usize, failing: usize) -> usize {
-    failing
-        .saturating_sub(first)
-        .saturating_mul(step)
-        .min(whole)
-}
-
-// How many calls move so many bytes.
-fn calls(whole: usize, step: usize) -> usize {
-    whole.saturating_add(step).saturating_sub(1) / step.max(1)
-}
-
-// Each call of the store fails in turn, until one is left over: first those that read the source,
-// then the begin and the appends of the image, and those of the report.
-#[test]
-fn each_failing_call_leaves_what_was_written(rt: HostRuntime) -> Result<(), Fail> {
-    let alloc = rt.alloc();
-    let line = words_of(alloc, "compile a.c a.elf a.txt")?;
-    let files = store(alloc, &[("a.c", SOURCE.as_bytes())])?;
-    let mut whole = CalmStore::new(alloc, files);
-    let (status, _) = said(alloc, "compile a.c a.elf a.txt", &mut whole)?;
-    assert_eq!(rt; status, Status::Done);
-    let image = written(&whole.files, "a.elf");
-    let report = written(&whole.files, "a.txt");
-    for step in [40, 10_000] {
-        let reads = calls(SOURCE.len(), step).saturating_add(1);
-        let images = calls(image.len(), step).saturating_add(1);
-        let last = calls(report.len(), step)
-            .saturating_add(1)
-            .saturating_add(reads)
-            .saturating_add(images);
-        for call in 1..last.saturating_add(2) {
-            let mut failing = Vec::new(alloc);
-            failing.push(u32::try_from(call).unwrap_or(0))?;
-            let files = store(alloc, &[("a.c", SOURCE.as_bytes())])?;
-            let mut files = MemStore::new(alloc, files, step, failing);
-            let mut out = CalmSink::new(alloc);
-            let status = perform(&WccCompiler, alloc, &line, &mut files, &mut out);
-            let wanted = if call <= reads {
-                Status::ReadFault
-            } else if call <= last {
-                Status::WriteFault
-            } else {
-                Status::Done
-            };
-            assert_eq!(rt; status, wanted, "at {step} {call}");
-            let first = reads.saturating_add(2);
-            let begun = moved(image.len(), step, first, call);
-            assert_eq!(rt;
-                written(&files.files, "a.elf"),
-                image.get(..begun).unwrap_or(&[]),
-                "at {step} {call}"
-            );
-            let first = first.saturating_add(images);
-            let begun = moved(report.len(), step, first, call);
-            assert_eq!(rt;
-                written(&files.files, "a.txt"),
-                report.get(..begun).unwrap_or(&[]),
-                "at {step} {call}"
-            );
-        }
-    }
-    Ok(())
-}
-
-// What is written stands, and a refusal stays one, where the line can't be put.
-#[test]
-fn a_failing_sink_ends_a_done_call(rt: HostRuntime) -> Result<(), Fail> {
-    let alloc = rt.alloc();
-    let line = words_of(alloc, "compile a.c a.elf a.txt")?;
-    let refused = Status::Refused {
-        code: 3,
-        detail: 0,
-        at: 0,
+// Calls a command over a store that moves so many bytes at a time, and of which the call of this number fails, and a sink of
+// which that put does. No call has the number 0.
+fn call(alloc: Global, case: &Case, step: usize, failing: u32, put: u32) -> Result<Ended, Fail>
+    requires { 0 < step }
+{
+    let words = words_of(alloc, case.line)?;
+    let files = all_put(alloc, &[], &case.files)?;
+    let mut store = WatchedStore::new(MemStore::new(alloc, files, step, listed(alloc, failing)?));
+    let mut out = WatchedSink::new(MemSink::new(alloc, listed(alloc, put)?));
+    let status = perform(&WccCompiler, alloc, &words, &mut store, &mut out);
+    let seen = Seen {
+        status,
+        files: &store.store.files,
+        read_faults: store.read_faults,
+        write_faults: store.write_faults,
+        printed: out.sink.bytes.as_slice(),
+        sink_faults: out.faults,
     };
-    for (source, wanted) in [(SOURCE, Status::WriteFault), ("", refused)] {
-        let mut failing = Vec::new(alloc);
-        failing.push(1)?;
-        let files = store(alloc, &[("a.c", source.as_bytes())])?;
-        let mut files = CalmStore::new(alloc, files);
-        let mut out = MemSink::new(alloc, failing);
-        assert_eq!(rt;
-            perform(&WccCompiler, alloc, &line, &mut files, &mut out),
-            wanted
+    Ok(Ended {
+        is_defined: ends_with(alloc, &case.made, &case.files, seen)?,
+        status,
+        calls: store.calls,
+        puts: out.calls,
+        faults: store
+            .read_faults
+            .saturating_add(store.write_faults)
+            .saturating_add(out.faults),
+    })
+}
+
+// Fails each call of the store in turn, and then each of the sink, and looks whether each ends as it is defined.
+fn fail_each(rt: &impl Abort, alloc: Global, case: &Case, step: usize) -> Result<(), Fail>
+    requires { 0 < step }
+{
+    let line = case.line;
+    let plain = call(alloc, case, step, 0, 0)?;
+    assert!(rt; plain.is_defined && plain.faults == 0, "{line}");
+    for failing in 1..plain.calls.saturating_add(1) {
+        let ended = call(alloc, case, step, failing, 0)?;
+        assert!(rt;
+            ended.is_defined && ended.faults == 1,
+            "{line}: call {failing} in steps of {step}"
         );
-        assert_eq!(rt; out.bytes.as_slice(), b"".as_slice());
-        for name in ["a.elf", "a.txt"] {
-            assert_eq!(rt; written(&files.files, name).is_empty(), source.is_empty());
-        }
+    }
+    for put in 1..plain.puts.saturating_add(1) {
+        let ended = call(alloc, case, step, 0, put)?;
+        assert!(rt; ended.is_defined && ended.faults == 1, "{line}: put {put}");
     }
     Ok(())
 }
 
-const TASKS: &str = "task a 120 a.elf a.txt\ntask b 120 a.elf a.txt\n";
-
-// Each call of the store fails in turn, until one is left over: those that read the list of tasks,
-// and those that read the image and the report of one task after the other.
-#[test]
-fn each_failing_read_of_tasks_is_told(rt: HostRuntime) -> Result<(), Fail> {
-    let alloc = rt.alloc();
-    let files = store(alloc, &[("a.c", SOURCE.as_bytes())])?;
-    let mut made = CalmStore::new(alloc, files);
-    let (status, _) = said(alloc, "compile a.c a.elf a.txt", &mut made)?;
-    assert_eq!(rt; status, Status::Done);
-    let image = written(&made.files, "a.elf");
-    let report = written(&made.files, "a.txt");
-    let given = [
-        ("t.txt", TASKS.as_bytes()),
-        ("a.elf", image),
-        ("a.txt", report),
-    ];
-    let line = words_of(alloc, "respond t.txt")?;
-    for step in [40, 10_000] {
-        let of_task = calls(image.len(), step)
-            .saturating_add(calls(report.len(), step))
-            .saturating_add(2);
-        let reads = calls(TASKS.len(), step)
-            .saturating_add(1)
-            .saturating_add(of_task.saturating_mul(2));
-        for call in 1..reads.saturating_add(2) {
-            let mut failing = Vec::new(alloc);
-            failing.push(u32::try_from(call).unwrap_or(0))?;
-            let mut files = MemStore::new(alloc, store(alloc, &given)?, step, failing);
-            let mut out = CalmSink::new(alloc);
-            let status = perform(&WccCompiler, alloc, &line, &mut files, &mut out);
-            let (wanted, lines) = if call <= reads {
-                (Status::ReadFault, "read fault\n")
-            } else {
-                (Status::Done, "response a 60\nresponse b 120\n")
-            };
-            assert_eq!(rt; status, wanted, "at {step} {call}");
-            assert_eq!(rt; out.bytes.as_slice(), lines.as_bytes());
-        }
+// Each of these commands, with what it writes and how its lines begin where nothing fails, in steps of 40 bytes and of one.
+fn fail_all(rt: &impl Abort, alloc: Global, lines: &[(&str, &str, &str)]) -> Result<(), Fail> {
+    for (line, written, printed) in lines {
+        let case = make_case(alloc, *line, *written, given(alloc)?)?;
+        assert!(rt; case.made.lines.starts_with(printed.as_bytes()), "{line}");
+        fail_each(rt, alloc, &case, 40)?;
+        fail_each(rt, alloc, &case, 1)?;
     }
+    Ok(())
+}
+
+#[test]
+fn compiling(rt: HostRuntime) -> Result<(), Fail> {
+    fail_all(
+        &rt,
+        rt.alloc(),
+        &[
+            ("compile a.c b.elf b.txt", "b.elf b.txt", "cycles "),
+            (
+                "compile loop.c b.elf b.txt --derive --table costs",
+                "b.elf b.txt",
+                "cycles ",
+            ),
+            ("compile bad.c b.elf b.txt", "", "refused syntax at 26\n"),
+            (
+                "compile a.c b.elf b.txt --table a.in",
+                "",
+                "refused table-1 at 0\n",
+            ),
+            ("compile a.c b.elf b.elf", "", "usage\n"),
+            ("help", "", "usage\n"),
+        ],
+    )
+}
+
+#[test]
+fn compiling_with_every_option(rt: HostRuntime) -> Result<(), Fail> {
+    fail_all(
+        &rt,
+        rt.alloc(),
+        &[(
+            "compile loop.c b.elf b.txt --spm 64 --inline 9 --unroll 2 --derive --table costs",
+            "b.elf b.txt",
+            "cycles ",
+        )],
+    )
+}
+
+#[test]
+fn reading(rt: HostRuntime) -> Result<(), Fail> {
+    fail_all(
+        &rt,
+        rt.alloc(),
+        &[
+            ("check a.elf a.txt --table costs", "", "yes "),
+            ("check a.elf bad.c", "", "no report-1 1\n"),
+            ("report a.txt", "", "cycles "),
+            ("report a.c", "", "refused report-1 at 1\n"),
+            ("respond tasks --table costs", "", "response a "),
+            ("respond late", "", "late 1\n"),
+            ("respond a.c", "", "refused tasks-1 at 1\n"),
+        ],
+    )
+}
+
+#[test]
+fn running(rt: HostRuntime) -> Result<(), Fail> {
+    fail_all(
+        &rt,
+        rt.alloc(),
+        &[
+            ("run a.elf a.in b.out", "b.out", "exit 7 cycles "),
+            (
+                "run a.elf a.in b.out --limit 20 --table costs",
+                "b.out",
+                "limit at ",
+            ),
+            ("run bad.c a.in b.out", "", "refused image-1 at 0\n"),
+            (
+                "eval loop.c a.in b.out --derive",
+                "b.out",
+                "value 2 bytes 2\n",
+            ),
+            ("eval odd.c a.in b.out", "", "undefined 6 at 34\n"),
+            ("eval loop.c a.in b.out", "", "refused bound at 55\n"),
+        ],
+    )
+}
+
+#[test]
+fn making(rt: HostRuntime) -> Result<(), Fail> {
+    fail_all(
+        &rt,
+        rt.alloc(),
+        &[(
+            "make 1 b.c b.elf b.txt",
+            "b.c b.elf b.txt",
+            "made 209 bytes\ncycles ",
+        )],
+    )
+}
+
+// A table that is a byte too long, behind two files.
+#[test]
+fn a_file_that_passes_its_limit(rt: HostRuntime) -> Result<(), Fail> {
+    let alloc = rt.alloc();
+    let mut files = given(alloc)?;
+    files.push((
+        String::from_str(alloc, "long")?,
+        Vec::from_elem(alloc, b'\n', 65_537)?,
+    ))?;
+    let case = make_case(alloc, "check a.elf a.txt --table long", "", files)?;
+    assert_eq!(rt;
+        case.made.lines.as_slice(),
+        b"limit table 65537\n".as_slice()
+    );
+    fail_each(&rt, alloc, &case, 40)
+}
+
+// The least source, whose image passes 40 bytes: its two reads fail with status 4, and all that writes with status 5. Behind
+// a begin and an append the fifth call fails, so that the image has 40 bytes and no report is there.
+#[test]
+fn the_least_source_call_by_call(rt: HostRuntime) -> Result<(), Fail> {
+    let alloc = rt.alloc();
+    let mut files = all_put(alloc, &[], &[])?;
+    files.push((
+        String::from_str(alloc, "a.c")?,
+        Vec::from_slice(alloc, b"int main(void){}")?,
+    ))?;
+    let case = make_case(alloc, "compile a.c a.elf a.txt", "a.elf a.txt", files)?;
+    let plain = call(alloc, &case, 40, 0, 0)?;
+    for failing in 1..plain.calls.saturating_add(1) {
+        let ended = call(alloc, &case, 40, failing, 0)?;
+        let wanted = if failing <= 2 {
+            Status::ReadFault
+        } else {
+            Status::WriteFault
+        };
+        assert_eq!(rt; ended.status, wanted, "at {failing}");
+    }
+    assert_eq!(rt;
+        call(alloc, &case, 40, plain.calls.saturating_add(1), 0)?.status,
+        Status::Done
+    );
+    let words = words_of(alloc, case.line)?;
+    let mut store = MemStore::new(
+        alloc,
+        all_put(alloc, &[], &case.files)?,
+        40,
+        listed(alloc, 5)?,
+    );
+    let mut out = MemSink::new(alloc, listed(alloc, 0)?);
+    assert_eq!(rt;
+        perform(&WccCompiler, alloc, &words, &mut store, &mut out),
+        Status::WriteFault
+    );
+    let whole = bytes_of(&case.made.files, "a.elf");
+    assert_eq!(rt;
+        bytes_of(&store.files, "a.elf"),
+        whole.get(..40).unwrap_or(&[])
+    );
+    assert_eq!(rt; store.files.len(), 2);
     Ok(())
 }
