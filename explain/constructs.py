@@ -474,7 +474,7 @@ def far_shift(spot, first, behind):
         if spot.kinds(ahead, "number", "<<", "number"):
             (value, *suffixes), (count, *_) = spot.token(ahead).said, spot.token(ahead + 2).said
             if not suffixes[0] and count < 32 and value < 1 << 31 <= value << count:
-                number = spot.source[spot.token(ahead).at:spot.token(ahead + 1).at].decode().strip()
+                number = spot.source[spot.token(ahead).at:spot.token(ahead + 1).at].decode(errors="replace").strip()
                 return Elsewhere.of(spot, ahead, "far shift", number, str(count))
     return None
 

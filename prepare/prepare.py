@@ -227,7 +227,7 @@ class Annotations:
         if PLAIN.fullmatch(text):
             return text
         if name := NAME.search(CHARACTER.sub(b"0", text)):
-            raise Failed(REFUSED, f"{shown(*place)}: `{name[0].decode()}` is no number. {self.why_none(name[0], place)}")
+            raise Failed(REFUSED, f"{shown(*place)}: `{name[0].decode(errors='replace')}` is no number. {self.why_none(name[0], place)}")
         self.asked.append((text, place))
         return len(self.asked) - 1
 
@@ -291,7 +291,7 @@ def outside(text):
     depth, own = 0, set()
     for _, line, place in placed(text.split(b"\n")):
         for it in PIECE.finditer(line) if not line.lstrip().startswith(b"#") else ():
-            kind, word = it.lastgroup, it[0].decode()
+            kind, word = it.lastgroup, it[0].decode(errors="replace")
             depth += (word == "{") - (word == "}")
             if kind in FORMS:
                 yield place, *FORMS[kind]
