@@ -40,6 +40,13 @@ def built(path):
     return path
 
 
+def behind(path):
+    """The program that a launcher runs, which is built first where that is needed; or the program itself that is named."""
+    path = Path(built(path))
+    program = path.parent / "crates/wcc/out/wcc"
+    return str(program if program.exists() else path)
+
+
 def call(path, room, *words):
     """One call in a folder, without the words for people on standard error."""
     (room / "a.out").unlink(missing_ok=True)

@@ -1,5 +1,5 @@
 -- What a check answers, as the statuses of the command; and what a report that holds leaves open.
-use Rattle.std.proofs.Common.{◌≡◌, ◌⊎◌, ℕ, List, [], ◌∷◌, Option, Some, None, refl, sym, ap, subst, inl, inr, ⊎_elim}
+use Rattle.std.proofs.Common.{◌≡◌, ◌⊎◌, ℕ, List, [], ◌∷◌, Option, Some, None, sym, ap, subst, inl, inr, ⊎_elim}
 use Rattle.std.specs.Prelude.{IsSomeAnd}
 use Rattle.wcc_base.specs.Outside.{Files, StoreState, bytes_of}
 use Rattle.wcc_base.specs.declared.status.Status.{Status}

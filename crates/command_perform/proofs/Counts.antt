@@ -1,5 +1,5 @@
 -- What the calls of a step do to the counts of faults, one behind the other.
-use Rattle.std.proofs.Common.{◌≡◌, ℕ, Option, Result, Ok, Err, refl, ap, ◌∙◌}
+use Rattle.std.proofs.Common.{◌≡◌, ℕ, Option, Ok, Err, refl, ap, ◌∙◌}
 use Rattle.wcc_base.specs.Outside.{Files, StoreState, raised, CountsWrite}
 use Rattle.wcc_base.specs.declared.status.Status.{Status}
 use Rattle.wcc_base.specs.declared.status.Status.TheVariants as status

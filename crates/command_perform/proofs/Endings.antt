@@ -1,7 +1,7 @@
 -- How the steps of a command make an ending, and what each ending answers.
 use Rattle.std.proofs.Common.{◌≡◌, ◌⊎◌, ℕ, List, Option, Some, None, Result, Ok, Err, refl, sym, ap, subst, ◌∙◌, inl, inr, ⊎_elim}
 use Rattle.std.specs.Prelude.{MatchResult}
-use Rattle.wcc_base.specs.Outside.{Files, StoreState, SinkState, told_append, Rose}
+use Rattle.wcc_base.specs.Outside.{StoreState, SinkState, told_append, Rose}
 use Rattle.wcc_base.specs.declared.status.Status.{Status}
 use Rattle.wcc_base.specs.declared.status.Status.TheVariants as status
 use Rattle.command_perform.specs.declared.make.Made.{Made}
@@ -9,9 +9,9 @@ use Rattle.command_perform.specs.Words.{Asked}
 use Rattle.command_perform.specs.Outputs.{Outputs, outputs_of}
 use Rattle.command_perform.specs.StatusLines.{line_of}
 use Rattle.command_perform.specs.Gathering.{NotRead, OnlyRead}
-use Rattle.command_perform.specs.Finishing.{all_put, Partly, NoneFailed, WriteFailed, IsCut, status_after_fault, Reported, Finished}
-use Rattle.command_perform.specs.Ends.{ReadsFiles, OverlongIn, RefusesIn, MakesIn, IsRefusal, IsEnd, Ending, read_fault, too_long, refused, whole, in_part, memory_in_part, memory, ReadFailed, IsIdle, EndsWith, Fails}
-use Rattle.command_perform.specs.Promises.{HasMade, IsDone, HasFailed, IsStoreFault, IsUntold, Answers}
+use Rattle.command_perform.specs.Finishing.{all_put, Partly, NoneFailed, IsCut, status_after_fault, Reported, Finished}
+use Rattle.command_perform.specs.Ends.{ReadsFiles, OverlongIn, RefusesIn, MakesIn, IsRefusal, IsEnd, Ending, read_fault, too_long, refused, whole, in_part, memory_in_part, memory, IsIdle, EndsWith, Fails}
+use Rattle.command_perform.specs.Promises.{HasMade, IsDone, HasFailed, IsUntold, Answers}
 use Rattle.command_perform.proofs.Counts.{unchanged, none_more, write_failed, all_read, fault_read, none_read, refusal_counts}
 
 made_ends : (c : Asked) (old mid new : StoreState) (out out' : SinkState) (made : Outputs) (result : Status) → mid.files ≡ old.files → NoneFailed old mid → IsEnd made.status → MakesIn c old.files made → Finished made mid new out out' result → EndsWith (Some c) old new out out' result

@@ -1,5 +1,5 @@
 -- What a report is put together from.
-use Rattle.std.specs.Prelude.{◌≡◌, ◌≤◌, ◌^◌, ◌++◌, List, map}
+use Rattle.std.specs.Prelude.{◌≤◌, ◌^◌, ◌++◌, List, map}
 use Rattle.rv_core.specs.Table.{Table}
 use Rattle.code_flow_system.specs.Certificates.{Accepts, IsInForm}
 use Rattle.code_flow_system.specs.Claims.{Claims}

@@ -12,6 +12,7 @@ use high_ir::{Carried, High, MarkCopies};
 use high_pass::Pass;
 use layout_fitting::lay_unplaced;
 use layout_laid::Laid;
+use low_copies::without_copies;
 use low_ir::LowReg;
 use low_make::lower;
 use meaning_semantics::SourceRun;
@@ -104,6 +105,7 @@ fn print_places(
     made: &Carried,
 ) -> Result<(), Fault> {
     let low = lower(rt.alloc(), &made.program)?;
+    let low = without_copies(rt.alloc(), low)?;
     let code = with_places(rt.alloc(), low, places)?;
     let printed = print_both(rt, name, input, meant, &made.copies.marks, &code);
     drop(code);
@@ -150,6 +152,7 @@ fn places_named(word: &str) -> Result<Places, Fault> {
 
 fn lowered(alloc: Global, program: &High, places: Places) -> Result<LowReg, Memory> {
     let low = lower(alloc, program)?;
+    let low = without_copies(alloc, low)?;
     with_places(alloc, low, places)
 }
 

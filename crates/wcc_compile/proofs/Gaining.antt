@@ -1,5 +1,5 @@
 -- The items that are chosen from.
-use Rattle.std.proofs.Common.{◌≡◌, ℕ, ◌+◌, ◌*◌, ◌^◌, ◌≤◌, List, [], ◌∷◌, length, map, refl, sym, ap, ◌∙◌, arith}
+use Rattle.std.proofs.Common.{◌≡◌, ◌+◌, ◌*◌, ◌^◌, ◌≤◌, List, [], ◌∷◌, length, map, refl, sym, ap, ◌∙◌, arith}
 use Rattle.rv_core.specs.Table.{Table, table_of}
 use Rattle.facts_front.specs.declared.reading.Source.{Source}
 use Rattle.code_flow_system.specs.declared.cert.Part.{Part}

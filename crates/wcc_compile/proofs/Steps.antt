@@ -22,7 +22,7 @@ use Rattle.compile_passes.specs.Passes.{AreStages, passes, stages_of}
 use Rattle.compile_reporting.specs.Sources.{IsOf, IsReportOn, names_of, tree_of}
 use Rattle.compile_sizes.proofs.Sizes.{limited_fit}
 use Rattle.wcc_compile.specs.declared.built.Built.{Built}
-use Rattle.wcc_compile.specs.Built.{IsLaidOut, IsPlaced, gains_of}
+use Rattle.wcc_compile.specs.Built.{IsLaidOut, gains_of}
 use Rattle.wcc_compile.specs.Steps.{IsFirst, IsLast}
 
 -- a list that is empty

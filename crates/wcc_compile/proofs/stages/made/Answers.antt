@@ -4,7 +4,6 @@ use Rattle.high_pass.specs.Listing.{listing_of}
 use Rattle.low_ir.specs.Placings.{assignment_of, placed_of}
 use Rattle.low_ir.specs.Programs.{low_of}
 use Rattle.low_ir.specs.declared.places.LowReg.{LowReg}
-use Rattle.image_sizes.specs.Sizes.{HasRoom}
 use Rattle.compile_kept.specs.Carried.{IsCarried}
 use Rattle.compile_sizes.proofs.Sizes.{limited_fit}
 use Rattle.compile_made.specs.Made.{IsLowered}
