@@ -18,6 +18,12 @@ use Rattle.parse_begun.specs.declared.begun.Purpose.TheVariants as purpose
 use Rattle.parse_begun.specs.declared.begun.Stack as stacks
 use Rattle.parse_begun.specs.declared.begun.State as states
 use Rattle.parse_begun.specs.declared.begun.State.TheVariants as state
+use Rattle.parse_begun.specs.declared.begun.AtOperand.TheVariants as at_operand
+use Rattle.parse_begun.specs.declared.begun.AtStatement.TheVariants as at_statement
+use Rattle.parse_begun.specs.declared.begun.AtHead.TheVariants as at_head
+use Rattle.parse_begun.specs.declared.begun.AtReceiver.TheVariants as at_receiver
+use Rattle.parse_begun.specs.declared.begun.AtDeclarator.TheVariants as at_declarator
+use Rattle.parse_begun.specs.declared.begun.AtProto.TheVariants as at_proto
 use Rattle.parse_begun.specs.Depths.{header_depth, frames_depth, braces_depth, scope_depth, head_depth, proto_depth, declarator_depth, test_depth, purpose_depth, stack_depth, state_depth}
 use Rattle.parse_grammar.specs.Depth.{header_deep, frames_deep, braces_deep, scope_deep, head_deep, proto_deep, declarator_deep, test_deep, purpose_deep, stack_deep, deep}
 
@@ -88,35 +94,35 @@ stack_same f (stacks.AfterColon' test first p under) d e h = stack_same f under 
 stack_same f (stacks.AfterAssign' operator target p under) d e h = stack_same f under _ _ (both_over _ _ _ _ (part_depth_is f target) h)
 
 pub state_same : (f : Names) (state : states.State) → state_depth state ≡ deep (state_of f state)
-state_same f (state.Wants under) = stack_same f under _ _ refl
-state_same f (state.Has tree under) = stack_same f under _ _ (part_depth_is f tree)
-state_same f (state.Opened at under) = stack_same f under _ _ refl
-state_same f (state.Typed all at under) = stack_same f under _ _ refl
-state_same f (state.Called function under) = stack_same f under _ _ refl
+state_same f (state.OfOperand at_operand.Wants under) = stack_same f under _ _ refl
+state_same f (state.OfOperand (at_operand.Has tree) under) = stack_same f under _ _ (part_depth_is f tree)
+state_same f (state.OfOperand (at_operand.Opened at) under) = stack_same f under _ _ refl
+state_same f (state.OfOperand (at_operand.Typed all at) under) = stack_same f under _ _ refl
+state_same f (state.OfOperand (at_operand.Called function) under) = stack_same f under _ _ refl
 state_same f (state.File front) = ap (λ n. n + 1) (externals_depth_is f front)
 state_same f (state.Among front braces) = braces_same f braces.value _ _ (items_depth_is f front)
-state_same f (state.Begins under) = frames_same f under.value _ _ refl
-state_same f (state.Stands statement under) = frames_same f under.value _ _ (statement_depth_is f statement)
-state_same f (state.Closes statement under) = frames_same f under.value _ _ (statement_depth_is f statement)
-state_same f (state.Bounded bound under) = frames_same f under.value _ _ refl
+state_same f (state.OfStatement at_statement.Begins under) = frames_same f under.value _ _ refl
+state_same f (state.OfStatement (at_statement.Stands statement) under) = frames_same f under.value _ _ (statement_depth_is f statement)
+state_same f (state.OfStatement (at_statement.Closes statement) under) = frames_same f under.value _ _ (statement_depth_is f statement)
+state_same f (state.OfStatement (at_statement.Bounded bound) under) = frames_same f under.value _ _ refl
 state_same f (state.Opens test) = test_same f test _ _ refl
-state_same f (state.Chooses test at under) = frames_same f under.value _ _ (ap (λ n. n + 1) (part_depth_is f test))
-state_same f (state.Answers at under) = frames_same f under.value _ _ refl
+state_same f (state.OfStatement (at_statement.Chooses test at) under) = frames_same f under.value _ _ (ap (λ n. n + 1) (part_depth_is f test))
+state_same f (state.OfStatement (at_statement.Answers at) under) = frames_same f under.value _ _ refl
 state_same f (state.Defaults front braces at) = braces_same f braces.value _ _ (both_max _ 1 _ 1 (items_depth_is f front) refl)
-state_same f (state.Loops loop under) = frames_same f under.value _ _ refl
-state_same f (state.LoopStarts loop under) = frames_same f under.value _ _ refl
-state_same f (state.LoopTests head under) = frames_same f under.value _ _ (ap (λ n. n + 1) (start_depth_is f head.start))
-state_same f (state.LoopSteps head under) = frames_same f under.value _ _ (both_over _ _ _ _ (start_depth_is f head.start) (maybe_depth_is f head.test))
+state_same f (state.OfStatement (at_statement.Loops loop) under) = frames_same f under.value _ _ refl
+state_same f (state.OfStatement (at_statement.LoopStarts loop) under) = frames_same f under.value _ _ refl
+state_same f (state.OfStatement (at_statement.LoopTests head) under) = frames_same f under.value _ _ (ap (λ n. n + 1) (start_depth_is f head.start))
+state_same f (state.OfStatement (at_statement.LoopSteps head) under) = frames_same f under.value _ _ (both_over _ _ _ _ (start_depth_is f head.start) (maybe_depth_is f head.test))
 state_same f (state.Specified all at scope) = scope_same f scope _ _ refl
-state_same f (state.Named proto) = proto_same f proto 0 0 refl
-state_same f (state.Further head) = head_same f head 1 1 refl
-state_same f (state.Declares declarator) = declarator_same f declarator 0 0 refl
-state_same f (state.Sizing declarator) = declarator_same f declarator 0 0 refl
-state_same f (state.Shaped declarator shape) = declarator_same f declarator _ _ (shape_depth_is f shape)
-state_same f (state.Initial object) = head_same f object.head _ _ (ap (λ n. n + 1) (shape_depth_is f object.shape))
-state_same f (state.Listed object front) = head_same f object.head _ _ (both_over _ _ _ _ (shape_depth_is f object.shape) (parts_depth_is f front))
-state_same f (state.Ended head object) = head_same f head _ _ (object_depth_is f object)
-state_same f (state.ParamsOpen proto) = proto_same f proto 0 0 refl
-state_same f (state.ParamNext proto front) = proto_same f proto _ _ (params_depth_is f front)
-state_same f (state.ParamSpecified proto front all at) = proto_same f proto _ _ (both_max _ 1 _ 1 (params_depth_is f front) refl)
-state_same f (state.ParamsDone proto params) = proto_same f proto _ _ (params_depth_is f params)
+state_same f (state.OfProto at_proto.Named proto) = proto_same f proto 0 0 refl
+state_same f (state.OfHead at_head.Further head) = head_same f head 1 1 refl
+state_same f (state.OfDeclarator at_declarator.Declares declarator) = declarator_same f declarator 0 0 refl
+state_same f (state.OfDeclarator at_declarator.Sizing declarator) = declarator_same f declarator 0 0 refl
+state_same f (state.OfDeclarator (at_declarator.Shaped shape) declarator) = declarator_same f declarator _ _ (shape_depth_is f shape)
+state_same f (state.OfReceiver at_receiver.Initial object) = head_same f object.head _ _ (ap (λ n. n + 1) (shape_depth_is f object.shape))
+state_same f (state.OfReceiver (at_receiver.Listed front) object) = head_same f object.head _ _ (both_over _ _ _ _ (shape_depth_is f object.shape) (parts_depth_is f front))
+state_same f (state.OfHead (at_head.Ended object) head) = head_same f head _ _ (object_depth_is f object)
+state_same f (state.OfProto at_proto.ParamsOpen proto) = proto_same f proto 0 0 refl
+state_same f (state.OfProto (at_proto.ParamNext front) proto) = proto_same f proto _ _ (params_depth_is f front)
+state_same f (state.OfProto (at_proto.ParamSpecified front all at) proto) = proto_same f proto _ _ (both_max _ 1 _ 1 (params_depth_is f front) refl)
+state_same f (state.OfProto (at_proto.ParamsDone params) proto) = proto_same f proto _ _ (params_depth_is f params)

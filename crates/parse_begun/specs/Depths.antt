@@ -16,6 +16,12 @@ use Rattle.parse_begun.specs.declared.begun.Purpose.TheVariants as purpose
 use Rattle.parse_begun.specs.declared.begun.Stack as stacks
 use Rattle.parse_begun.specs.declared.begun.State as states
 use Rattle.parse_begun.specs.declared.begun.State.TheVariants as state
+use Rattle.parse_begun.specs.declared.begun.AtOperand.TheVariants as at_operand
+use Rattle.parse_begun.specs.declared.begun.AtStatement.TheVariants as at_statement
+use Rattle.parse_begun.specs.declared.begun.AtHead.TheVariants as at_head
+use Rattle.parse_begun.specs.declared.begun.AtReceiver.TheVariants as at_receiver
+use Rattle.parse_begun.specs.declared.begun.AtDeclarator.TheVariants as at_declarator
+use Rattle.parse_begun.specs.declared.begun.AtProto.TheVariants as at_proto
 
 abbrev pub header_depth : headers.Header → ℕ → ℕ
 header_depth header d = max header.front.depth (max header.params.depth (d + 1) + 1) + 1
@@ -80,35 +86,35 @@ stack_depth (stacks.AfterColon' test first p under) d = stack_depth under (max (
 stack_depth (stacks.AfterAssign' operator target p under) d = stack_depth under (max target.depth d + 1)
 
 abbrev pub state_depth : states.State → ℕ
-state_depth (state.Wants under) = stack_depth under 1
-state_depth (state.Has tree under) = stack_depth under tree.depth
-state_depth (state.Opened at under) = stack_depth under 2
-state_depth (state.Typed all at under) = stack_depth under 2
-state_depth (state.Called function under) = stack_depth under 1
+state_depth (state.OfOperand at_operand.Wants under) = stack_depth under 1
+state_depth (state.OfOperand (at_operand.Has tree) under) = stack_depth under tree.depth
+state_depth (state.OfOperand (at_operand.Opened at) under) = stack_depth under 2
+state_depth (state.OfOperand (at_operand.Typed all at) under) = stack_depth under 2
+state_depth (state.OfOperand (at_operand.Called function) under) = stack_depth under 1
 state_depth (state.File front) = front.depth + 1
 state_depth (state.Among front braces) = braces_depth braces.value front.depth
-state_depth (state.Begins under) = frames_depth under.value 1
-state_depth (state.Stands statement under) = frames_depth under.value statement.depth
-state_depth (state.Closes statement under) = frames_depth under.value statement.depth
-state_depth (state.Bounded bound under) = frames_depth under.value 1
+state_depth (state.OfStatement at_statement.Begins under) = frames_depth under.value 1
+state_depth (state.OfStatement (at_statement.Stands statement) under) = frames_depth under.value statement.depth
+state_depth (state.OfStatement (at_statement.Closes statement) under) = frames_depth under.value statement.depth
+state_depth (state.OfStatement (at_statement.Bounded bound) under) = frames_depth under.value 1
 state_depth (state.Opens test) = test_depth test 1
-state_depth (state.Chooses test at under) = frames_depth under.value (test.depth + 1)
-state_depth (state.Answers at under) = frames_depth under.value 1
+state_depth (state.OfStatement (at_statement.Chooses test at) under) = frames_depth under.value (test.depth + 1)
+state_depth (state.OfStatement (at_statement.Answers at) under) = frames_depth under.value 1
 state_depth (state.Defaults front braces at) = braces_depth braces.value (max front.depth 1)
-state_depth (state.Loops loop under) = frames_depth under.value 1
-state_depth (state.LoopStarts loop under) = frames_depth under.value 1
-state_depth (state.LoopTests head under) = frames_depth under.value (head.start.depth + 1)
-state_depth (state.LoopSteps head under) = frames_depth under.value (max head.start.depth head.test.depth + 1)
+state_depth (state.OfStatement (at_statement.Loops loop) under) = frames_depth under.value 1
+state_depth (state.OfStatement (at_statement.LoopStarts loop) under) = frames_depth under.value 1
+state_depth (state.OfStatement (at_statement.LoopTests head) under) = frames_depth under.value (head.start.depth + 1)
+state_depth (state.OfStatement (at_statement.LoopSteps head) under) = frames_depth under.value (max head.start.depth head.test.depth + 1)
 state_depth (state.Specified all at scope) = scope_depth scope 1
-state_depth (state.Named proto) = proto_depth proto 0
-state_depth (state.Further head) = head_depth head 1
-state_depth (state.Declares declarator) = declarator_depth declarator 0
-state_depth (state.Sizing declarator) = declarator_depth declarator 0
-state_depth (state.Shaped declarator shape) = declarator_depth declarator shape.depth
-state_depth (state.Initial object) = head_depth object.head (object.shape.depth + 1)
-state_depth (state.Listed object front) = head_depth object.head (max object.shape.depth front.depth + 1)
-state_depth (state.Ended head object) = head_depth head object.depth
-state_depth (state.ParamsOpen proto) = proto_depth proto 0
-state_depth (state.ParamNext proto front) = proto_depth proto front.depth
-state_depth (state.ParamSpecified proto front all at) = proto_depth proto (max front.depth 1)
-state_depth (state.ParamsDone proto params) = proto_depth proto params.depth
+state_depth (state.OfProto at_proto.Named proto) = proto_depth proto 0
+state_depth (state.OfHead at_head.Further head) = head_depth head 1
+state_depth (state.OfDeclarator at_declarator.Declares declarator) = declarator_depth declarator 0
+state_depth (state.OfDeclarator at_declarator.Sizing declarator) = declarator_depth declarator 0
+state_depth (state.OfDeclarator (at_declarator.Shaped shape) declarator) = declarator_depth declarator shape.depth
+state_depth (state.OfReceiver at_receiver.Initial object) = head_depth object.head (object.shape.depth + 1)
+state_depth (state.OfReceiver (at_receiver.Listed front) object) = head_depth object.head (max object.shape.depth front.depth + 1)
+state_depth (state.OfHead (at_head.Ended object) head) = head_depth head object.depth
+state_depth (state.OfProto at_proto.ParamsOpen proto) = proto_depth proto 0
+state_depth (state.OfProto (at_proto.ParamNext front) proto) = proto_depth proto front.depth
+state_depth (state.OfProto (at_proto.ParamSpecified front all at) proto) = proto_depth proto (max front.depth 1)
+state_depth (state.OfProto (at_proto.ParamsDone params) proto) = proto_depth proto params.depth

@@ -33,6 +33,12 @@ use Rattle.parse_begun.specs.declared.begun.Purpose.TheVariants as purpose
 use Rattle.parse_begun.specs.declared.begun.Stack as stacks
 use Rattle.parse_begun.specs.declared.begun.State as states
 use Rattle.parse_begun.specs.declared.begun.State.TheVariants as state
+use Rattle.parse_begun.specs.declared.begun.AtOperand.TheVariants as at_operand
+use Rattle.parse_begun.specs.declared.begun.AtStatement.TheVariants as at_statement
+use Rattle.parse_begun.specs.declared.begun.AtHead.TheVariants as at_head
+use Rattle.parse_begun.specs.declared.begun.AtReceiver.TheVariants as at_receiver
+use Rattle.parse_begun.specs.declared.begun.AtDeclarator.TheVariants as at_declarator
+use Rattle.parse_begun.specs.declared.begun.AtProto.TheVariants as at_proto
 use Rattle.c_tree.specs.declared.expression.NameId.{NameId}
 use Rattle.parse_begun.specs.declared.refusal.Refusal.{Refusal}
 use Rattle.parse_begun.specs.declared.refusal.Refusal.TheVariants as refusals
@@ -146,38 +152,38 @@ stack_of f (stacks.AfterColon' test first p under) = AfterColon (part_of f test)
 stack_of f (stacks.AfterAssign' operator target p under) = AfterAssign operator (part_of f target) (stack_of f under)
 
 abbrev pub state_of : Names → states.State → State
-state_of f (state.Wants under) = Wants (stack_of f under)
-state_of f (state.Has tree under) = Has (part_of f tree) (stack_of f under)
-state_of f (state.Opened at under) = Opened at (stack_of f under)
-state_of f (state.Typed all at under) = Typed all.items at (stack_of f under)
-state_of f (state.Called function under) = Called (f function.name.0) function.at (stack_of f under)
+state_of f (state.OfOperand at_operand.Wants under) = Wants (stack_of f under)
+state_of f (state.OfOperand (at_operand.Has tree) under) = Has (part_of f tree) (stack_of f under)
+state_of f (state.OfOperand (at_operand.Opened at) under) = Opened at (stack_of f under)
+state_of f (state.OfOperand (at_operand.Typed all at) under) = Typed all.items at (stack_of f under)
+state_of f (state.OfOperand (at_operand.Called function) under) = Called (f function.name.0) function.at (stack_of f under)
 state_of f (state.File front) = File (externals_of f front)
 state_of f (state.Among front braces) = Among (item_parts_of f front) (braces_of f braces.value)
-state_of f (state.Begins under) = Begins (frames_of f under.value)
-state_of f (state.Stands statement under) = Stands (statement_part_of f statement) (frames_of f under.value)
-state_of f (state.Closes statement under) = Closes (statement_part_of f statement) (frames_of f under.value)
-state_of f (state.Bounded bound under) = Bounded bound (frames_of f under.value)
+state_of f (state.OfStatement at_statement.Begins under) = Begins (frames_of f under.value)
+state_of f (state.OfStatement (at_statement.Stands statement) under) = Stands (statement_part_of f statement) (frames_of f under.value)
+state_of f (state.OfStatement (at_statement.Closes statement) under) = Closes (statement_part_of f statement) (frames_of f under.value)
+state_of f (state.OfStatement (at_statement.Bounded bound) under) = Bounded bound (frames_of f under.value)
 state_of f (state.Opens test) = Opens (test_of f test)
-state_of f (state.Chooses test at under) = Chooses (part_of f test) at (frames_of f under.value)
-state_of f (state.Answers at under) = Answers at (frames_of f under.value)
+state_of f (state.OfStatement (at_statement.Chooses test at) under) = Chooses (part_of f test) at (frames_of f under.value)
+state_of f (state.OfStatement (at_statement.Answers at) under) = Answers at (frames_of f under.value)
 state_of f (state.Defaults front braces at) = Defaults (item_parts_of f front) (braces_of f braces.value) at
-state_of f (state.Loops loop under) = Loops loop.bound loop.at (frames_of f under.value)
-state_of f (state.LoopStarts loop under) = LoopStarts loop.bound loop.at (frames_of f under.value)
-state_of f (state.LoopTests head under) = LoopTests head.bound (start_part_of f head.start) head.at (frames_of f under.value)
-state_of f (state.LoopSteps head under) = LoopSteps head.bound (start_part_of f head.start) (maybe_of f head.test) head.at (frames_of f under.value)
+state_of f (state.OfStatement (at_statement.Loops loop) under) = Loops loop.bound loop.at (frames_of f under.value)
+state_of f (state.OfStatement (at_statement.LoopStarts loop) under) = LoopStarts loop.bound loop.at (frames_of f under.value)
+state_of f (state.OfStatement (at_statement.LoopTests head) under) = LoopTests head.bound (start_part_of f head.start) head.at (frames_of f under.value)
+state_of f (state.OfStatement (at_statement.LoopSteps head) under) = LoopSteps head.bound (start_part_of f head.start) (maybe_of f head.test) head.at (frames_of f under.value)
 state_of f (state.Specified all at scope) = Specified all.items at (scope_of f scope)
-state_of f (state.Named proto) = Named (proto_of f proto)
-state_of f (state.Further head) = Further (head_of f head)
-state_of f (state.Declares declarator) = Declares (declarator_of f declarator)
-state_of f (state.Sizing declarator) = Sizing (declarator_of f declarator)
-state_of f (state.Shaped declarator shape) = Shaped (declarator_of f declarator) (shape_part_of f shape)
-state_of f (state.Initial object) = Initial (head_of f object.head) (f object.name.name.0) (shape_part_of f object.shape) object.name.at
-state_of f (state.Listed object front) = Listed (head_of f object.head) (f object.name.name.0) (shape_part_of f object.shape) (parts_of f front) object.name.at
-state_of f (state.Ended head object) = Ended (head_of f head) (object_part_of f object)
-state_of f (state.ParamsOpen proto) = ParamsOpen (proto_of f proto)
-state_of f (state.ParamNext proto front) = ParamNext (proto_of f proto) (params_of f front)
-state_of f (state.ParamSpecified proto front all at) = ParamSpecified (proto_of f proto) (params_of f front) all.items at
-state_of f (state.ParamsDone proto params) = ParamsDone (proto_of f proto) (params_of f params)
+state_of f (state.OfProto at_proto.Named proto) = Named (proto_of f proto)
+state_of f (state.OfHead at_head.Further head) = Further (head_of f head)
+state_of f (state.OfDeclarator at_declarator.Declares declarator) = Declares (declarator_of f declarator)
+state_of f (state.OfDeclarator at_declarator.Sizing declarator) = Sizing (declarator_of f declarator)
+state_of f (state.OfDeclarator (at_declarator.Shaped shape) declarator) = Shaped (declarator_of f declarator) (shape_part_of f shape)
+state_of f (state.OfReceiver at_receiver.Initial object) = Initial (head_of f object.head) (f object.name.name.0) (shape_part_of f object.shape) object.name.at
+state_of f (state.OfReceiver (at_receiver.Listed front) object) = Listed (head_of f object.head) (f object.name.name.0) (shape_part_of f object.shape) (parts_of f front) object.name.at
+state_of f (state.OfHead (at_head.Ended object) head) = Ended (head_of f head) (object_part_of f object)
+state_of f (state.OfProto at_proto.ParamsOpen proto) = ParamsOpen (proto_of f proto)
+state_of f (state.OfProto (at_proto.ParamNext front) proto) = ParamNext (proto_of f proto) (params_of f front)
+state_of f (state.OfProto (at_proto.ParamSpecified front all at) proto) = ParamSpecified (proto_of f proto) (params_of f front) all.items at
+state_of f (state.OfProto (at_proto.ParamsDone params) proto) = ParamsDone (proto_of f proto) (params_of f params)
 
 -- the depths of parts
 abbrev pub part_depth : Names → parts.Part → ℕ

@@ -312,68 +312,91 @@ pub enum Stack {
     },
 }
 
-/// Where the parser is, behind the tokens that it has taken.
+/// How far an operand is.
 #[derive(Drop)]
-pub enum State {
-    Wants(Stack),
-    Has(Part, Stack),
-    Opened {
-        at: u32,
-        under: Stack,
-    },
-    Typed {
+pub enum AtOperand {
+    Wants,
+    Has(Part),
+    Opened { at: u32 },
+    Typed { specifiers: Vec<Specifier>, at: u32 },
+    Called(NameAt),
+}
+
+/// How far a statement is.
+#[derive(Drop)]
+pub enum AtStatement {
+    Begins,
+    Stands(StatementPart),
+    Closes(StatementPart),
+    Bounded(Pragma),
+    Chooses { test: Part, at: u32 },
+    Answers { at: u32 },
+    Loops(Loop),
+    LoopStarts(Loop),
+    LoopTests(StartedFor),
+    LoopSteps(TestedFor),
+}
+
+/// How far a declaration of objects is: behind a comma, or behind an object with an initial value.
+#[derive(Drop)]
+pub enum AtHead {
+    Further,
+    Ended(ObjectPart),
+}
+
+/// How far an initial value is.
+#[derive(Drop)]
+pub enum AtReceiver {
+    Initial,
+    Listed(Parts),
+}
+
+/// How far a size is.
+#[derive(Drop)]
+pub enum AtDeclarator {
+    Declares,
+    Sizing,
+    Shaped(ShapePart),
+}
+
+/// How far what follows a function's name is.
+#[derive(Drop)]
+pub enum AtProto {
+    Named,
+    ParamsOpen,
+    ParamNext(ParamParts),
+    ParamSpecified {
+        front: ParamParts,
         specifiers: Vec<Specifier>,
         at: u32,
-        under: Stack,
     },
-    Called(NameAt, Stack),
+    ParamsDone(ParamParts),
+}
+
+/// Where the parser is, behind the tokens that it has taken: how far the part is that it reads, and what that
+/// stands in. (Each large type is named once: the proof of a function that names a state opens each place where
+/// one stands.)
+#[derive(Drop)]
+pub enum State {
+    OfOperand(AtOperand, Stack),
+    OfStatement(AtStatement, Box<Frames>),
+    OfHead(AtHead, Head),
+    OfReceiver(AtReceiver, Receiver),
+    OfDeclarator(AtDeclarator, Declarator),
+    OfProto(AtProto, Proto),
     File(ExternalParts),
     Among(ItemParts, Box<Braces>),
-    Begins(Box<Frames>),
-    Stands(StatementPart, Box<Frames>),
-    Closes(StatementPart, Box<Frames>),
-    Bounded(Pragma, Box<Frames>),
-    Opens(Test),
-    Chooses {
-        test: Part,
-        at: u32,
-        under: Box<Frames>,
-    },
-    Answers {
-        at: u32,
-        under: Box<Frames>,
-    },
     Defaults {
         front: ItemParts,
         braces: Box<Braces>,
         at: u32,
     },
-    Loops(Loop, Box<Frames>),
-    LoopStarts(Loop, Box<Frames>),
-    LoopTests(StartedFor, Box<Frames>),
-    LoopSteps(TestedFor, Box<Frames>),
+    Opens(Test),
     Specified {
         specifiers: Vec<Specifier>,
         at: u32,
         scope: Scope,
     },
-    Named(Proto),
-    Further(Head),
-    Declares(Declarator),
-    Sizing(Declarator),
-    Shaped(Declarator, ShapePart),
-    Initial(Receiver),
-    Listed(Receiver, Parts),
-    Ended(Head, ObjectPart),
-    ParamsOpen(Proto),
-    ParamNext(Proto, ParamParts),
-    ParamSpecified {
-        proto: Proto,
-        front: ParamParts,
-        specifiers: Vec<Specifier>,
-        at: u32,
-    },
-    ParamsDone(Proto, ParamParts),
 }
 
 // What has begun is boxed and let go by these calls alone: where a value of such a type is let go at the

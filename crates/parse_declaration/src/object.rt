@@ -15,7 +15,10 @@ use super::parameter::end_shaped_param;
 use c_tree::declaration::Shape;
 use c_tree::expression::Specifier;
 use c_tree::token::TokenKind;
-use parse_begun::begun::{Declarator, Head, NameAt, Proto, Purpose, Receiver, Stack, State};
+use parse_begun::begun::{
+    AtDeclarator, AtHead, AtOperand, AtProto, AtReceiver, Declarator, Head, NameAt, Proto, Purpose,
+    Receiver, Stack, State,
+};
 use parse_begun::list::{and_object, no_objects, no_parts};
 use parse_begun::part::{DeclarationPart, ObjectPart, ObjectParts, Parts, ShapePart};
 use parse_begun::refusal::Refusal;
@@ -66,7 +69,7 @@ fn go_on_object(lexeme: Lexeme, object: Receiver) -> Result<State, Refusal>
     ensures { (f : Names) → Gives f result (shaped (lexeme_of f lexeme) (OfObject (head_of f object.head) (f object.name.name.0) object.name.at) (shape_part_of f object.shape)) }
 {
     match lexeme {
-        Lexeme::Plain(TokenKind::Equal) => Ok(State::Initial(object)),
+        Lexeme::Plain(TokenKind::Equal) => Ok(State::OfReceiver(AtReceiver::Initial, object)),
         _ => end_bare_object(lexeme, object),
     }
 }
@@ -92,7 +95,10 @@ pub fn go_on_declared(lexeme: Lexeme, declarator: Declarator) -> Result<State, R
     ensures { (f : Names) → Gives f result (declares (lexeme_of f lexeme) (declarator_of f declarator)) }
 {
     match lexeme {
-        Lexeme::Plain(TokenKind::LeftBracket) => Ok(State::Sizing(declarator)),
+        Lexeme::Plain(TokenKind::LeftBracket) => Ok(State::OfDeclarator(
+            AtDeclarator::Sizing,
+            declarator,
+        )),
         _ => go_on_shaped(lexeme, declarator, scalar()),
     }
 }
@@ -140,20 +146,26 @@ fn go_on_first(alloc: Global, lexeme: Lexeme, first: Proto) -> Result<State, Ref
     match lexeme {
         Lexeme::Plain(TokenKind::LeftBracket) => {
             let head = first_head(alloc, first);
-            Ok(State::Sizing(Declarator::OfObject(head, name)))
+            Ok(State::OfDeclarator(AtDeclarator::Sizing, Declarator::OfObject(head, name)))
         }
-        Lexeme::Plain(TokenKind::Equal) => Ok(State::Initial(Receiver {
-            head: first_head(alloc, first),
-            name,
-            shape: scalar(),
-        })),
+        Lexeme::Plain(TokenKind::Equal) => Ok(State::OfReceiver(
+            AtReceiver::Initial,
+            Receiver {
+                head: first_head(alloc, first),
+                name,
+                shape: scalar(),
+            },
+        )),
         Lexeme::Plain(TokenKind::Comma) => match one_object(alloc, name) {
-            Ok(objects) => Ok(State::Further(Head {
-                specifiers: first.specifiers,
-                objects,
-                at: first.at,
-                scope: first.scope,
-            })),
+            Ok(objects) => Ok(State::OfHead(
+                AtHead::Further,
+                Head {
+                    specifiers: first.specifiers,
+                    objects,
+                    at: first.at,
+                    scope: first.scope,
+                },
+            )),
             Err(refusal) => {
                 first.let_go();
                 Err(refusal)
@@ -177,7 +189,7 @@ pub fn go_on_named(alloc: Global, lexeme: Lexeme, proto: Proto) -> Result<State,
     ensures { (f : Names) → Gives f result (named (lexeme_of f lexeme) (proto_of f proto)) }
 {
     match lexeme {
-        Lexeme::Plain(TokenKind::LeftParen) => Ok(State::ParamsOpen(proto)),
+        Lexeme::Plain(TokenKind::LeftParen) => Ok(State::OfProto(AtProto::ParamsOpen, proto)),
         _ => go_on_first(alloc, lexeme, proto),
     }
 }
@@ -202,7 +214,7 @@ pub fn begin_size(alloc: Global, word: Word, declarator: Declarator) -> Result<S
             shape: Shape::Unsized,
             depth: 0,
         };
-        return Ok(State::Shaped(declarator, shape));
+        return Ok(State::OfDeclarator(AtDeclarator::Shaped(shape), declarator));
     }
     let declarator = declarator.boxed(alloc)?;
     begin_operand(alloc, word, Stack::Base(Purpose::Sizes(declarator)))
@@ -217,7 +229,7 @@ pub fn begin_initial(alloc: Global, word: Word, object: Receiver) -> Result<Stat
         Lexeme::Plain(TokenKind::LeftBrace) => {
             let object = object.boxed(alloc)?;
             let list = Purpose::Lists(object, no_parts(alloc));
-            Ok(State::Wants(Stack::Base(list)))
+            Ok(State::OfOperand(AtOperand::Wants, Stack::Base(list)))
         }
         _ => {
             let object = object.boxed(alloc)?;
@@ -242,7 +254,7 @@ pub fn go_on_listed(
     match lexeme {
         Lexeme::Plain(TokenKind::RightBrace) => {
             let whole = listed_object(object.name, object.shape, front, true);
-            Ok(State::Ended(object.head, whole))
+            Ok(State::OfHead(AtHead::Ended(whole), object.head))
         }
         _ => match object.boxed(alloc) {
             Ok(object) => {

@@ -11,7 +11,9 @@ ghost use Rattle.c_tree.specs.Tree.{Prototype};
 use super::object::go_on_declared;
 use c_tree::expression::Specifier;
 use c_tree::token::TokenKind;
-use parse_begun::begun::{Braces, Declarator, Header, NamedParam, Proto, Scope, State};
+use parse_begun::begun::{
+    AtDeclarator, AtProto, Braces, Declarator, Header, NamedParam, Proto, Scope, State,
+};
 use parse_begun::list::{and_param, and_specifier, no_items, no_params, one_specifier};
 use parse_begun::part::{ParamPart, ParamParts, ShapePart};
 use parse_begun::refusal::Refusal;
@@ -31,14 +33,14 @@ fn end_param(
 {
     match lexeme {
         Lexeme::Plain(TokenKind::Comma) => match and_param(front, param) {
-            Ok(front) => Ok(State::ParamNext(proto, front)),
+            Ok(front) => Ok(State::OfProto(AtProto::ParamNext(front), proto)),
             Err(refusal) => {
                 proto.let_go();
                 Err(refusal)
             }
         },
         Lexeme::Plain(TokenKind::RightParen) => match and_param(front, param) {
-            Ok(params) => Ok(State::ParamsDone(proto, params)),
+            Ok(params) => Ok(State::OfProto(AtProto::ParamsDone(params), proto)),
             Err(refusal) => {
                 proto.let_go();
                 Err(refusal)
@@ -77,12 +79,14 @@ pub fn begin_param(
 {
     match specifier_said(&word.lexeme) {
         Some(first) => match one_specifier(alloc, first) {
-            Ok(specifiers) => Ok(State::ParamSpecified {
+            Ok(specifiers) => Ok(State::OfProto(
+                AtProto::ParamSpecified {
+                    front,
+                    specifiers,
+                    at: word.at,
+                },
                 proto,
-                front,
-                specifiers,
-                at: word.at,
-            }),
+            )),
             Err(refusal) => {
                 proto.let_go();
                 front.let_go();
@@ -102,7 +106,10 @@ pub fn begin_params(alloc: Global, word: Word, proto: Proto) -> Result<State, Re
 {
     let Word { lexeme, at } = word;
     match lexeme {
-        Lexeme::Plain(TokenKind::RightParen) => Ok(State::ParamsDone(proto, no_params(alloc))),
+        Lexeme::Plain(TokenKind::RightParen) => Ok(State::OfProto(
+            AtProto::ParamsDone(no_params(alloc)),
+            proto,
+        )),
         _ => begin_param(alloc, Word { lexeme, at }, proto, no_params(alloc)),
     }
 }
@@ -119,13 +126,16 @@ fn name_param(
     ensures { (f : Names) → Gives f result (param_named (lexeme_of f lexeme) (proto_of f proto) (params_of f front) specifiers.items at) }
 {
     match lexeme {
-        Lexeme::Name(name) => Ok(State::Declares(Declarator::OfParam(NamedParam {
-            proto,
-            front,
-            specifiers,
-            name: Some(name),
-            at,
-        }))),
+        Lexeme::Name(name) => Ok(State::OfDeclarator(
+            AtDeclarator::Declares,
+            Declarator::OfParam(NamedParam {
+                proto,
+                front,
+                specifiers,
+                name: Some(name),
+                at,
+            }),
+        )),
         _ => {
             let param = NamedParam {
                 proto,
@@ -152,12 +162,14 @@ pub fn go_on_param(
 {
     match specifier_said(&lexeme) {
         Some(next) => match and_specifier(specifiers, next) {
-            Ok(specifiers) => Ok(State::ParamSpecified {
+            Ok(specifiers) => Ok(State::OfProto(
+                AtProto::ParamSpecified {
+                    front,
+                    specifiers,
+                    at,
+                },
                 proto,
-                front,
-                specifiers,
-                at,
-            }),
+            )),
             Err(refusal) => {
                 proto.let_go();
                 front.let_go();

@@ -3,7 +3,7 @@ ghost use Rattle.parse_grammar.specs.Machine.{first_name, further, specified, sp
 ghost use Rattle.parse_lexeme.specs.Lexemes.{lexeme_of};
 
 use c_tree::expression::Specifier;
-use parse_begun::begun::{Declarator, Head, NameAt, Proto, Scope, State};
+use parse_begun::begun::{AtDeclarator, AtProto, Declarator, Head, NameAt, Proto, Scope, State};
 use parse_begun::list::and_specifier;
 use parse_begun::refusal::Refusal;
 use parse_lexeme::{Lexeme, Word};
@@ -20,12 +20,15 @@ fn begin_named(
 {
     let Word { lexeme, at: here } = word;
     match lexeme {
-        Lexeme::Name(name) => Ok(State::Named(Proto {
-            specifiers,
-            name: NameAt { name, at: here },
-            at,
-            scope,
-        })),
+        Lexeme::Name(name) => Ok(State::OfProto(
+            AtProto::Named,
+            Proto {
+                specifiers,
+                name: NameAt { name, at: here },
+                at,
+                scope,
+            },
+        )),
         _ => Err(scope.refuse()),
     }
 }
@@ -63,7 +66,7 @@ pub fn begin_further(word: Word, head: Head) -> Result<State, Refusal>
     match lexeme {
         Lexeme::Name(name) => {
             let name = NameAt { name, at: here };
-            Ok(State::Declares(Declarator::OfObject(head, name)))
+            Ok(State::OfDeclarator(AtDeclarator::Declares, Declarator::OfObject(head, name)))
         }
         _ => Err(head.refuse()),
     }

@@ -18,6 +18,12 @@ use Rattle.parse_begun.specs.declared.begun.Purpose.TheVariants as purpose
 use Rattle.parse_begun.specs.declared.begun.Stack as stacks
 use Rattle.parse_begun.specs.declared.begun.State as states
 use Rattle.parse_begun.specs.declared.begun.State.TheVariants as state
+use Rattle.parse_begun.specs.declared.begun.AtOperand.TheVariants as at_operand
+use Rattle.parse_begun.specs.declared.begun.AtStatement.TheVariants as at_statement
+use Rattle.parse_begun.specs.declared.begun.AtHead.TheVariants as at_head
+use Rattle.parse_begun.specs.declared.begun.AtReceiver.TheVariants as at_receiver
+use Rattle.parse_begun.specs.declared.begun.AtDeclarator.TheVariants as at_declarator
+use Rattle.parse_begun.specs.declared.begun.AtProto.TheVariants as at_proto
 use Rattle.parse_begun.specs.Depths.{braces_depth, scope_depth, head_depth, proto_depth, stack_depth, state_depth}
 use Rattle.parse_begun.proofs.PartDepths.{both_max, shape_depth_is, parts_depth_is, objects_depth_is, params_depth_is, items_depth_is, items_depth_before_is}
 use Rattle.parse_begun.proofs.SameDepths.{both_over, braces_same, scope_same, head_same, proto_same, stack_same, state_same}
@@ -103,38 +109,38 @@ items_alike : (f : Names) (least : ℕ) (braces : braces.Braces) (d e : ℕ) →
 items_alike f least braces d e h = ap (λ n. items_known (nat_le least n) braces n) h ∙ items_by f (nat_le least e) braces e
 
 state_alike : (f : Names) (state : states.State) → state_known state ≡ before (state_of f state)
-state_alike f (state.Wants under) = stack_alike f under
-state_alike f (state.Has tree under) = stack_alike f under
-state_alike f (state.Opened at under) = stack_alike f under
-state_alike f (state.Typed all at under) = stack_alike f under
-state_alike f (state.Called function under) = stack_alike f under
+state_alike f (state.OfOperand at_operand.Wants under) = stack_alike f under
+state_alike f (state.OfOperand (at_operand.Has tree) under) = stack_alike f under
+state_alike f (state.OfOperand (at_operand.Opened at) under) = stack_alike f under
+state_alike f (state.OfOperand (at_operand.Typed all at) under) = stack_alike f under
+state_alike f (state.OfOperand (at_operand.Called function) under) = stack_alike f under
 state_alike f (state.File front) = refl
 state_alike f (state.Among front braces) = both_max _ _ _ _ (items_alike f 3 braces.value _ _ (items_depth_is f front)) (items_alike f 1 braces.value _ _ (items_depth_before_is f front))
-state_alike f (state.Begins under) = frames_alike f under.value
-state_alike f (state.Stands statement under) = frames_alike f under.value
-state_alike f (state.Closes statement under) = frames_alike f under.value
-state_alike f (state.Bounded bound under) = frames_alike f under.value
+state_alike f (state.OfStatement at_statement.Begins under) = frames_alike f under.value
+state_alike f (state.OfStatement (at_statement.Stands statement) under) = frames_alike f under.value
+state_alike f (state.OfStatement (at_statement.Closes statement) under) = frames_alike f under.value
+state_alike f (state.OfStatement (at_statement.Bounded bound) under) = frames_alike f under.value
 state_alike f (state.Opens test) = test_alike f test
-state_alike f (state.Chooses test at under) = frames_alike f under.value
-state_alike f (state.Answers at under) = frames_alike f under.value
+state_alike f (state.OfStatement (at_statement.Chooses test at) under) = frames_alike f under.value
+state_alike f (state.OfStatement (at_statement.Answers at) under) = frames_alike f under.value
 state_alike f (state.Defaults front braces at) = braces_same f braces.value _ _ (items_depth_is f front)
-state_alike f (state.Loops loop under) = frames_alike f under.value
-state_alike f (state.LoopStarts loop under) = frames_alike f under.value
-state_alike f (state.LoopTests head under) = frames_alike f under.value
-state_alike f (state.LoopSteps head under) = frames_alike f under.value
+state_alike f (state.OfStatement (at_statement.Loops loop) under) = frames_alike f under.value
+state_alike f (state.OfStatement (at_statement.LoopStarts loop) under) = frames_alike f under.value
+state_alike f (state.OfStatement (at_statement.LoopTests head) under) = frames_alike f under.value
+state_alike f (state.OfStatement (at_statement.LoopSteps head) under) = frames_alike f under.value
 state_alike f (state.Specified all at scope) = scope_alike f scope
-state_alike f (state.Named proto) = proto_alike f proto
-state_alike f (state.Further head) = head_alike f head
-state_alike f (state.Declares declarator) = declarator_alike f declarator
-state_alike f (state.Sizing declarator) = declarator_alike f declarator
-state_alike f (state.Shaped declarator shape) = declarator_alike f declarator
-state_alike f (state.Initial object) = head_alike f object.head
-state_alike f (state.Listed object front) = head_same f object.head _ _ (both_over _ _ _ _ (shape_depth_is f object.shape) (parts_depth_is f front))
-state_alike f (state.Ended head object) = head_alike f head
-state_alike f (state.ParamsOpen proto) = proto_alike f proto
-state_alike f (state.ParamNext proto front) = proto_same f proto _ _ (params_depth_is f front)
-state_alike f (state.ParamSpecified proto front all at) = proto_same f proto _ _ (params_depth_is f front)
-state_alike f (state.ParamsDone proto params) = proto_same f proto _ _ (params_depth_is f params)
+state_alike f (state.OfProto at_proto.Named proto) = proto_alike f proto
+state_alike f (state.OfHead at_head.Further head) = head_alike f head
+state_alike f (state.OfDeclarator at_declarator.Declares declarator) = declarator_alike f declarator
+state_alike f (state.OfDeclarator at_declarator.Sizing declarator) = declarator_alike f declarator
+state_alike f (state.OfDeclarator (at_declarator.Shaped shape) declarator) = declarator_alike f declarator
+state_alike f (state.OfReceiver at_receiver.Initial object) = head_alike f object.head
+state_alike f (state.OfReceiver (at_receiver.Listed front) object) = head_same f object.head _ _ (both_over _ _ _ _ (shape_depth_is f object.shape) (parts_depth_is f front))
+state_alike f (state.OfHead (at_head.Ended object) head) = head_alike f head
+state_alike f (state.OfProto at_proto.ParamsOpen proto) = proto_alike f proto
+state_alike f (state.OfProto (at_proto.ParamNext front) proto) = proto_same f proto _ _ (params_depth_is f front)
+state_alike f (state.OfProto (at_proto.ParamSpecified front all at) proto) = proto_same f proto _ _ (params_depth_is f front)
+state_alike f (state.OfProto (at_proto.ParamsDone params) proto) = proto_same f proto _ _ (params_depth_is f params)
 
 -- behind a shallow state a step leads to one that was shallow before its newest part
 pub known_next : (f : Names) (state next : states.State) (token : Spoken) → state_depth state ≤ 256 → step (state_of f state) token ≡ Goes (state_of f next) → state_known next ≤ 256

@@ -15,6 +15,12 @@ use Rattle.parse_begun.specs.declared.begun.Purpose.TheVariants as purpose
 use Rattle.parse_begun.specs.declared.begun.Stack as stacks
 use Rattle.parse_begun.specs.declared.begun.State as states
 use Rattle.parse_begun.specs.declared.begun.State.TheVariants as state
+use Rattle.parse_begun.specs.declared.begun.AtOperand.TheVariants as at_operand
+use Rattle.parse_begun.specs.declared.begun.AtStatement.TheVariants as at_statement
+use Rattle.parse_begun.specs.declared.begun.AtHead.TheVariants as at_head
+use Rattle.parse_begun.specs.declared.begun.AtReceiver.TheVariants as at_receiver
+use Rattle.parse_begun.specs.declared.begun.AtDeclarator.TheVariants as at_declarator
+use Rattle.parse_begun.specs.declared.begun.AtProto.TheVariants as at_proto
 use Rattle.parse_begun.specs.Depths.{braces_depth, scope_depth, head_depth, proto_depth, stack_depth}
 
 abbrev mutual
@@ -88,35 +94,35 @@ abbrev pub among_known : braces.Braces → ℕ → ℕ → ℕ
 among_known braces d e = max (items_known (nat_le 3 d) braces d) (items_known (nat_le 1 e) braces e)
 
 abbrev pub state_known : states.State → ℕ
-state_known (state.Wants under) = stack_known under
-state_known (state.Has tree under) = stack_known under
-state_known (state.Opened at under) = stack_known under
-state_known (state.Typed all at under) = stack_known under
-state_known (state.Called function under) = stack_known under
+state_known (state.OfOperand at_operand.Wants under) = stack_known under
+state_known (state.OfOperand (at_operand.Has tree) under) = stack_known under
+state_known (state.OfOperand (at_operand.Opened at) under) = stack_known under
+state_known (state.OfOperand (at_operand.Typed all at) under) = stack_known under
+state_known (state.OfOperand (at_operand.Called function) under) = stack_known under
 state_known (state.File front) = 0
 state_known (state.Among front braces) = among_known braces.value front.depth front.depth_before
-state_known (state.Begins under) = frames_known under.value
-state_known (state.Stands statement under) = frames_known under.value
-state_known (state.Closes statement under) = frames_known under.value
-state_known (state.Bounded bound under) = frames_known under.value
+state_known (state.OfStatement at_statement.Begins under) = frames_known under.value
+state_known (state.OfStatement (at_statement.Stands statement) under) = frames_known under.value
+state_known (state.OfStatement (at_statement.Closes statement) under) = frames_known under.value
+state_known (state.OfStatement (at_statement.Bounded bound) under) = frames_known under.value
 state_known (state.Opens test) = test_known test
-state_known (state.Chooses test at under) = frames_known under.value
-state_known (state.Answers at under) = frames_known under.value
+state_known (state.OfStatement (at_statement.Chooses test at) under) = frames_known under.value
+state_known (state.OfStatement (at_statement.Answers at) under) = frames_known under.value
 state_known (state.Defaults front braces at) = braces_depth braces.value front.depth
-state_known (state.Loops loop under) = frames_known under.value
-state_known (state.LoopStarts loop under) = frames_known under.value
-state_known (state.LoopTests head under) = frames_known under.value
-state_known (state.LoopSteps head under) = frames_known under.value
+state_known (state.OfStatement (at_statement.Loops loop) under) = frames_known under.value
+state_known (state.OfStatement (at_statement.LoopStarts loop) under) = frames_known under.value
+state_known (state.OfStatement (at_statement.LoopTests head) under) = frames_known under.value
+state_known (state.OfStatement (at_statement.LoopSteps head) under) = frames_known under.value
 state_known (state.Specified all at scope) = scope_known scope
-state_known (state.Named proto) = proto_known proto
-state_known (state.Further head) = head_known head
-state_known (state.Declares declarator) = declarator_known declarator
-state_known (state.Sizing declarator) = declarator_known declarator
-state_known (state.Shaped declarator shape) = declarator_known declarator
-state_known (state.Initial object) = head_known object.head
-state_known (state.Listed object front) = head_depth object.head (max object.shape.depth front.depth + 1)
-state_known (state.Ended head object) = head_known head
-state_known (state.ParamsOpen proto) = proto_known proto
-state_known (state.ParamNext proto front) = proto_depth proto front.depth
-state_known (state.ParamSpecified proto front all at) = proto_depth proto front.depth
-state_known (state.ParamsDone proto params) = proto_depth proto params.depth
+state_known (state.OfProto at_proto.Named proto) = proto_known proto
+state_known (state.OfHead at_head.Further head) = head_known head
+state_known (state.OfDeclarator at_declarator.Declares declarator) = declarator_known declarator
+state_known (state.OfDeclarator at_declarator.Sizing declarator) = declarator_known declarator
+state_known (state.OfDeclarator (at_declarator.Shaped shape) declarator) = declarator_known declarator
+state_known (state.OfReceiver at_receiver.Initial object) = head_known object.head
+state_known (state.OfReceiver (at_receiver.Listed front) object) = head_depth object.head (max object.shape.depth front.depth + 1)
+state_known (state.OfHead (at_head.Ended object) head) = head_known head
+state_known (state.OfProto at_proto.ParamsOpen proto) = proto_known proto
+state_known (state.OfProto (at_proto.ParamNext front) proto) = proto_depth proto front.depth
+state_known (state.OfProto (at_proto.ParamSpecified front all at) proto) = proto_depth proto front.depth
+state_known (state.OfProto (at_proto.ParamsDone params) proto) = proto_depth proto params.depth

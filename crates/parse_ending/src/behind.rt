@@ -12,7 +12,7 @@ ghost use Rattle.parse_lexeme.specs.Lexemes.{lexeme_of};
 use super::leave::go_on_with;
 use c_tree::expression::Specifier;
 use c_tree::token::TokenKind;
-use parse_begun::begun::{NameAt, Stack, State};
+use parse_begun::begun::{AtOperand, NameAt, Stack, State};
 use parse_begun::list::{and_specifier, no_parts, one_specifier};
 use parse_begun::part::Part;
 use parse_begun::refusal::Refusal;
@@ -28,11 +28,7 @@ pub fn begin_bracket(alloc: Global, word: Word, at: u32, under: Stack) -> Result
 {
     match specifier_said(&word.lexeme) {
         Some(first) => match one_specifier(alloc, first) {
-            Ok(specifiers) => Ok(State::Typed {
-                specifiers,
-                at,
-                under,
-            }),
+            Ok(specifiers) => Ok(State::OfOperand(AtOperand::Typed { specifiers, at }, under)),
             Err(refusal) => {
                 under.let_go();
                 Err(refusal)
@@ -58,11 +54,14 @@ fn end_type(
     match lexeme {
         Lexeme::Plain(TokenKind::RightParen) => {
             let under = under.boxed(alloc)?;
-            Ok(State::Wants(Stack::AfterCast {
-                specifiers,
-                at,
-                under,
-            }))
+            Ok(State::OfOperand(
+                AtOperand::Wants,
+                Stack::AfterCast {
+                    specifiers,
+                    at,
+                    under,
+                },
+            ))
         }
         _ => Err(under.refuse()),
     }
@@ -80,11 +79,7 @@ pub fn go_on_type(
 {
     match specifier_said(&lexeme) {
         Some(next) => match and_specifier(specifiers, next) {
-            Ok(specifiers) => Ok(State::Typed {
-                specifiers,
-                at,
-                under,
-            }),
+            Ok(specifiers) => Ok(State::OfOperand(AtOperand::Typed { specifiers, at }, under)),
             Err(refusal) => {
                 under.let_go();
                 Err(refusal)
@@ -115,7 +110,7 @@ pub fn begin_arguments(
     let Word { lexeme, at } = word;
     match lexeme {
         Lexeme::Plain(TokenKind::RightParen) => {
-            Ok(State::Has(call_of_none(alloc, function), under))
+            Ok(State::OfOperand(AtOperand::Has(call_of_none(alloc, function)), under))
         }
         _ => {
             let under = in_call(alloc, function, under)?;

@@ -12,7 +12,7 @@ ghost use Rattle.parse_begun.specs.declared.refusal.Refusal.TheVariants.{Memory}
 use super::take::take;
 use c_tree::expression::BinaryOperator;
 use c_tree::token::TokenKind;
-use parse_begun::begun::{NameAt, Stack, State};
+use parse_begun::begun::{AtOperand, NameAt, Stack, State};
 use parse_begun::list::and_expr;
 use parse_begun::part::{Part, Parts};
 use parse_begun::refusal::Refusal;
@@ -43,7 +43,7 @@ fn close_paren(
 {
     match role {
         Role::ClosesParen => match paren(alloc, tree, at) {
-            Ok(whole) => Ok(State::Has(whole, Box::into_inner(under))),
+            Ok(whole) => Ok(State::OfOperand(AtOperand::Has(whole), Box::into_inner(under))),
             Err(refusal) => Err(without(under, refusal)),
         },
         _ => {
@@ -66,7 +66,7 @@ fn close_index(
 {
     match role {
         Role::ClosesBracket => match index(alloc, array, tree) {
-            Ok(whole) => Ok(State::Has(whole, Box::into_inner(under))),
+            Ok(whole) => Ok(State::OfOperand(AtOperand::Has(whole), Box::into_inner(under))),
             Err(refusal) => Err(without(under, refusal)),
         },
         _ => {
@@ -99,11 +99,14 @@ fn close_argument(
 {
     match role {
         Role::ClosesParen => match call_with(function, front, tree) {
-            Ok(whole) => Ok(State::Has(whole, Box::into_inner(under))),
+            Ok(whole) => Ok(State::OfOperand(AtOperand::Has(whole), Box::into_inner(under))),
             Err(refusal) => Err(without(under, refusal)),
         },
         Role::Joins(BinaryOperator::Comma) => match and_expr(front, tree) {
-            Ok(front) => Ok(State::Wants(Stack::InCall(function, front, under))),
+            Ok(front) => Ok(State::OfOperand(
+                AtOperand::Wants,
+                Stack::InCall(function, front, under),
+            )),
             Err(refusal) => Err(without(under, refusal)),
         },
         _ => {
@@ -126,7 +129,10 @@ fn separate(
 {
     match role {
         Role::Separates => match tree.boxed(alloc) {
-            Ok(first) => Ok(State::Wants(Stack::AfterColon { test, first, under })),
+            Ok(first) => Ok(State::OfOperand(
+                AtOperand::Wants,
+                Stack::AfterColon { test, first, under },
+            )),
             Err(refusal) => {
                 test.let_go();
                 Err(without(under, refusal))

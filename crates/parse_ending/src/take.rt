@@ -9,7 +9,8 @@ use c_tree::declaration::Shape;
 use c_tree::statement::ForStart;
 use c_tree::token::TokenKind;
 use parse_begun::begun::{
-    Braces, Declarator, Frames, Loop, Purpose, Receiver, StartedFor, State, Test, TestedFor,
+    AtDeclarator, AtHead, AtReceiver, AtStatement, Braces, Declarator, Frames, Loop, Purpose,
+    Receiver, StartedFor, State, Test, TestedFor,
 };
 use parse_begun::list::{and_case, and_expr};
 use parse_begun::part::{ItemParts, MaybePart, Part, Parts, ShapePart, StartPart};
@@ -31,24 +32,23 @@ fn end_test(alloc: Global, test: Test, tree: Part) -> Result<State, Refusal>
                 at,
                 under,
             };
-            Ok(State::Begins(frame.boxed(alloc)?))
+            Ok(State::OfStatement(AtStatement::Begins, frame.boxed(alloc)?))
         }
         Test::OfWhile(head, under) => {
             let frame = Frames::InWhile(head, tree, under);
-            Ok(State::Begins(frame.boxed(alloc)?))
+            Ok(State::OfStatement(AtStatement::Begins, frame.boxed(alloc)?))
         }
         Test::OfDo(head, body, under) => match do_loop(alloc, head, Box::into_inner(body), tree) {
-            Ok(whole) => Ok(State::Closes(whole, under)),
+            Ok(whole) => Ok(State::OfStatement(AtStatement::Closes(whole), under)),
             Err(refusal) => {
                 Frames::let_go(under);
                 Err(refusal)
             }
         },
-        Test::OfChoice { at, under } => Ok(State::Chooses {
-            test: tree,
-            at,
+        Test::OfChoice { at, under } => Ok(State::OfStatement(
+            AtStatement::Chooses { test: tree, at },
             under,
-        }),
+        )),
     }
 }
 
@@ -59,7 +59,7 @@ fn take_evaluated(under: Box<Frames>, kind: TokenKind, tree: Part) -> Result<Sta
     ensures { (f : Names) → Gives f result (took (Evaluates (frames_of f under.value)) (Plain kind) (part_of f tree)) }
 {
     match kind {
-        TokenKind::Semicolon => Ok(State::Stands(evaluate(tree), under)),
+        TokenKind::Semicolon => Ok(State::OfStatement(AtStatement::Stands(evaluate(tree)), under)),
         _ => {
             tree.let_go();
             Err(Frames::refuse(under))
@@ -73,7 +73,10 @@ fn take_returned(under: Box<Frames>, kind: TokenKind, tree: Part, at: u32) -> Re
     ensures { (f : Names) → Gives f result (took (Returns at (frames_of f under.value)) (Plain kind) (part_of f tree)) }
 {
     match kind {
-        TokenKind::Semicolon => Ok(State::Stands(return_value(tree, at), under)),
+        TokenKind::Semicolon => Ok(State::OfStatement(
+            AtStatement::Stands(return_value(tree, at)),
+            under,
+        )),
         _ => {
             tree.let_go();
             Err(Frames::refuse(under))
@@ -131,7 +134,7 @@ fn take_started(
                 start: ForStart::Expression(tree.tree),
                 depth: tree.depth,
             };
-            Ok(State::LoopTests(head.started(start), under))
+            Ok(State::OfStatement(AtStatement::LoopTests(head.started(start)), under))
         }
         _ => {
             tree.let_go();
@@ -152,7 +155,10 @@ fn take_guarding(
 {
     let head = Box::into_inner(head);
     match kind {
-        TokenKind::Semicolon => Ok(State::LoopSteps(head.tested(some(tree)), under)),
+        TokenKind::Semicolon => Ok(State::OfStatement(
+            AtStatement::LoopSteps(head.tested(some(tree))),
+            under,
+        )),
         _ => {
             tree.let_go();
             head.let_go();
@@ -193,7 +199,7 @@ fn take_size(declarator: Box<Declarator>, kind: TokenKind, tree: Part) -> Result
                 shape: Shape::Sized(tree.tree),
                 depth: tree.depth,
             };
-            Ok(State::Shaped(declarator, shape))
+            Ok(State::OfDeclarator(AtDeclarator::Shaped(shape), declarator))
         }
         _ => {
             tree.let_go();
@@ -216,14 +222,14 @@ fn take_listed(
     let object = Box::into_inner(object);
     match kind {
         TokenKind::Comma => match and_expr(front, tree) {
-            Ok(front) => Ok(State::Listed(object, front)),
+            Ok(front) => Ok(State::OfReceiver(AtReceiver::Listed(front), object)),
             Err(refusal) => {
                 object.let_go();
                 Err(refusal)
             }
         },
         TokenKind::RightBrace => match object_with(object.name, object.shape, front, tree) {
-            Ok(whole) => Ok(State::Ended(object.head, whole)),
+            Ok(whole) => Ok(State::OfHead(AtHead::Ended(whole), object.head)),
             Err(refusal) => {
                 object.head.let_go();
                 Err(refusal)

@@ -13,7 +13,7 @@ use c_tree::declaration::{Declaration, Initial, Object, Param};
 use c_tree::expression::{NameId, Specifier};
 use c_tree::statement::ForStart;
 use c_tree::token::TokenKind;
-use parse_begun::begun::{Head, NameAt, Scope, State};
+use parse_begun::begun::{AtHead, AtStatement, Head, NameAt, Scope, State};
 use parse_begun::list::{and_declaration, and_declaring, and_expr, and_object};
 use parse_begun::part::{
     DeclarationPart, ObjectPart, ObjectParts, ParamPart, ParamParts, Part, Parts, ShapePart,
@@ -189,7 +189,7 @@ pub fn end_declaration(scope: Scope, declaration: DeclarationPart) -> Result<Sta
                 start: ForStart::Declaration(declaration.declaration),
                 depth: declaration.depth,
             };
-            Ok(State::LoopTests(head.started(start), under))
+            Ok(State::OfStatement(AtStatement::LoopTests(head.started(start)), under))
         }
     }
 }
@@ -199,12 +199,15 @@ fn and_further(head: Head, object: ObjectPart) -> Result<State, Refusal>
     ensures { (f : Names) → Gives f result (object_ends (Plain Comma) (head_of f head) (object_part_of f object)) }
 {
     match and_object(head.objects, object) {
-        Ok(objects) => Ok(State::Further(Head {
-            specifiers: head.specifiers,
-            objects,
-            at: head.at,
-            scope: head.scope,
-        })),
+        Ok(objects) => Ok(State::OfHead(
+            AtHead::Further,
+            Head {
+                specifiers: head.specifiers,
+                objects,
+                at: head.at,
+                scope: head.scope,
+            },
+        )),
         Err(refusal) => {
             head.scope.let_go();
             Err(refusal)

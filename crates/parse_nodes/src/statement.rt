@@ -10,7 +10,7 @@ ghost use Rattle.parse_begun.specs.View.{Gives, Names, frames_of, maybe_of, star
 ghost use Rattle.parse_begun.specs.declared.refusal.Refusal.TheVariants.{Memory};
 
 use c_tree::statement::{ForHead, Statement};
-use parse_begun::begun::{Frames, HeadedFor, Loop, State};
+use parse_begun::begun::{AtStatement, Frames, HeadedFor, Loop, State};
 use parse_begun::part::{ItemParts, Part, StatementPart};
 use parse_begun::refusal::Refusal;
 use std::alloc::Global;
@@ -176,7 +176,10 @@ pub fn begin_for_body(alloc: Global, head: HeadedFor, under: Box<Frames>) -> Res
     ensures { (f : Names) → Gives f result (Goes (Begins (InFor head.bound (start_part_of f head.start) (maybe_of f head.test) (maybe_of f head.step) head.at (frames_of f under.value)))) }
 {
     match head.boxed(alloc) {
-        Ok(head) => Ok(State::Begins(Frames::InFor(head, under).boxed(alloc)?)),
+        Ok(head) => Ok(State::OfStatement(
+            AtStatement::Begins,
+            Frames::InFor(head, under).boxed(alloc)?,
+        )),
         Err(refusal) => {
             Frames::let_go(under);
             Err(refusal)

@@ -10,7 +10,7 @@ ghost use Rattle.parse_begun.specs.View.{Gives, Names, part_of, stack_of};
 use super::role::{Role, operator_level, tree_level};
 use c_tree::expression::{AssignOperator, BinaryOperator, Expr, PostfixOperator, PrefixOperator};
 use c_tree::token::TokenKind;
-use parse_begun::begun::{NameAt, Stack, State};
+use parse_begun::begun::{AtOperand, NameAt, Stack, State};
 use parse_begun::part::Part;
 use parse_begun::refusal::Refusal;
 use parse_lexeme::{Lexeme, Word};
@@ -27,11 +27,14 @@ fn after_prefix(
     ensures { (f : Names) → Gives f result (Goes (Wants (AfterPrefix operator at (stack_of f under)))) }
 {
     let under = under.boxed(alloc)?;
-    Ok(State::Wants(Stack::AfterPrefix {
-        operator,
-        at,
-        under,
-    }))
+    Ok(State::OfOperand(
+        AtOperand::Wants,
+        Stack::AfterPrefix {
+            operator,
+            at,
+            under,
+        },
+    ))
 }
 
 /// A keyword or punctuator begins an operand.
@@ -39,7 +42,7 @@ fn begin_plain(alloc: Global, kind: TokenKind, at: u32, under: Stack) -> Result<
     ensures { (f : Names) → Gives f result (begin (Plain kind) at (stack_of f under)) }
 {
     match kind {
-        TokenKind::LeftParen => Ok(State::Opened { at, under }),
+        TokenKind::LeftParen => Ok(State::OfOperand(AtOperand::Opened { at }, under)),
         TokenKind::PlusPlus => after_prefix(alloc, PrefixOperator::Increment, at, under),
         TokenKind::MinusMinus => after_prefix(alloc, PrefixOperator::Decrement, at, under),
         TokenKind::Minus => after_prefix(alloc, PrefixOperator::Negate, at, under),
@@ -56,9 +59,18 @@ pub fn begin_operand(alloc: Global, word: Word, under: Stack) -> Result<State, R
 {
     let Word { lexeme, at } = word;
     match lexeme {
-        Lexeme::Name(id) => Ok(State::Has(name(NameAt { name: id, at }), under)),
-        Lexeme::Integer(constant) => Ok(State::Has(number(constant, at), under)),
-        Lexeme::Character(value) => Ok(State::Has(character(value, at), under)),
+        Lexeme::Name(id) => Ok(State::OfOperand(
+            AtOperand::Has(name(NameAt { name: id, at })),
+            under,
+        )),
+        Lexeme::Integer(constant) => Ok(State::OfOperand(
+            AtOperand::Has(number(constant, at)),
+            under,
+        )),
+        Lexeme::Character(value) => Ok(State::OfOperand(
+            AtOperand::Has(character(value, at)),
+            under,
+        )),
         Lexeme::Plain(kind) => begin_plain(alloc, kind, at, under),
         Lexeme::Pragma(_, _) => Err(under.refuse()),
     }
@@ -74,11 +86,14 @@ fn join(alloc: Global, operator: BinaryOperator, tree: Part, under: Stack) -> Re
         return Err(under.refuse());
     }
     match under.boxed(alloc) {
-        Ok(under) => Ok(State::Wants(Stack::AfterJoin {
-            operator,
-            left: tree,
-            under,
-        })),
+        Ok(under) => Ok(State::OfOperand(
+            AtOperand::Wants,
+            Stack::AfterJoin {
+                operator,
+                left: tree,
+                under,
+            },
+        )),
         Err(refusal) => {
             tree.let_go();
             Err(refusal)
@@ -101,11 +116,14 @@ fn assign_to(
         return Err(under.refuse());
     }
     match under.boxed(alloc) {
-        Ok(under) => Ok(State::Wants(Stack::AfterAssign {
-            operator,
-            target: tree,
-            under,
-        })),
+        Ok(under) => Ok(State::OfOperand(
+            AtOperand::Wants,
+            Stack::AfterAssign {
+                operator,
+                target: tree,
+                under,
+            },
+        )),
         Err(refusal) => {
             tree.let_go();
             Err(refusal)
@@ -123,7 +141,10 @@ fn ask(alloc: Global, tree: Part, under: Stack) -> Result<State, Refusal>
         return Err(under.refuse());
     }
     match under.boxed(alloc) {
-        Ok(under) => Ok(State::Wants(Stack::AfterQuestion { test: tree, under })),
+        Ok(under) => Ok(State::OfOperand(
+            AtOperand::Wants,
+            Stack::AfterQuestion { test: tree, under },
+        )),
         Err(refusal) => {
             tree.let_go();
             Err(refusal)
@@ -147,7 +168,7 @@ fn step_behind(
         return Err(under.refuse());
     }
     match postfix(alloc, operator, tree) {
-        Ok(whole) => Ok(State::Has(whole, under)),
+        Ok(whole) => Ok(State::OfOperand(AtOperand::Has(whole), under)),
         Err(refusal) => {
             under.let_go();
             Err(refusal)
@@ -166,7 +187,7 @@ fn open_call(tree: Part, under: Stack) -> Result<State, Refusal>
                 at: *at,
             };
             tree.let_go();
-            Ok(State::Called(function, under))
+            Ok(State::OfOperand(AtOperand::Called(function), under))
         }
         _ => {
             tree.let_go();
@@ -187,7 +208,7 @@ fn open_index(alloc: Global, tree: Part, under: Stack) -> Result<State, Refusal>
             };
             tree.let_go();
             let under = under.boxed(alloc)?;
-            Ok(State::Wants(Stack::InIndex(array, under)))
+            Ok(State::OfOperand(AtOperand::Wants, Stack::InIndex(array, under)))
         }
         _ => {
             tree.let_go();

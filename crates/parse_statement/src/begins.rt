@@ -8,7 +8,7 @@ ghost use Rattle.parse_begun.specs.View.{Gives, Names, frames_of};
 use c_tree::pragma::Pragma;
 use c_tree::statement::Statement;
 use c_tree::token::TokenKind;
-use parse_begun::begun::{Braces, Frames, Loop, Purpose, Stack, State, Test};
+use parse_begun::begun::{AtStatement, Braces, Frames, Loop, Purpose, Stack, State, Test};
 use parse_begun::list::no_items;
 use parse_begun::refusal::Refusal;
 use parse_lexeme::{Lexeme, Word};
@@ -35,7 +35,10 @@ fn begin_plain_statement(
     ensures { (f : Names) → Gives f result (begin_statement (Plain kind) at (frames_of f under.value)) }
 {
     match kind {
-        TokenKind::Semicolon => Ok(State::Stands(leaf(Statement::Empty { at }), under)),
+        TokenKind::Semicolon => Ok(State::OfStatement(
+            AtStatement::Stands(leaf(Statement::Empty { at })),
+            under,
+        )),
         TokenKind::LeftBrace => {
             let braces = Braces::OfBlock { at, under }.boxed(alloc)?;
             Ok(State::Among(no_items(alloc), braces))
@@ -44,13 +47,19 @@ fn begin_plain_statement(
         TokenKind::While => Ok(State::Opens(Test::OfWhile(unbounded(at), under))),
         TokenKind::Do => {
             let frame = Frames::InDo(unbounded(at), under).boxed(alloc)?;
-            Ok(State::Begins(frame))
+            Ok(State::OfStatement(AtStatement::Begins, frame))
         }
-        TokenKind::For => Ok(State::Loops(unbounded(at), under)),
+        TokenKind::For => Ok(State::OfStatement(AtStatement::Loops(unbounded(at)), under)),
         TokenKind::Switch => Ok(State::Opens(Test::OfChoice { at, under })),
-        TokenKind::Break => Ok(State::Closes(leaf(Statement::Break { at }), under)),
-        TokenKind::Continue => Ok(State::Closes(leaf(Statement::Continue { at }), under)),
-        TokenKind::Return => Ok(State::Answers { at, under }),
+        TokenKind::Break => Ok(State::OfStatement(
+            AtStatement::Closes(leaf(Statement::Break { at })),
+            under,
+        )),
+        TokenKind::Continue => Ok(State::OfStatement(
+            AtStatement::Closes(leaf(Statement::Continue { at })),
+            under,
+        )),
+        TokenKind::Return => Ok(State::OfStatement(AtStatement::Answers { at }, under)),
         _ => {
             let lexeme = Lexeme::Plain(kind);
             let under = Stack::Base(Purpose::Evaluates(under));
@@ -69,8 +78,14 @@ fn begin_noted_statement(
     ensures { (f : Names) → Gives f result (begin_statement (said.Pragma kind text) at (frames_of f under.value)) }
 {
     match kind {
-        TokenKind::Marker => Ok(State::Stands(leaf(Statement::Marker(Pragma { text, at })), under)),
-        TokenKind::LoopBound => Ok(State::Bounded(Pragma { text, at }, under)),
+        TokenKind::Marker => Ok(State::OfStatement(
+            AtStatement::Stands(leaf(Statement::Marker(Pragma { text, at }))),
+            under,
+        )),
+        TokenKind::LoopBound => Ok(State::OfStatement(
+            AtStatement::Bounded(Pragma { text, at }),
+            under,
+        )),
         _ => Err(Frames::refuse(under)),
     }
 }
@@ -107,9 +122,9 @@ pub fn begin_bounded_loop(
         Lexeme::Plain(TokenKind::While) => Ok(State::Opens(Test::OfWhile(head, under))),
         Lexeme::Plain(TokenKind::Do) => {
             let frame = Frames::InDo(head, under).boxed(alloc)?;
-            Ok(State::Begins(frame))
+            Ok(State::OfStatement(AtStatement::Begins, frame))
         }
-        Lexeme::Plain(TokenKind::For) => Ok(State::Loops(head, under)),
+        Lexeme::Plain(TokenKind::For) => Ok(State::OfStatement(AtStatement::Loops(head), under)),
         _ => {
             head.let_go();
             Err(Frames::refuse(under))

@@ -7,7 +7,9 @@ ghost use Rattle.parse_begun.specs.View.{Gives, Names, frames_of, maybe_of, star
 use super::said::says;
 use c_tree::statement::{ForStart, Statement};
 use c_tree::token::TokenKind;
-use parse_begun::begun::{Frames, Loop, Purpose, Scope, Stack, StartedFor, State, Test, TestedFor};
+use parse_begun::begun::{
+    AtOperand, AtStatement, Frames, Loop, Purpose, Scope, Stack, StartedFor, State, Test, TestedFor,
+};
 use parse_begun::list::one_specifier;
 use parse_begun::part::{MaybePart, StartPart, StatementPart};
 use parse_begun::refusal::Refusal;
@@ -26,7 +28,10 @@ pub fn close_statement(
     ensures { (f : Names) → Gives f result (semicolon (lexeme_of f lexeme) (Stands (statement_part_of f statement) (frames_of f under.value))) }
 {
     match lexeme {
-        Lexeme::Plain(TokenKind::Semicolon) => Ok(State::Stands(statement, under)),
+        Lexeme::Plain(TokenKind::Semicolon) => Ok(State::OfStatement(
+            AtStatement::Stands(statement),
+            under,
+        )),
         _ => {
             statement.let_go();
             Err(Frames::refuse(under))
@@ -39,7 +44,10 @@ pub fn open_test(lexeme: Lexeme, test: Test) -> Result<State, Refusal>
     ensures { (f : Names) → Gives f result (paren (lexeme_of f lexeme) (Wants (Base (Tests (test_of f test))))) }
 {
     match lexeme {
-        Lexeme::Plain(TokenKind::LeftParen) => Ok(State::Wants(Stack::Base(Purpose::Tests(test)))),
+        Lexeme::Plain(TokenKind::LeftParen) => Ok(State::OfOperand(
+            AtOperand::Wants,
+            Stack::Base(Purpose::Tests(test)),
+        )),
         _ => Err(test.refuse()),
     }
 }
@@ -55,7 +63,7 @@ pub fn begin_answer(
 {
     if says(&word.lexeme, TokenKind::Semicolon) {
         let answer = leaf(Statement::Return { value: None, at });
-        return Ok(State::Stands(answer, under));
+        return Ok(State::OfStatement(AtStatement::Stands(answer), under));
     }
     begin_operand(alloc, word, Stack::Base(Purpose::Returns { at, under }))
 }
@@ -65,7 +73,10 @@ pub fn open_for(lexeme: Lexeme, head: Loop, under: Box<Frames>) -> Result<State,
     ensures { (f : Names) → Gives f result (paren (lexeme_of f lexeme) (LoopStarts head.bound head.at (frames_of f under.value))) }
 {
     match lexeme {
-        Lexeme::Plain(TokenKind::LeftParen) => Ok(State::LoopStarts(head, under)),
+        Lexeme::Plain(TokenKind::LeftParen) => Ok(State::OfStatement(
+            AtStatement::LoopStarts(head),
+            under,
+        )),
         _ => {
             head.let_go();
             Err(Frames::refuse(under))
@@ -87,7 +98,7 @@ fn begin_loop_value(
             start: ForStart::Absent,
             depth: 0,
         };
-        return Ok(State::LoopTests(head.started(start), under));
+        return Ok(State::OfStatement(AtStatement::LoopTests(head.started(start)), under));
     }
     begin_operand(alloc, word, Stack::Base(Purpose::Starts(head, under)))
 }
@@ -138,7 +149,7 @@ pub fn begin_loop_test(
     ensures { (f : Names) → Gives f result (loop_tests (lexeme_of f word.lexeme) word.at head.bound (start_part_of f head.start) head.at (frames_of f under.value)) }
 {
     if says(&word.lexeme, TokenKind::Semicolon) {
-        return Ok(State::LoopSteps(head.tested(no_expression()), under));
+        return Ok(State::OfStatement(AtStatement::LoopSteps(head.tested(no_expression())), under));
     }
     match head.boxed(alloc) {
         Ok(head) => begin_operand(alloc, word, Stack::Base(Purpose::Guards(head, under))),

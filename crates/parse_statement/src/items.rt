@@ -11,7 +11,7 @@ ghost use Rattle.parse_begun.specs.View.{Gives, Names, braces_of, externals_of, 
 use super::begins::begin_any_statement;
 use c_tree::pragma::Pragma;
 use c_tree::token::TokenKind;
-use parse_begun::begun::{Braces, Frames, Purpose, Scope, Stack, State};
+use parse_begun::begun::{AtOperand, AtStatement, Braces, Frames, Purpose, Scope, Stack, State};
 use parse_begun::list::{and_default, and_restricting, and_restriction, no_items, one_specifier};
 use parse_begun::part::{ExternalParts, ItemParts, Part};
 use parse_begun::refusal::Refusal;
@@ -50,9 +50,12 @@ fn close_braces(braces: Braces, front: ItemParts) -> Result<State, Refusal>
     ensures { (f : Names) → Gives f result (Goes (close (braces_of f braces) (item_parts_of f front))) }
 {
     match braces {
-        Braces::OfBlock { at, under } => Ok(State::Stands(block(front, at), under)),
+        Braces::OfBlock { at, under } => Ok(State::OfStatement(
+            AtStatement::Stands(block(front, at)),
+            under,
+        )),
         Braces::OfSwitch { test, at, under } => {
-            Ok(State::Stands(switch(test, front, at), under))
+            Ok(State::OfStatement(AtStatement::Stands(switch(test, front, at)), under))
         }
         Braces::OfFunction(header) => {
             let front = and_function(header, front)?;
@@ -68,7 +71,7 @@ fn begin_case(braces: Box<Braces>, front: ItemParts, at: u32) -> Result<State, R
     match &*braces {
         Braces::OfSwitch { .. } => {
             let label = Purpose::Labels { front, braces, at };
-            Ok(State::Wants(Stack::Base(label)))
+            Ok(State::OfOperand(AtOperand::Wants, Stack::Base(label)))
         }
         _ => {
             front.let_go();

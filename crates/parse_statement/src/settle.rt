@@ -9,7 +9,7 @@ ghost use Rattle.parse_begun.specs.View.{Gives, Names, braces_of, frames_of, ite
 use super::items::go_on_among;
 use super::said::says;
 use c_tree::token::TokenKind;
-use parse_begun::begun::{Braces, Frames, Loop, State, Test};
+use parse_begun::begun::{AtStatement, Braces, Frames, Loop, State, Test};
 use parse_begun::list::and_statement;
 use parse_begun::part::{ItemParts, Part, StatementPart};
 use parse_begun::refusal::Refusal;
@@ -89,7 +89,7 @@ fn branch_behind(
                 at,
                 under,
             };
-            Ok(State::Begins(frame.boxed(alloc)?))
+            Ok(State::OfStatement(AtStatement::Begins, frame.boxed(alloc)?))
         }
         Err(refusal) => {
             test.let_go();
