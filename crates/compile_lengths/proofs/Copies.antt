@@ -1,27 +1,21 @@
 -- How long the copy lines of a source are.
-use Rattle.std.proofs.Common.{◌≡◌, ℕ, zero, suc, ◌+◌, ◌*◌, ◌≤◌, List, [], ◌∷◌, ◌++◌, length, map, length-append, refl, ap, ◌∙◌, subst, arith, All}
-use Rattle.std.specs.Prelude.{slice_index_or, sum_by}
-use Rattle.std.specs.List.{flat_map, range_with_len}
-use Rattle.std.proofs.lemmas.List.{length-map}
-use Rattle.std.proofs.lemmas.List.Concat.{flat_map-cons}
+use Rattle.std.proofs.Common.{◌≡◌, ℕ, ◌+◌, ◌*◌, ◌≤◌, List, [], ◌∷◌, length, refl, ap, arith, All}
+use Rattle.std.specs.Prelude.{sum_by}
+use Rattle.std.specs.List.{flat_map}
 use Rattle.std.proofs.lemmas.List.Elements.{All-head, All-tail}
 use Rattle.std.proofs.lemmas.List.Sorted.{length_permutation}
-use Rattle.std.proofs.lemmas.List.Sums.{sum_by-append, sum_by-cons}
+use Rattle.std.proofs.lemmas.List.Sums.{sum_by-cons}
 use Rattle.c_tree.specs.declared.expression.NameId.{NameId}
-use Rattle.code_flow_system.specs.declared.claims.Never.{Never}
-use Rattle.high_ir.specs.declared.copies.NeverMark.{NeverMark}
 use Rattle.high_pass.specs.Listing.{HasEachBelow, Listing, MarkEntry, listed_marks}
-use Rattle.high_pass.proofs.Counting.{sum_by-HasEachBelow, sum_by-flat_map}
-use Rattle.compile_claims.specs.Named.{never_at, nevers_at}
+use Rattle.compile_claims.specs.Named.{nevers_at}
 use Rattle.compile_claims.specs.Places.{places_at}
 use Rattle.compile_facts.specs.Told.{places_many}
 use Rattle.compile_lines.specs.CopyLines.{AreLinesOf}
 use Rattle.compile_names.specs.Laws.{IsNamed}
 use Rattle.report_sizes.specs.Room.{copies_room}
 use Rattle.report_text.specs.declared.entries.CopyLine.{CopyLine}
-use Rattle.simulation_marks.proofs.Sums.{summed, upto}
+use Rattle.compile_counts.proofs.Marks.{entry_places, marks_few, marks_places}
 use Rattle.compile_lengths.proofs.Names.{ids_length}
-use Rattle.compile_lengths.proofs.Sums.{first_numbers}
 
 -- their names
 
@@ -32,17 +26,6 @@ names_in (c ∷ cs) = length c.name + names_in cs
 room_split : (cs : List CopyLine) → copies_room cs ≡ 6 * length cs + (names_in cs + 9 * places_many cs)
 room_split [] = omega arith
 room_split (c ∷ cs) = let rest = room_split cs in let all = sum_by-cons (λ (x : CopyLine). length x.places) c cs in omega (arith, rest, all)
-
--- a row of numbers, by two names
-ranged : (g : ℕ → ℕ) (a n : ℕ) → sum_by g (range_with_len a n) ≡ summed g (upto a n)
-ranged g a zero = refl
-ranged g a (suc n) =
-    let rest : sum_by g (range_with_len (a + 1) n) ≡ summed g (upto (suc a) n) = subst (λ k. sum_by g (range_with_len k n) ≡ summed g (upto (suc a) n)) (next a) (ranged g (suc a) n) in
-    let all : sum_by g (range_with_len a (suc n)) ≡ g a + sum_by g (range_with_len (a + 1) n) = sum_by-cons g a (range_with_len (a + 1) n) in
-    all ∙ ap (λ s. g a + s) rest
-  where
-    next : (k : ℕ) → suc k ≡ k + 1
-    next k = omega arith
 
 module _ (names : List (List ℕ)) (places : List (List ℕ)) where
   names_same : (ids : List NameId) (es : List MarkEntry) (cs : List CopyLine) → AreLinesOf names places ids es cs → names_in cs ≡ ids_length names ids
@@ -63,69 +46,25 @@ module _ (names : List (List ℕ)) (places : List (List ℕ)) where
       let rest = lines_few ids es cs h.1 (All-tail (IsNamed names) id ids named) in
       omega (arith, some, rest)
 
-  -- a line has the addresses of its marks
-  abbrev places_of : ℕ → ℕ
-  places_of k = length (slice_index_or places k [])
-
-  marks_places : (ms : List ℕ) → length (flat_map (places_at places) ms) ≡ sum_by places_of ms
-  marks_places [] = refl
-  marks_places (m ∷ ms) =
-      let parts : length (flat_map (places_at places) (m ∷ ms)) ≡ length (places_at places m ++ flat_map (places_at places) ms) = ap (λ (l : List ℕ). length l) (flat_map-cons (places_at places) m ms) in
-      let both = length-append (places_at places m) (flat_map (places_at places) ms) in
-      let own : length (places_at places m) ≡ places_of m = refl in
-      let rest = marks_places ms in
-      let all = sum_by-cons places_of m ms in
-      omega (arith, parts, both, own, rest, all)
-
-  abbrev entry_places : MarkEntry → ℕ
-  entry_places e = sum_by places_of e.new
-
-  places_few : (ids : List NameId) (es : List MarkEntry) (cs : List CopyLine) → AreLinesOf names places ids es cs → places_many cs ≤ sum_by entry_places es
+  places_few : (ids : List NameId) (es : List MarkEntry) (cs : List CopyLine) → AreLinesOf names places ids es cs → places_many cs ≤ sum_by (entry_places places) es
   places_few [] es [] h = omega arith
   places_few [] es (c ∷ cs) h = absurd h
   places_few (id ∷ ids) [] cs h = absurd h
   places_few (id ∷ ids) (e ∷ es) [] h = absurd h
   places_few (id ∷ ids) (e ∷ es) (c ∷ cs) h =
       let one = length_permutation (flat_map (places_at places) e.new) c.places h.0.places_are in
-      let own = marks_places e.new in
+      let own = marks_places places e.new in
       let rest = places_few ids es cs h.1 in
       let line = sum_by-cons (λ (x : CopyLine). length x.places) c cs in
-      let all = sum_by-cons entry_places e es in
+      let all = sum_by-cons (entry_places places) e es in
       omega (arith, one, own, rest, line, all)
-
-  -- one for each address of a never mark
-  all_nevers : (vs : List NeverMark) → length (flat_map (nevers_at places) vs) ≡ sum_by places_of (map (λ (v : NeverMark). v.mark) vs)
-  all_nevers [] = refl
-  all_nevers (v ∷ vs) =
-      let parts : length (flat_map (nevers_at places) (v ∷ vs)) ≡ length (nevers_at places v ++ flat_map (nevers_at places) vs) = ap (λ (l : List Never). length l) (flat_map-cons (nevers_at places) v vs) in
-      let both = length-append (nevers_at places v) (flat_map (nevers_at places) vs) in
-      let own = length-map (places_at places v.mark) (never_at v) in
-      let rest = all_nevers vs in
-      let all = sum_by-cons places_of v.mark (map (λ (x : NeverMark). x.mark) vs) in
-      omega (arith, parts, both, own, rest, all)
-
-  -- no mark is listed twice
-  marks_few : (c : Listing) (n : ℕ) → HasEachBelow n (listed_marks c) → sum_by entry_places c.marks + length (flat_map (nevers_at places) c.nevers) ≤ sum_by (λ (l : List ℕ). length l) places
-  marks_few c n each =
-      let copies = flat_map (λ (e : MarkEntry). e.new) c.marks in
-      let nevers = map (λ (v : NeverMark). v.mark) c.nevers in
-      let flat = sum_by-flat_map places_of (λ (e : MarkEntry). e.new) c.marks in
-      let same = all_nevers c.nevers in
-      let both = sum_by-append places_of copies nevers in
-      let once = sum_by-HasEachBelow places_of n (listed_marks c) each in
-      let row = ranged places_of 0 n in
-      let all : summed places_of (upto 0 n) ≤ sum_by (λ (l : List ℕ). length l) places = first_numbers (λ (l : List ℕ). length l) [] refl n places in
-      omega (arith, flat, same, both, once, row, all)
-
-  pub nevers_few : (c : Listing) (n : ℕ) → HasEachBelow n (listed_marks c) → length (flat_map (nevers_at places) c.nevers) ≤ sum_by (λ (l : List ℕ). length l) places
-  nevers_few c n each = let few = marks_few c n each in omega (arith, few)
 
   -- the addresses of copies and of never marks, together
   pub addresses_few : (c : Listing) (n : ℕ) → HasEachBelow n (listed_marks c) → (ids : List NameId) (cs : List CopyLine) → AreLinesOf names places ids c.marks cs
       → places_many cs + length (flat_map (nevers_at places) c.nevers) ≤ sum_by (λ (l : List ℕ). length l) places
   addresses_few c n each ids cs h =
       let few = places_few ids c.marks cs h in
-      let all = marks_few c n each in
+      let all = marks_few places c n each in
       omega (arith, few, all)
 
   pub copies_few : (ids : List NameId) (es : List MarkEntry) (cs : List CopyLine) → AreLinesOf names places ids es cs → All (IsNamed names) ids → copies_room cs ≤ 7 * ids_length names ids + 9 * places_many cs

@@ -1,10 +1,7 @@
-pub mod Sums
 pub mod Distinct
 pub mod Names
 pub mod Copies
 pub mod Shares
-pub mod Images
 pub mod Ends
 pub mod Facts
-pub mod Counts
 pub mod Texts

@@ -21,7 +21,7 @@ use Rattle.types_tree.specs.Tree.{Program, function_name}
 use Rattle.plan_formed.proofs.Facts.{Says, says}
 use Rattle.lower_budget.proofs.Programs.{distinct_less, total, total_at}
 use Rattle.lower_formed.proofs.Distinct.{Distinct}
-use Rattle.compile_told.proofs.Naming.{functions_apart}
+use Rattle.compile_names.proofs.Naming.{functions_apart}
 use Rattle.compile_lengths.proofs.Distinct.{AreApart, apart_distinct, once_distinct}
 
 -- names by their numbers

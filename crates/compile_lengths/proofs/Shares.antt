@@ -33,10 +33,10 @@ use Rattle.report_sizes.specs.Room.{name_length, shares_room}
 use Rattle.report_text.specs.declared.entries.Share.{Share}
 use Rattle.compile_lines.specs.Shares.{name_by, named, share_of}
 use Rattle.compile_reports.specs.Reported.{AreShared}
-use Rattle.compile_told.proofs.Lists.{map_got}
+use Rattle.compile_names.proofs.Lists.{map_got}
 use Rattle.compile_lengths.proofs.Distinct.{AreApart, apart_distinct}
 use Rattle.compile_lengths.proofs.Names.{id_length, ids_length}
-use Rattle.compile_lengths.proofs.Sums.{by_numbers, summed_last}
+use Rattle.compile_counts.proofs.Sums.{by_numbers, summed_last}
 
 -- those with sums, or none
 shared_few : (k : Kind) (all shares : List Share) → AreShared k all shares → shares_room shares ≤ shares_room all

@@ -1,5 +1,5 @@
 -- The texts of what a source becomes are short.
-use Rattle.std.proofs.Common.{◌≡◌, ℕ, ◌+◌, ◌*◌, ◌^◌, ◌<◌, ◌≤◌, List, ◌++◌, length, sym, ap, ◌∙◌, subst, arith, All}
+use Rattle.std.proofs.Common.{◌≡◌, ℕ, ◌+◌, ◌*◌, ◌≤◌, List, ◌++◌, length, sym, ap, ◌∙◌, subst, arith, All}
 use Rattle.std.specs.Prelude.{sum_by}
 use Rattle.std.specs.List.{flat_map}
 use Rattle.std.proofs.lemmas.List.{length-map}
@@ -7,7 +7,7 @@ use Rattle.std.proofs.lemmas.List.Sorted.{length_permutation}
 use Rattle.rv_core.specs.Images.{AreLoadable, Image}
 use Rattle.rv_core.specs.Table.{Table}
 use Rattle.elf_image.specs.Text.{text_of}
-use Rattle.code_flow_system.specs.Claims.{Claims, claim_count}
+use Rattle.code_flow_system.specs.Claims.{Claims}
 use Rattle.code_flow_sizes.specs.Laws.{EndsWithin, HasFew, Words, count}
 use Rattle.code_flow_sizes.proofs.Few.{has_few}
 use Rattle.facts_definitions.specs.declared.facts.Facts.{Facts}
@@ -36,32 +36,12 @@ use Rattle.compile_reports.specs.Reported.{IsReported}
 use Rattle.compile_reports.proofs.Openings.{functions_counted}
 use Rattle.compile_reports.proofs.Reports.{is_report, restricted}
 use Rattle.compile_kept.specs.Limits.{IsLimited}
-use Rattle.compile_lengths.proofs.Copies.{addresses_few, copies_few, nevers_few}
+use Rattle.compile_lengths.proofs.Copies.{addresses_few, copies_few}
 use Rattle.compile_lengths.proofs.Ends.{code_ends, words_in}
-use Rattle.compile_lengths.proofs.Counts.{claims_loops, exits_few, image_short, instructions, low_functions, places_few, regions_few}
+use Rattle.compile_counts.proofs.Counts.{claims_loops, exits_few, image_short, instructions, low_functions, places_few, regions_few}
 use Rattle.compile_lengths.proofs.Facts.{columns_few, facts_few}
 use Rattle.compile_lengths.proofs.Names.{functions_short, ids_append, ids_length, markers_short}
 use Rattle.compile_lengths.proofs.Shares.{shares_few}
-
--- how many claims there are
-
-module _ (names : List (List ℕ)) (program : Program) (facts : Facts) (m : Made) (made : IsMade names program facts m) where
-  -- one for each address of a never mark
-  pub nevers_counted : length (flat_map (nevers_at m.laid.lists.places.items) (copies_of m).nevers) ≤ 98304
-  nevers_counted =
-      let places = m.laid.lists.places.items in
-      let few = nevers_few names places (copies_of m) (high_of m).marks made.carried.carries.lists.marks in
-      let standing = places_few (high_of m) made.carried.is_high made.carried.limited m.code made.lowered m.placement m.laid made.in_memory m.code.low.marks in
-      let same : sum_by (λ (l : List ℕ). length l) places ≡ sum_by (λ (l : List ℕ). length l) (places_below (laid_of m.placement (placed_of m.code)) m.code.low.marks) = ap (λ ls. sum_by (λ (l : List ℕ). length l) ls) made.in_memory.laid.lists.places in
-      omega (arith, few, standing, same)
-
-  pub claims_counted : claim_count m.laid.claimed.claims + length (flat_map (nevers_at m.laid.lists.places.items) (copies_of m).nevers) + 32 < 2 ^ 32
-  claims_counted =
-      let nevers = nevers_counted in
-      let exits = exits_few (high_of m) made.carried.is_high made.carried.limited m.code made.lowered m.placement m.laid made.in_memory in
-      let regions = regions_few (high_of m) made.carried.is_high made.carried.limited m.code made.lowered m.placement m.laid made.in_memory in
-      let loops = claims_loops (high_of m) made.carried.is_high made.carried.limited m.code made.lowered m.placement m.laid made.in_memory in
-      subst (λ (c : Claims). claim_count c + length (flat_map (nevers_at m.laid.lists.places.items) (copies_of m).nevers) + 32 < 2 ^ 32) (sym made.in_memory.laid.claimed.claims) (omega (arith, nevers, exits, regions, loops))
 
 module _ (source : List ℕ) (names : List (List ℕ)) (program : Program) (facts : Facts) (m : Made) (t : Table) (r : Report) (small : length source ≤ 1048576) (is : IsSource source names program facts) (made : IsMade names program facts m) (reported : IsReported t names facts m r) (typed : IsTyped r) where
   abbrev own : Laid

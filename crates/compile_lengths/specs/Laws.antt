@@ -1,8 +1,6 @@
 -- The texts of what a source becomes are short.
-use Rattle.std.specs.Prelude.{ℕ, ◌+◌, ◌^◌, ◌<◌, ◌≤◌, List, length}
-use Rattle.std.specs.List.{flat_map}
+use Rattle.std.specs.Prelude.{ℕ, ◌≤◌, List, length}
 use Rattle.rv_core.specs.Table.{Table}
-use Rattle.code_flow_system.specs.Claims.{claim_count}
 use Rattle.elf_image.specs.Text.{text_of}
 use Rattle.report_laws.specs.Typed.{IsTyped}
 use Rattle.report_text.specs.Lines.{report_text}
@@ -12,8 +10,7 @@ use Rattle.facts_definitions.specs.declared.facts.Facts.{Facts}
 use Rattle.facts_front.specs.Fronts.{IsSource}
 use Rattle.types_tree.specs.Tree.{Program}
 use Rattle.compile_made.specs.declared.made.Made.{Made}
-use Rattle.compile_claims.specs.Named.{nevers_at}
-use Rattle.compile_made.specs.Made.{IsMade, copies_of}
+use Rattle.compile_made.specs.Made.{IsMade}
 use Rattle.compile_reports.specs.Reported.{IsReported}
 
 -- where the numbers of the report have the ranges of their types
@@ -21,8 +18,3 @@ abbrev pub TextsAreShort : Type 0
 TextsAreShort =
     (source : List ℕ) (names : List (List ℕ)) (program : Program) (facts : Facts) (m : Made) (t : Table) (r : Report) → length source ≤ 1048576 → IsSource source names program facts → IsMade names program facts m → IsReported t names facts m r → IsTyped r
     → AreShort (text_of m.laid.image) (report_text r)
-
--- what is made has few claims, with those on never marks and 32 on restrictions
-abbrev pub ClaimsAreFew : Type 0
-ClaimsAreFew =
-    (names : List (List ℕ)) (program : Program) (facts : Facts) (m : Made) → IsMade names program facts m → claim_count m.laid.claimed.claims + length (flat_map (nevers_at m.laid.lists.places.items) (copies_of m).nevers) + 32 < 2 ^ 32

@@ -4,7 +4,8 @@
 //! these numbers stands for a name of the source, which has letters, digits and underscores alone, and begins with no digit.
 //!
 //! `proofs/Trees` has from the tokens of a source that each name of its tree stands in its list of names, `proofs/Sites` the same of the
-//! functions and markers of its typed program, `proofs/Markers` that the grammar of pragmas takes its names from that list.
+//! functions and markers of its typed program, `proofs/Markers` that the grammar of pragmas takes its names from that list, and
+//! `proofs/Naming` that no two functions have one name.
 #![tactic(auto)]
 
 ghost use Rattle.compile_names.specs.Laws.{CountedAreNamed};

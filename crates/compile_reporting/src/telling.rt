@@ -11,7 +11,7 @@ use crate::restricting::restricted;
 use code_flow_system::Claims;
 use compile_bounds::made_can_be_named;
 use compile_claims::by_source;
-use compile_lengths::claims_are_few;
+use compile_counts::claims_are_few;
 use compile_lines::copy_lines;
 use compile_made::Made;
 use facts_front::Source;

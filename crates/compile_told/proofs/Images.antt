@@ -34,7 +34,7 @@ use Rattle.compile_made.specs.Made.{IsMade, copies_of, high_of}
 use Rattle.promise_report.specs.Compiled.{AreLined, IsLined, scratchpad_taken}
 use Rattle.compile_reports.specs.Reported.{IsReported}
 use Rattle.compile_told.proofs.Lined.{move_lined}
-use Rattle.compile_told.proofs.Lists.{all_got, map_got}
+use Rattle.compile_names.proofs.Lists.{all_got, map_got}
 use Rattle.compile_told.proofs.Placed.{taken_few}
 
 module _ (names : List (List ℕ)) (program : Program) (facts : Facts) (m : Made) (made : IsMade names program facts m) where

@@ -1,10 +1,8 @@
-pub mod Lists
 pub mod Loading
 pub mod Lined
 pub mod Placed
 pub mod Images
 pub mod Copies
-pub mod Naming
 pub mod Loops
 pub mod Nevers
 pub mod Shares

@@ -28,7 +28,7 @@ use Rattle.claims_image.specs.Images.{HasClaims}
 use Rattle.layout_kept.specs.Kept.{IsListed}
 use Rattle.layout_sizes.specs.Segments.{AreFilled}
 use Rattle.promise_report.specs.Compiled.{HasSegmentIn, IsLined}
-use Rattle.compile_told.proofs.Lists.{all_got, contained, got}
+use Rattle.compile_names.proofs.Lists.{all_got, contained, got}
 use Rattle.compile_told.proofs.Loading.{Loads, LoadsAt, among_own, found, loads_by, touched_at, touched_like}
 
 -- what touches memory at an address is an access there

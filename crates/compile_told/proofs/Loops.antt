@@ -31,7 +31,7 @@ use Rattle.claims_definition.specs.Laws.{AreLoopClaims, IsClaimOf}
 use Rattle.claims_definition.specs.Listed.{Laid, loops_of as claims_of_loops}
 use Rattle.compile_claims.specs.Named.{by_entries}
 use Rattle.promise_report.specs.Facts.{IsLoopLine}
-use Rattle.compile_told.proofs.Lists.{mapped}
+use Rattle.compile_names.proofs.Lists.{mapped}
 
 abbrev bounds_in : LoopClaim → Bounds
 bounds_in c = record { least = c.min; most = c.max }

@@ -38,7 +38,7 @@ use Rattle.report_text.specs.declared.entries.CopyLine.{CopyLine}
 use Rattle.report_text.specs.declared.entries.Share.{Share}
 use Rattle.promise_report.specs.Facts.{IsOfFunction, IsShareLine}
 use Rattle.compile_told.proofs.Copies.{line_at}
-use Rattle.compile_told.proofs.Lists.{in_front}
+use Rattle.compile_names.proofs.Lists.{in_front}
 
 -- over places a function has the opening mark that it has over registers
 opens_same : (at : ℕ → Place) (kept : ℕ → List ℕ) (bs : List (Block ℕ Note)) → mark_in (slice_get (place_blocks at kept 0 bs) 0) ≡ mark_in (slice_get bs 0)

@@ -34,9 +34,9 @@ use Rattle.promise_report.specs.Facts.{IsLoopLine, TellsFacts}
 use Rattle.compile_reports.specs.Reported.{AreShared, IsReported}
 use Rattle.compile_reports.proofs.Openings.{functions_counted}
 use Rattle.compile_told.proofs.Copies.{names_told}
-use Rattle.compile_told.proofs.Lists.{map_got}
+use Rattle.compile_names.proofs.Lists.{map_got}
 use Rattle.compile_told.proofs.Loops.{loops_lined}
-use Rattle.compile_told.proofs.Naming.{functions_apart}
+use Rattle.compile_names.proofs.Naming.{functions_apart}
 use Rattle.compile_told.proofs.Nevers.{nevers_lined}
 use Rattle.compile_told.proofs.Shares.{name_at, names_differ, share_lined}
 

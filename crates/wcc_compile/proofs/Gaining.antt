@@ -16,7 +16,7 @@ use Rattle.spm_placement.specs.declared.item.Item.{Item}
 use Rattle.spm_placement.specs.Gains.{gained}
 use Rattle.compile_choices.specs.Laws.{ItemsAreFew, items_of}
 use Rattle.compile_kept.specs.Limits.{global_bytes}
-use Rattle.compile_lengths.proofs.Images.{globals_few}
+use Rattle.compile_counts.proofs.Images.{globals_few}
 use Rattle.compile_made.specs.Made.{high_of}
 use Rattle.compile_sizes.proofs.Functions.{functions_few}
 use Rattle.compile_told.proofs.Images.{elements}

@@ -18,12 +18,9 @@
 #![tactic(auto)]
 
 mod built;
-mod compiler;
-mod compiling;
 mod laws;
 mod stages;
 
 pub use built::Built;
-pub use compiler::WccCompiler;
-pub use compiling::compile;
 pub use laws::reported_are_compiled;
+pub use stages::{WccCompiler, compile};

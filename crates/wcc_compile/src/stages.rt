@@ -1,43 +1,40 @@
-// The stages from a source to its image and its report.
-ghost use Rattle.std.specs.Prelude.{◌≡◌, ◌≤◌, ◌^◌, ℕ, Bool, List, [], length, map, All, IfOk};
-ghost use Rattle.code_flow_system.specs.Certificates.{PartsAscend};
+// The stages from the bytes of a source to its image and its report.
+ghost use Rattle.std.specs.Prelude.{◌≡◌, ◌≤◌, ◌^◌, ℕ, Bool, List, [], length, IfErr, IfOk};
 ghost use Rattle.elf_image.specs.Text.{text_of};
 ghost use Rattle.promise_compiler.specs.Lengths.{AreShort};
+ghost use Rattle.promise_compiler.specs.Refusals.{Fails};
 ghost use Rattle.promise_report.specs.Compiled.{IsCompiled};
 ghost use Rattle.report_laws.specs.Typed.{IsTyped};
 ghost use Rattle.report_text.specs.Lines.{report_text};
 ghost use Rattle.rv_core.specs.Table.{table_of};
-ghost use Rattle.claims_movables.specs.declared.item.LaidItem.{LaidItem};
-ghost use Rattle.claims_movables.specs.Listed.{movable_of};
-ghost use Rattle.spm_placement.specs.Gains.{HasFewVisits, gained};
-ghost use Rattle.spm_placement.specs.Sets.{AreBest, HasSmallGain};
+ghost use Rattle.spm_placement.specs.Sets.{AreBest};
 ghost use Rattle.compile_made.specs.Made.{IsMade};
 ghost use Rattle.compile_made.specs.Placed.{IsPlacedBy};
 ghost use Rattle.compile_passes.specs.Passes.{AreBegun, AreStages, passes, stages_of};
 ghost use Rattle.compile_reporting.specs.Sources.{IsMadeOf, IsOf, IsOfBy, IsReportOn, names_of, tree_of};
 ghost use Rattle.wcc_compile.specs.Built.{IsBuilt, gains_of};
 ghost use Rattle.wcc_compile.specs.Steps.{IsFirst, IsLast};
+ghost use Rattle.wcc_compile.specs.Written.{IsWritten};
 
-use crate::built::Built;
+use crate::built::{Built, written};
 use crate::laws::reported_are_compiled;
-use claims_movables::LaidItem;
 use compile_choices::{
     choices_can_be_placed, choices_fit, items_are_few, items_are_whole, nothing_can_be_placed,
 };
-use compile_image::{laid, lowered, planned, unlaid};
+use compile_image::{laid, lowered, planned, read, unlaid};
 use compile_lengths::texts_are_short;
 use compile_made::{Made, Stages};
 use compile_passes::{begun, passed};
 use compile_reporting::{find, joined, tell};
 use compile_reports::reported_are_reports;
-use compile_visits::flows_visit_few;
+use compile_visits::{flows_visit_few, gains_by};
 use elf_image::read_of_write;
 use facts_front::Source;
 use high_fold::Fold;
 use inliner::Inline;
-use promise_compiler::Options;
+use promise_compiler::{Built as Written, Compiler, Options, Refusal};
 use rv_core::Costs;
-use spm_placement::{Item, choose, gains};
+use spm_placement::choose;
 use std::alloc::Global;
 use unroller::Unroll;
 use wcc_base::Memory;
@@ -124,21 +121,6 @@ fn first(alloc: Global, source: &Source, options: &Options) -> Result<Built, Mem
     with_report(alloc, source, made, &options.costs)
 }
 
-/// What the items of a laid program gain, by the flow that the certificate of a report lists.
-fn gains_by(
-    alloc: Global,
-    items: &[LaidItem],
-    report: &Report,
-    costs: &Costs,
-) -> Result<Vec<Item>, Memory>
-    requires ascending { PartsAscend report.now.cert.flow.parts }
-    requires few { All (λ (i : LaidItem). HasFewVisits report.now.cert.flow.parts (movable_of i)) items.now }
-    ensures values { IfOk result (λ gains. gains.items ≡ map (λ (i : LaidItem). gained (table_of costs.now) report.now.cert.flow.parts (movable_of i)) items.now) }
-    ensures small { IfOk result (λ gains. All HasSmallGain gains.items) }
-{
-    gains(alloc, items, &report.cert.flow, costs)
-}
-
 /// The numbers of the functions and arrays to place, by the flow that the first certificate lists: no others that fit
 /// gain more.
 fn chosen(
@@ -203,7 +185,7 @@ fn placed(alloc: Global, source: &Source, first: Built, options: &Options) -> Re
 }
 
 /// The image of a source that was read, and the report on it, with these options.
-pub fn built(alloc: Global, source: &Source, options: &Options) -> Result<Built, Memory>
+fn built(alloc: Global, source: &Source, options: &Options) -> Result<Built, Memory>
     requires { (text : List ℕ) × IsOf text source.now }
     ensures built { IfOk result (λ b. (text : List ℕ) → IsOfBy options.now.derive text source.now → IsBuilt options.now text b) }
     ensures compiled { IfOk result (λ b. (derive : Bool) (text : List ℕ) → IsOfBy derive text source.now → IsCompiled derive options.now.spm (table_of options.now.costs) text (text_of b.made.laid.image) (report_text b.report) b.report) }
@@ -217,4 +199,46 @@ pub fn built(alloc: Global, source: &Source, options: &Options) -> Result<Built,
     let built = placed(alloc, source, first, options)?;
     read_of_write(&built.made.laid.image);
     Ok(built)
+}
+
+/// The image of a source and the report on it, with all that the source was on the way.
+pub fn compile(alloc: Global, source: &[u8], options: &Options) -> Result<Built, Refusal>
+    ensures built { IfOk result (IsBuilt options.now source.now) }
+    ensures ok { IfOk result (λ b. IsCompiled options.now.derive options.now.spm (table_of options.now.costs) source.now (text_of b.made.laid.image) (report_text b.report) b.report) }
+    ensures cycles { IfOk result (λ b. b.report.cert.cycles ≤ 2 ^ 62) }
+    ensures short { IfOk result (λ b. length source.now ≤ 1048576 → AreShort (text_of b.made.laid.image) (report_text b.report)) }
+    ensures err { IfErr result (Fails options.now.derive source.now) }
+{
+    let source = read(alloc, source, options.derive)?;
+    let built = built(alloc, &source, options);
+    source.let_go();
+    match built {
+        Ok(built) => Ok(built),
+        Err(_) => Err(Refusal::Memory),
+    }
+}
+
+/// The compiler that [`compile`] is.
+pub struct WccCompiler;
+
+/// What is written of a source.
+fn compiled(alloc: Global, source: &[u8], options: &Options) -> Result<Written, Refusal>
+    ensures ok { IfOk result (λ b. IsCompiled options.now.derive options.now.spm (table_of options.now.costs) source.now (text_of b.image) (report_text b.report) b.report) }
+    ensures built { IfOk result (λ b. IsWritten options.now source.now (text_of b.image) (report_text b.report)) }
+    ensures cycles { IfOk result (λ b. b.report.cert.cycles ≤ 2 ^ 62) }
+    ensures short { IfOk result (λ b. length source.now ≤ 1048576 → AreShort (text_of b.image) (report_text b.report)) }
+    ensures err { IfErr result (Fails options.now.derive source.now) }
+{
+    match compile(alloc, source, options) {
+        Ok(built) => Ok(written(built)),
+        Err(refusal) => Err(refusal),
+    }
+}
+
+impl Compiler for WccCompiler {
+    ghost builds = { IsWritten };
+
+    fn compile(&self, alloc: Global, source: &[u8], options: &Options) -> Result<Written, Refusal> {
+        compiled(alloc, source, options)
+    }
 }

@@ -6,7 +6,7 @@ use Rattle.report_text.specs.Lines.{report_text}
 use Rattle.report_text.specs.Reports.{Report}
 use Rattle.promise_compiler.specs.Lengths.{AreShort}
 use Rattle.promise_report.specs.Compiled.{IsCompiled}
-use Rattle.wcc_compile.proofs.compiler.compiled.Goals as goal
+use Rattle.wcc_compile.proofs.stages.compiled.Goals as goal
 
 pub returns-in-Ok-clause-ok : goal.returns-in-Ok-clause-ok
 returns-in-Ok-clause-ok c =

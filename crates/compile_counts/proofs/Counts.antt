@@ -32,7 +32,7 @@ use Rattle.compile_made.specs.Made.{IsInMemory, IsLowered}
 use Rattle.compile_kept.specs.Limits.{IsLimited}
 use Rattle.compile_sizes.proofs.Functions.{functions_few}
 use Rattle.compile_sizes.proofs.Sizes.{limited_fit}
-use Rattle.compile_lengths.proofs.Images.{globals_few, text_length}
+use Rattle.compile_counts.proofs.Images.{globals_few, text_length}
 
 -- each loop is an operation
 mutual

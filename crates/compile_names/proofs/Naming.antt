@@ -31,7 +31,7 @@ use Rattle.types_seen.proofs.Known.{named}
 use Rattle.facts_laws.proofs.Cutting.{list_tokens}
 use Rattle.facts_laws.proofs.Naming.{HasName, IsPragma, named_each}
 use Rattle.facts_laws.proofs.Numbering.{AreOnce, number_of, once_all, once_none, within_names}
-use Rattle.compile_told.proofs.Lists.{all_got, map_got}
+use Rattle.compile_names.proofs.Lists.{all_got, map_got}
 
 -- no number stands there twice
 abbrev AreApart : List ℕ → Type 0

@@ -1,0 +1,5 @@
+pub mod Sums
+pub mod Images
+pub mod Counts
+pub mod Marks
+mod Claims
