@@ -12,7 +12,7 @@ use Rattle.asm_program.specs.Functions.{PlacedFunction}
 use Rattle.claims_definition.specs.Listed.{Laid, claims_of, placing}
 use Rattle.claims_bounds.specs.Flows.{HasFlows}
 use Rattle.claims_shapes.specs.Shapes.{AreShaped}
-use Rattle.path_search.specs.Conditions.{CanBound}
+use Rattle.path_conditions.specs.Bounding.{CanBound}
 
 -- a loop has to start no more often than it may, or may not start
 abbrev pub CanTurn : Loop → Type 0

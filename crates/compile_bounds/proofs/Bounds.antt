@@ -33,8 +33,8 @@ use Rattle.claims_definition.specs.Listed.{Laid, claims_of, places_of}
 use Rattle.claims_image.specs.Images.{HasClaims, laid_of}
 use Rattle.image_definition.specs.Images.{image_in}
 use Rattle.layout_kept.specs.Kept.{IsLight}
-use Rattle.path_fact_fit.specs.Conditions.{CanSearch}
-use Rattle.path_search.specs.Conditions.{CanBound}
+use Rattle.path_conditions.specs.Searching.{CanSearch}
+use Rattle.path_conditions.specs.Bounding.{CanBound}
 use Rattle.report_text.specs.declared.entries.CopyLine.{CopyLine}
 use Rattle.compile_claims.specs.Laws.{AreLightFacts, under}
 use Rattle.compile_claims.specs.Named.{named}

@@ -12,7 +12,7 @@ use Rattle.facts_front.specs.Fronts.{IsSource}
 use Rattle.types_tree.specs.Tree.{Program}
 use Rattle.high_ir.specs.declared.copies.LoopCopies.{LoopCopies}
 use Rattle.high_ir.specs.declared.copies.NeverMark.{NeverMark}
-use Rattle.path_fact_fit.specs.Conditions.{CanSearch}
+use Rattle.path_conditions.specs.Searching.{CanSearch}
 use Rattle.compile_facts.specs.Told.{AreFactsTold}
 use Rattle.compile_lines.specs.CopyLines.{AreLinesOf}
 use Rattle.compile_handed.specs.Handed.{AreHandedOn}

@@ -15,8 +15,8 @@ use Rattle.code_flow_system.specs.Loose.{IsLoose, KeepsTurns}
 use Rattle.code_flow_system.specs.Shapes.{AreShapesOf, Fits, IsLoop}
 use Rattle.code_flow_system.specs.Systems.{System}
 use Rattle.path_counts.specs.Laws.{HasBounds}
-use Rattle.path_fact_fit.specs.Conditions.{CanSearch}
-use Rattle.path_search.specs.Conditions.{CanBound}
+use Rattle.path_conditions.specs.Searching.{CanSearch}
+use Rattle.path_conditions.specs.Bounding.{CanBound}
 use Rattle.high_pass.specs.Listing.{LoopEntry}
 use Rattle.high_pass.proofs.Elements.{All-map_back}
 use Rattle.compile_claims.specs.Laws.{AreLightFacts, under}

@@ -13,9 +13,9 @@ use Rattle.code_flow_system.specs.Loose.{IsLoose}
 use Rattle.code_flow_system.specs.KeptRuns.{KeepsClaims, visit_count}
 use Rattle.code_flow_system.specs.Systems.{IsBad, IsFalseExit, IsFirstNoCode, IsNoCode, IsSystemOf, System}
 use Rattle.high_pass.specs.Listing.{LoopEntry}
-use Rattle.path_best.specs.Facts.{IsNaturalFact, both_totals}
-use Rattle.path_fact_fit.specs.Conditions.{CanSearch}
-use Rattle.path_search.specs.Conditions.{CanBound}
+use Rattle.path_conditions.specs.Natural.{IsNaturalFact, both_totals}
+use Rattle.path_conditions.specs.Searching.{CanSearch}
+use Rattle.path_conditions.specs.Bounding.{CanBound}
 use Rattle.compile_claims.specs.Named.{named}
 
 -- a system under other claims

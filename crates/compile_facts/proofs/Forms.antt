@@ -17,7 +17,7 @@ use Rattle.facts_definitions.specs.declared.facts.Term.{Term}
 use Rattle.flow_facts.specs.Translating.{as_term, index_in, places_of, sum_places, term_places, terms_places}
 use Rattle.flow_facts.specs.declared.places.Places.{Places}
 use Rattle.facts_restrictions.specs.Limits.{IsCountedTerm, IsLimited}
-use Rattle.path_best.specs.Facts.{AreNatural, IsNaturalFact}
+use Rattle.path_conditions.specs.Natural.{AreNatural, IsNaturalFact}
 use Rattle.promise_report.specs.Facts.{AreFactLines, IsFactLine, places_by, places_in}
 use Rattle.report_text.specs.declared.entries.CopyLine.{CopyLine}
 use Rattle.report_text.specs.Forms.{Ascend, IsFact, IsTerm}

@@ -16,7 +16,7 @@ use Rattle.flow_facts.specs.declared.places.Places.{Places}
 use Rattle.promise_report.specs.Facts.{AreFactLines, IsFactLine, places_by}
 use Rattle.report_text.specs.declared.entries.CopyLine.{CopyLine}
 use Rattle.facts_restrictions.specs.Limits.{AreLimited, IsCountedTerm, IsLimited}
-use Rattle.path_best.specs.Facts.{both_totals}
+use Rattle.path_conditions.specs.Natural.{both_totals}
 use Rattle.compile_facts.specs.Told.{AreFactsTold}
 use Rattle.compile_facts.proofs.Forms.{places_held}
 

@@ -6,7 +6,7 @@ use Rattle.code_flow_system.specs.Counts.{KeepsFact}
 use Rattle.facts_definitions.specs.declared.facts.Facts.{Facts}
 use Rattle.facts_restrictions.specs.Limits.{AreLimited}
 use Rattle.meaning_semantics.specs.Runs.{first_violated}
-use Rattle.path_best.specs.Facts.{IsNaturalFact, both_totals}
+use Rattle.path_conditions.specs.Natural.{IsNaturalFact, both_totals}
 use Rattle.report_text.specs.declared.entries.CopyLine.{CopyLine}
 use Rattle.report_text.specs.Forms.{IsFact}
 use Rattle.compile_facts.specs.Told.{AreAscending, AreFactsTold, places_many}

@@ -18,8 +18,8 @@ use Rattle.path_answer.specs.declared.bounded.Column.{Column}
 use Rattle.path_answer.specs.declared.bounded.Kind.{Kind}
 use Rattle.path_answer.specs.declared.bounded.Kind.TheVariants as kinds
 use Rattle.path_counts.specs.Free.{free}
-use Rattle.path_fact_columns.specs.Columns.{IsBest}
-use Rattle.path_fact_fit.specs.Conditions.{CanSearch}
+use Rattle.path_fact_kinds.specs.Columns.{IsBest}
+use Rattle.path_conditions.specs.Searching.{CanSearch}
 use Rattle.path_fact_kinds.specs.Kinds.{HasKind, IsBoundAlone}
 use Rattle.path_fact_kinds.specs.Searched.{AreSearched}
 use Rattle.path_pivot_laws.specs.Laws.{column_at}

@@ -42,7 +42,7 @@ use Rattle.layout_sizes.specs.Segments.{AreFilled}
 use Rattle.layout_sizes.specs.Items.{HasElements, MovesItems, item_sizes, sized}
 use Rattle.layout_sizes.specs.Laws.{AreCounted, AreSmall, LieWherePlaced}
 use Rattle.claims_image.specs.Images.{HasClaims, laid_of}
-use Rattle.path_search.specs.Conditions.{CanBound}
+use Rattle.path_conditions.specs.Bounding.{CanBound}
 use Rattle.layout_kept.specs.Rooms.{KeepsRoom}
 
 -- no loop has to start more often than it may, and the numbers of a search stay small

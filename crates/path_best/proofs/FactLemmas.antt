@@ -24,7 +24,8 @@ use Rattle.path_loose.specs.Laws.{LooseTotalsBelow}
 use Rattle.path_ranges.specs.Bounded.{StartsBelow}
 use Rattle.path_limits.specs.Limits.{IsLoopWithin}
 use Rattle.path_best.specs.Priced.{fact_size}
-use Rattle.path_best.specs.Facts.{AreNatural, IsNaturalFact, both_totals, IsFactLimited, sizes_of, fact_most, IsFactBounded, FactsAreBounded, FactNumbersFit}
+use Rattle.path_conditions.specs.Natural.{AreNatural, IsNaturalFact, both_totals}
+use Rattle.path_best.specs.Facts.{IsFactLimited, sizes_of, fact_most, IsFactBounded, FactsAreBounded, FactNumbersFit}
 use Rattle.path_best.proofs.RangeLemmas.{sizes_cover_prices}
 
 -- ---- the size of a fact's terms at an address

@@ -1,8 +1,6 @@
 -- When the numbers of walks that pay for facts have bounds: by the values of loose flows, and by what they come to in facts.
 use Rattle.std.specs.Prelude.{ℕ, ◌+◌, ◌*◌, ◌^◌, ◌≤◌, ◌<◌, ◌==◌, ℤ, pos, neg_ℤ, ◌+ℤ◌, ◌≤ℤ◌, ◌<ℤ◌, unsigned_abs, List, [], ◌∷◌, length, All, if◌then◌else◌}
-use Rattle.frac128.specs.Terms.{Terms, applied}
 use Rattle.rv_core.specs.Table.{Table}
-use Rattle.code_flow_system.specs.declared.claims.FactClaim.{FactClaim}
 use Rattle.code_flow_system.specs.declared.shapes.LoopShape.{LoopShape}
 use Rattle.code_flow_system.specs.declared.shapes.Span.{Span}
 use Rattle.code_flow_system.specs.Systems.{System}
@@ -17,19 +15,9 @@ use Rattle.path_counts.specs.Free.{free}
 use Rattle.path_counts.specs.Laws.{BacksAreFree}
 use Rattle.path_limits.specs.Limits.{IsLimited, LooseCountsAreFew}
 use Rattle.path_limits.specs.Narrow.{FetchesCost}
+use Rattle.path_conditions.specs.Natural.{IsNaturalFact, both_totals}
 use Rattle.path_best.specs.Best.{best_worth, IsBestFlow}
 use Rattle.path_best.specs.Priced.{fact_size, fact_prices}
-
--- no number is negative
-abbrev pub AreNatural : Terms → Type 0
-AreNatural ts = All (λ u. pos 0 ≤ℤ u.1) ts
-
-abbrev pub IsNaturalFact : FactClaim → Type 0
-IsNaturalFact c = AreNatural c.left × AreNatural c.right
-
--- left and right totals together
-abbrev pub both_totals : FactClaim → (ℕ → ℤ) → ℤ
-both_totals c n = applied c.left n +ℤ applied c.right n
 
 pub record IsFactLimited (t : Table) (s : System) (ls : List LoopShape) (ps : List Span) : Type 0 where
   pub limited : IsLimited t s ls ps

@@ -3,7 +3,7 @@ ghost use Rattle.std.specs.Prelude.{◌≡◌, ◌%◌, pos, IfOk, map};
 ghost use Rattle.rv_core.specs.Table.{table_of};
 ghost use Rattle.loop_walks.specs.Walks.{worth_at};
 ghost use Rattle.path_places.specs.Reached.{AreReached};
-ghost use Rattle.path_search.specs.Conditions.{CanBound};
+ghost use Rattle.path_conditions.specs.Bounding.{CanBound};
 ghost use Rattle.path_cases.specs.Prices.{rest_of};
 
 use code_flow_lookup::move_cost;

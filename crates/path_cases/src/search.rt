@@ -4,7 +4,7 @@ ghost use Rattle.code_flow_system.specs.Certificates.{IsInForm};
 ghost use Rattle.code_flow_system.specs.Systems.{IsSystemOf};
 ghost use Rattle.rv_core.specs.Table.{table_of};
 ghost use Rattle.path_places.specs.Reached.{AreReached};
-ghost use Rattle.path_search.specs.Conditions.{CanBound};
+ghost use Rattle.path_conditions.specs.Bounding.{CanBound};
 
 use crate::cases::{Case, claims, image, shapes, spans};
 use crate::priced::lists_flow;

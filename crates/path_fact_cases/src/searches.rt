@@ -2,7 +2,7 @@
 ghost use Rattle.rv_core.specs.Table.{table_of};
 ghost use Rattle.code_flow_system.specs.Certificates.{IsInForm};
 ghost use Rattle.path_places.specs.Reached.{AreReached};
-ghost use Rattle.path_fact_fit.specs.Conditions.{CanSearch};
+ghost use Rattle.path_conditions.specs.Searching.{CanSearch};
 
 use crate::words::shown;
 use code_flow_system::{LoopShape, Span, System};

@@ -22,7 +22,7 @@ use Rattle.path_best.specs.Facts.{fact_low, IsFactFlow}
 use Rattle.path_best.proofs.PricedLemmas.{prices_pay}
 use Rattle.path_best.proofs.BestLemmas.{free_loose}
 use Rattle.path_fact_fit.specs.Conditions.{IsSearchable}
-use Rattle.path_fact_columns.specs.Columns.{totals_of, multiplied}
+use Rattle.path_fact_kinds.specs.Columns.{totals_of, multiplied}
 use Rattle.path_fact_columns.specs.Conditions.{AreNarrow}
 use Rattle.path_fact_columns.specs.Answers.{flow_at, worth_at, parts_at, certificate_at, answer_of}
 use Rattle.path_fact_columns.specs.declared.answering.Answer.{Answer}

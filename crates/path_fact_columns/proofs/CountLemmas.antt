@@ -17,9 +17,9 @@ use Rattle.code_flow_system.specs.declared.moves.Move.{Move}
 use Rattle.code_flow_system.specs.Counts.{Amounts, amount, count, total}
 use Rattle.code_flow_system.specs.Flows.{price}
 use Rattle.code_flow_system.specs.Systems.{System}
-use Rattle.path_best.specs.Facts.{AreNatural, IsNaturalFact, both_totals}
+use Rattle.path_conditions.specs.Natural.{AreNatural, IsNaturalFact, both_totals}
 use Rattle.path_fact_mixes.specs.Laws.{total_of}
-use Rattle.path_fact_columns.specs.Columns.{totals_of}
+use Rattle.path_fact_kinds.specs.Columns.{totals_of}
 
 -- the moves at an address count it
 pub those_sum : (x : Amounts) (ms : List Move) (a : ℕ) → int_sum_by (amount x) (those_at (λ (m : Move). m.at) a ms) ≡ count x ms a

@@ -7,9 +7,9 @@ use Rattle.code_flow_system.specs.Counts.{count}
 use Rattle.code_flow_system.specs.Flows.{IsFlow, value}
 use Rattle.code_flow_system.specs.Certificates.{listed, fact_limits, IsSigned, IsInForm, Accepts}
 use Rattle.path_counts.specs.Free.{free}
-use Rattle.path_best.specs.Facts.{both_totals}
+use Rattle.path_conditions.specs.Natural.{both_totals}
 use Rattle.path_fact_columns.specs.declared.answering.Answer.{Answer}
-use Rattle.path_fact_columns.specs.Columns.{column_of, IsBest}
+use Rattle.path_fact_kinds.specs.Columns.{column_of, IsBest}
 use Rattle.path_fact_columns.specs.Answers.{AreParts}
 
 -- parts of a flow of one unit, whose column has small numbers and is a best one at the multipliers

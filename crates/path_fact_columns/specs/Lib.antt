@@ -1,4 +1,3 @@
-pub mod Columns
 pub mod Conditions
 pub mod Answers
 pub mod Laws

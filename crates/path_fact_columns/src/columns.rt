@@ -6,8 +6,8 @@ ghost use Rattle.code_flow_system.specs.Flows.{value};
 ghost use Rattle.code_flow_system.specs.Certificates.{listed};
 ghost use Rattle.code_flow_system.specs.Systems.{IsPlaced};
 ghost use Rattle.code_flow_system.specs.Flows.{price};
-ghost use Rattle.path_best.specs.Facts.{IsNaturalFact, both_totals};
-ghost use Rattle.path_fact_columns.specs.Columns.{totals_of, column_of};
+ghost use Rattle.path_conditions.specs.Natural.{IsNaturalFact, both_totals};
+ghost use Rattle.path_fact_kinds.specs.Columns.{totals_of, column_of};
 ghost use Rattle.path_fact_columns.specs.Answers.{AreParts};
 
 use crate::counting::{made, total_of};

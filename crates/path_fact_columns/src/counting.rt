@@ -3,7 +3,7 @@ ghost use Rattle.std.specs.Prelude.{◌≡◌, ◌≤◌, ◌<◌, ◌^◌, pos,
 ghost use Rattle.frac128.specs.Terms.{applied};
 ghost use Rattle.code_flow_system.specs.Counts.{amount, count};
 ghost use Rattle.code_flow_system.specs.Certificates.{listed};
-ghost use Rattle.path_best.specs.Facts.{AreNatural, IsNaturalFact, both_totals};
+ghost use Rattle.path_conditions.specs.Natural.{AreNatural, IsNaturalFact, both_totals};
 ghost use Rattle.path_fact_mixes.specs.Laws.{total_of};
 ghost use Rattle.path_fact_columns.specs.Answers.{AreParts};
 

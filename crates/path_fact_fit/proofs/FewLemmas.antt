@@ -16,8 +16,8 @@ use Rattle.code_flow_system.specs.Counts.{Amounts, amount, count}
 use Rattle.path_fit.specs.Fitting.{LoopsFit}
 use Rattle.path_counts.specs.Laws.{HasBounds}
 use Rattle.path_limits.specs.Limits.{LooseCountsAreFew, LooseValuesBelow}
-use Rattle.path_best.specs.Facts.{AreNatural, IsNaturalFact, both_totals}
-use Rattle.path_fact_fit.specs.Conditions.{CanSearch}
+use Rattle.path_conditions.specs.Natural.{AreNatural, IsNaturalFact, both_totals}
+use Rattle.path_conditions.specs.Searching.{CanSearch}
 use Rattle.path_fact_fit.specs.Few.{IsFewTerm, IsFewFact}
 
 counts_natural : (x : Amounts) (ms : List Move) (a : ℕ) → pos 0 ≤ℤ count x ms a

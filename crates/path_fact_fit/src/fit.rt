@@ -2,7 +2,7 @@
 ghost use Rattle.std.specs.Prelude.{◌≡◌, ◌↔◌, true, IfOk, All};
 ghost use Rattle.rv_core.specs.Table.{table_of};
 ghost use Rattle.path_counts.specs.Laws.{HasBounds};
-ghost use Rattle.path_fact_fit.specs.Conditions.{CanSearch};
+ghost use Rattle.path_conditions.specs.Searching.{CanSearch};
 ghost use Rattle.path_fact_fit.specs.Few.{IsFewTerm, IsFewFact};
 
 use code_flow_system::{FactClaim, LoopClaim, LoopShape, Span, System};

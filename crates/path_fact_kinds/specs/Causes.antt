@@ -11,7 +11,7 @@ use Rattle.path_pivot_ends.specs.Limits.{is_narrow, all_narrow}
 use Rattle.path_pivot_ends.specs.Multiplied.{first_multipliers, second_multipliers, are_narrow}
 use Rattle.path_pivot_ends.specs.Weighted.{weights_of, denominator, numerator}
 use Rattle.path_pivot_laws.specs.Laws.{column_at}
-use Rattle.path_fact_columns.specs.Columns.{ops_of}
+use Rattle.path_fact_kinds.specs.Columns.{ops_of}
 use Rattle.path_fact_kinds.specs.Searched.{last_round, Follows, AreSearched}
 
 -- one more than the number of loops

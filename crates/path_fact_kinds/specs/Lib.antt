@@ -1,3 +1,4 @@
+pub mod Columns
 pub mod Searched
 pub mod Causes
 pub mod Kinds

@@ -13,7 +13,7 @@ use Rattle.path_pivot_rows.specs.Rows.{entry}
 use Rattle.path_pivot_tables.specs.declared.table.Table.{Table as Rows}
 use Rattle.path_pivot_ends.specs.Multiplied.{duals, objective_place, scaled, tail_of, second_multipliers}
 use Rattle.path_pivot_laws.specs.Laws.{column_at}
-use Rattle.path_fact_columns.specs.Columns.{IsBest, multiplied, ops_of}
+use Rattle.path_fact_kinds.specs.Columns.{IsBest, multiplied, ops_of}
 
 -- how many pivots are made before the round of that number, the first one being that over one column
 abbrev pub made_before : List Compare → List Column → ℕ → ℕ

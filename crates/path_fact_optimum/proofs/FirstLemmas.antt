@@ -19,7 +19,7 @@ use Rattle.path_counts.specs.Free.{free}
 use Rattle.path_best.specs.Priced.{fact_price, fact_total, fact_prices}
 use Rattle.path_best.specs.Facts.{fact_low, IsFactFlow, HasFactFlow}
 use Rattle.path_best.proofs.PricedLemmas.{prices_pay}
-use Rattle.path_fact_columns.specs.Columns.{totals_of, column_of, multiplied, weighed, IsBest}
+use Rattle.path_fact_kinds.specs.Columns.{totals_of, column_of, multiplied, weighed, IsBest}
 use Rattle.path_fact_fit.specs.Conditions.{IsSearchable}
 use Rattle.path_fact_columns.specs.Conditions.{AreNarrow}
 use Rattle.path_fact_columns.specs.Answers.{flow_at, worth_at}

@@ -13,7 +13,7 @@ use Rattle.code_flow_system.specs.declared.cert.Cert.{Cert}
 use Rattle.code_flow_system.specs.Certificates.{Limit, negated, never_limits, loop_limits, fact_limits, limits, size_by, IsNarrow}
 use Rattle.path_limits.specs.Narrow.{HasShortBounds}
 use Rattle.path_limits.proofs.NarrowLemmas.{narrow_limits}
-use Rattle.path_best.specs.Facts.{AreNatural, IsNaturalFact, both_totals}
+use Rattle.path_conditions.specs.Natural.{AreNatural, IsNaturalFact, both_totals}
 use Rattle.path_fact_mixes.specs.Mixes.{Share, mix, often}
 use Rattle.path_fact_mixes.proofs.MixLemmas.{applied-mix}
 

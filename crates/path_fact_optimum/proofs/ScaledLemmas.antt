@@ -16,7 +16,7 @@ use Rattle.path_pivot_rows.proofs.RowLemmas.{Times, reduced_times, reduced-long,
 use Rattle.path_pivot_ends.specs.Multiplied.{sides_in, duals, head_of, tail_of}
 use Rattle.path_pivot_laws.specs.Laws.{HasSign, HaveSigns}
 use Rattle.path_best.specs.Priced.{fact_total}
-use Rattle.path_fact_columns.specs.Columns.{ops_of}
+use Rattle.path_fact_kinds.specs.Columns.{ops_of}
 
 -- ---- the numbers of a row behind the first
 

@@ -41,12 +41,13 @@ use Rattle.path_pivot_laws.specs.Laws.{IsWeighing, HaveSigns, column_at, over}
 use Rattle.path_pivot_keeps.proofs.TableLemmas.{all_at}
 use Rattle.path_counts.specs.Free.{free}
 use Rattle.path_best.specs.Priced.{fact_prices, fact_certificate, AreMultipliers}
-use Rattle.path_best.specs.Facts.{both_totals, fact_low, IsFactFlow}
+use Rattle.path_conditions.specs.Natural.{both_totals}
+use Rattle.path_best.specs.Facts.{fact_low, IsFactFlow}
 use Rattle.path_best.proofs.PricedLemmas.{prices_pay}
 use Rattle.path_best.proofs.BestLemmas.{free_loose}
 use Rattle.path_fact_mixes.specs.Mixes.{Share, mix, often}
 use Rattle.path_fact_mixes.proofs.MixLemmas.{all_flows}
-use Rattle.path_fact_columns.specs.Columns.{ops_of}
+use Rattle.path_fact_kinds.specs.Columns.{ops_of}
 use Rattle.path_fact_fit.specs.Conditions.{IsSearchable}
 use Rattle.path_fact_columns.specs.Conditions.{AreNarrow}
 use Rattle.path_fact_columns.specs.Answers.{worth_at}

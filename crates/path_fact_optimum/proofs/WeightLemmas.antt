@@ -16,7 +16,7 @@ use Rattle.path_pivot_ends.proofs.Multiples.{denominator_is}
 use Rattle.path_pivot_laws.specs.Laws.{column_at, over, IsCommon, IsKept, KeepFacts}
 use Rattle.path_fact_mixes.specs.Mixes.{Share, often}
 use Rattle.path_fact_mixes.specs.Laws.{total_of}
-use Rattle.path_fact_columns.specs.Columns.{ops_of, totals_of}
+use Rattle.path_fact_kinds.specs.Columns.{ops_of, totals_of}
 use Rattle.path_fact_mixed.specs.Adding.{shares}
 
 -- ---- the common denominator

@@ -21,7 +21,7 @@ use Rattle.path_pivot_tables.specs.declared.running.Ending.TheVariants.{NoPivots
 use Rattle.path_pivot_tables.specs.Runs.{most_pivots}
 use Rattle.path_pivot_rounds.specs.Rounds.{IsColumnOf, round_over}
 use Rattle.path_pivot_laws.specs.Laws.{column_at, no_column}
-use Rattle.path_fact_columns.specs.Columns.{IsBest, ops_of, column_of}
+use Rattle.path_fact_kinds.specs.Columns.{IsBest, ops_of, column_of}
 use Rattle.path_fact_mixed.specs.Adding.{AreAsked, no_multipliers, flow_of}
 use Rattle.path_fact_search.specs.declared.asking.Answered.{Answered}
 use Rattle.path_fact_kinds.specs.Searched.{made_before, round_at, last_round, Follows, AreSearched}

@@ -26,7 +26,7 @@ use Rattle.path_pivot_laws.specs.Laws.{IsOptimum}
 use Rattle.path_best.specs.Priced.{fact_certificate}
 use Rattle.path_best.specs.Facts.{fact_low}
 use Rattle.path_fact_fit.specs.Conditions.{IsSearchable}
-use Rattle.path_fact_columns.specs.Columns.{ops_of}
+use Rattle.path_fact_kinds.specs.Columns.{ops_of}
 use Rattle.path_fact_mixed.specs.Adding.{mixed_parts, AreWeights}
 use Rattle.path_fact_optimum.specs.Laws.{greatest, AreAnswers, IsSolved, SolvedAreGreatest}
 use Rattle.path_fact_search.specs.declared.asking.Answered.{Answered}

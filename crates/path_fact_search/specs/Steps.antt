@@ -19,9 +19,9 @@ use Rattle.path_pivot_ends.specs.Multiplied.{second_multipliers, are_narrow}
 use Rattle.path_pivot_rounds.specs.Rounds.{IsColumnOf}
 use Rattle.path_pivot_laws.specs.Laws.{IsOptimum, column_at}
 use Rattle.path_pivot_ends.specs.Multiplied.{objective_place}
-use Rattle.path_fact_columns.specs.Columns.{IsBest, ops_of}
+use Rattle.path_fact_kinds.specs.Columns.{IsBest, ops_of}
 use Rattle.path_fact_columns.specs.Answers.{flow_at, worth_at}
-use Rattle.path_fact_columns.specs.Columns.{column_of}
+use Rattle.path_fact_kinds.specs.Columns.{column_of}
 use Rattle.path_fact_columns.specs.Answers.{certificate_at}
 use Rattle.path_fact_mixed.specs.Adding.{AreAsked}
 use Rattle.path_fact_optimum.specs.Laws.{AreAnswers}

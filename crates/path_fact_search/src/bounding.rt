@@ -2,7 +2,7 @@
 ghost use Rattle.std.specs.Prelude.{◌≡◌, [], IfOk, All};
 ghost use Rattle.rv_core.specs.Table.{table_of};
 ghost use Rattle.path_places.specs.Reached.{AreReached};
-ghost use Rattle.path_fact_fit.specs.Conditions.{CanSearch};
+ghost use Rattle.path_conditions.specs.Searching.{CanSearch};
 ghost use Rattle.path_fact_kinds.specs.Kinds.{IsFound};
 ghost use Rattle.path_fact_search.specs.Marks.{found, none};
 

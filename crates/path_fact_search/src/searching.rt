@@ -7,7 +7,7 @@ ghost use Rattle.path_pivot_tables.specs.Shapes.{HasEnded};
 ghost use Rattle.path_pivot_rounds.specs.Rounds.{IsColumnOf, round_over};
 ghost use Rattle.path_pivot_ends.specs.Multiplied.{side_count, width};
 ghost use Rattle.path_pivot_laws.specs.Laws.{EndsWell};
-ghost use Rattle.path_fact_columns.specs.Columns.{ops_of};
+ghost use Rattle.path_fact_kinds.specs.Columns.{ops_of};
 ghost use Rattle.path_fact_fit.specs.Conditions.{IsSearchable};
 ghost use Rattle.path_fact_kinds.specs.Kinds.{IsFound};
 ghost use Rattle.path_fact_search.specs.Marks.{found, least_of};

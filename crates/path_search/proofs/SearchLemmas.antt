@@ -50,7 +50,7 @@ use Rattle.path_values.specs.Plain.{plain_of}
 use Rattle.path_values.specs.Owed.{owe_at, nevers_by, loops_by}
 use Rattle.path_values.proofs.ValueLemmas.{multipliers_of}
 use Rattle.path_values.specs.Laws.{plain_by}
-use Rattle.path_search.specs.Conditions.{CanBound}
+use Rattle.path_conditions.specs.Bounding.{CanBound}
 use Rattle.path_search.specs.Kinds.{SaysOne}
 use Rattle.path_search.proofs.ConditionLemmas.{backs_free}
 use Rattle.path_search.specs.Unmarked.{values_in, unmarked_of, AreAddable, marked}

@@ -1,20 +1,7 @@
--- When a search for the greatest flow can be made.
-use Rattle.std.specs.Prelude.{◌≡◌, ◌≢◌, List, [], false, All, Contains}
-use Rattle.rv_core.specs.Table.{Table}
+-- What it costs a search that no jump back may be the header of another loop.
+use Rattle.std.specs.Prelude.{◌≡◌, ◌≢◌, List, false, Contains}
 use Rattle.code_flow_system.specs.declared.shapes.LoopShape.{LoopShape}
-use Rattle.code_flow_system.specs.declared.shapes.Span.{Span}
 use Rattle.code_flow_system.specs.Systems.{System, has_moves}
-use Rattle.path_fit.specs.Fitting.{LoopsFit}
-use Rattle.path_counts.specs.Laws.{HasBounds}
-use Rattle.path_limits.specs.Limits.{LooseCountsAreFew, LooseValuesBelow}
-
--- loops and functions fit the system; there are no restrictions; bounds of loops can be kept; and every loose flow has a value below 2^60 and counts below 2^49
-pub record CanBound (t : Table) (s : System) (ls : List LoopShape) (ps : List Span) : Type 0 where
-  pub fit : LoopsFit s ls ps
-  pub facts : s.claims.facts ≡ []
-  pub bounds : All HasBounds s.claims.loops
-  pub loose : LooseValuesBelow t s
-  pub counts : LooseCountsAreFew s
 
 -- where a jump back is the header of another loop, that loop's own jump back is never reached
 abbrev pub SharedHeadersNeverTurn : System → List LoopShape → Type 0

@@ -6,7 +6,7 @@ ghost use Rattle.path_places.specs.Reached.{AreReached};
 ghost use Rattle.path_limits.specs.Narrow.{HasShortBounds};
 ghost use Rattle.path_cert.specs.Certificates.{certificate_of};
 ghost use Rattle.path_bound.specs.Laws.{IsBoundable};
-ghost use Rattle.path_search.specs.Conditions.{CanBound};
+ghost use Rattle.path_conditions.specs.Bounding.{CanBound};
 ghost use Rattle.path_search.specs.Kinds.{IsMarked};
 ghost use Rattle.path_search.specs.Unmarked.{no_flow, one_flow};
 

@@ -4,7 +4,8 @@ ghost use Rattle.rv_core.specs.Table.{table_of};
 ghost use Rattle.code_flow_system.specs.Shapes.{Fits};
 ghost use Rattle.path_places.specs.Reached.{AreReached};
 ghost use Rattle.path_counts.specs.Laws.{HasBounds};
-ghost use Rattle.path_search.specs.Conditions.{CanBound, SharedHeadersNeverTurn};
+ghost use Rattle.path_conditions.specs.Bounding.{CanBound};
+ghost use Rattle.path_search.specs.Conditions.{SharedHeadersNeverTurn};
 
 use code_flow_system::{LoopClaim, LoopShape, Span, System};
 use path_fit::loops_fit;

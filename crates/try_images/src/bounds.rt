@@ -1,7 +1,7 @@
 // The bound of a program that is laid.
 ghost use Rattle.code_flow_system.specs.Systems.{IsSystemOf};
 ghost use Rattle.path_places.specs.Reached.{AreReached};
-ghost use Rattle.path_search.specs.Conditions.{CanBound};
+ghost use Rattle.path_conditions.specs.Bounding.{CanBound};
 ghost use Rattle.rv_core.specs.Table.{table_of};
 
 use code_flow::system;

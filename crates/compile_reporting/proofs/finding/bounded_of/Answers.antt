@@ -1,6 +1,6 @@
 use Rattle.std.proofs.Common.{sym, subst}
 use Rattle.rv_core.specs.Table.{table_of}
-use Rattle.path_fact_fit.specs.Conditions.{CanSearch}
+use Rattle.path_conditions.specs.Searching.{CanSearch}
 use Rattle.compile_reporting.specs.Sources.{names_of, tree_of}
 use Rattle.compile_reporting.proofs.Values.{cycles_below, value_small}
 use Rattle.compile_reporting.proofs.finding.bounded_of.Goals as goal

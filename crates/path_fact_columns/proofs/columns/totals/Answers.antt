@@ -5,7 +5,7 @@ use Rattle.code_flow_system.specs.declared.claims.FactClaim.{FactClaim}
 use Rattle.code_flow_system.specs.Claims.{Claims}
 use Rattle.code_flow_system.specs.Counts.{count}
 use Rattle.code_flow_system.specs.Certificates.{listed}
-use Rattle.path_best.specs.Facts.{IsNaturalFact}
+use Rattle.path_conditions.specs.Natural.{IsNaturalFact}
 use Rattle.path_fact_columns.proofs.CountLemmas.{totals_next}
 use Rattle.path_fact_columns.proofs.columns.totals.Goals as goal
 

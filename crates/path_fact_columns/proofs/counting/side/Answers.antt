@@ -5,7 +5,7 @@ use Rattle.std.proofs.lemmas.Int.{to_z-of_z}
 use Rattle.frac128.specs.Terms.{applied}
 use Rattle.code_flow_system.specs.Counts.{count}
 use Rattle.code_flow_system.specs.Certificates.{listed}
-use Rattle.path_best.specs.Facts.{AreNatural}
+use Rattle.path_conditions.specs.Natural.{AreNatural}
 use Rattle.path_fact_columns.proofs.CountLemmas.{counts_positive, side_next, term_small, next_fits}
 use Rattle.path_fact_columns.proofs.counting.side.Goals as goal
 

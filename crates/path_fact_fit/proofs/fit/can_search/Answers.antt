@@ -6,7 +6,7 @@ use Rattle.code_flow_system.specs.Claims.{Claims}
 use Rattle.path_fit.specs.Fitting.{LoopsFit}
 use Rattle.path_counts.specs.Laws.{HasBounds}
 use Rattle.path_limits.specs.Limits.{LooseCountsAreFew, LooseValuesBelow}
-use Rattle.path_fact_fit.specs.Conditions.{CanSearch}
+use Rattle.path_conditions.specs.Searching.{CanSearch}
 use Rattle.path_fact_fit.specs.Few.{IsFewFact}
 use Rattle.path_fact_fit.proofs.FewLemmas.{searched}
 use Rattle.path_fact_fit.proofs.fit.can_search.Goals as goal

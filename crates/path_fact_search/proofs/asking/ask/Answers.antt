@@ -8,8 +8,8 @@ use Rattle.code_flow_system.specs.declared.cert.Part.{Part}
 use Rattle.code_flow_system.specs.declared.claims.FactClaim.{FactClaim}
 use Rattle.code_flow_system.specs.Certificates.{listed}
 use Rattle.code_flow_system.specs.Counts.{count}
-use Rattle.path_best.specs.Facts.{both_totals}
-use Rattle.path_fact_columns.specs.Columns.{column_of}
+use Rattle.path_conditions.specs.Natural.{both_totals}
+use Rattle.path_fact_kinds.specs.Columns.{column_of}
 use Rattle.path_fact_search.specs.Steps.{IsAccepted}
 use Rattle.path_fact_search.proofs.StepLemmas.{no_flow, answered}
 use Rattle.path_fact_search.proofs.asking.ask.Goals as goal

@@ -1,5 +1,5 @@
 use Rattle.std.proofs.Common.{◌≡◌, ◌++◌, drop}
-use Rattle.path_fact_columns.specs.Columns.{ops_of}
+use Rattle.path_fact_kinds.specs.Columns.{ops_of}
 use Rattle.path_fact_search.proofs.searching.ops_of.Given as goal
 
 abbrev pub invariant-loop-i : goal.invariant-loop-i

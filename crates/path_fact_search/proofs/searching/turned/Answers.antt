@@ -7,7 +7,7 @@ use Rattle.path_answer.specs.declared.bounded.Column.{Column}
 use Rattle.path_answer.specs.declared.bounded.Kind.{Kind}
 use Rattle.path_answer.specs.declared.bounded.Kind.TheVariants as kinds
 use Rattle.path_pivot_rounds.specs.Rounds.{IsColumnOf, round_over}
-use Rattle.path_fact_columns.specs.Columns.{ops_of}
+use Rattle.path_fact_kinds.specs.Columns.{ops_of}
 use Rattle.path_fact_kinds.specs.Kinds.{IsFound}
 use Rattle.path_fact_search.specs.Marks.{found}
 use Rattle.path_fact_search.specs.Steps.{IsStep}

@@ -1,0 +1,3 @@
+pub mod Natural
+pub mod Bounding
+pub mod Searching
