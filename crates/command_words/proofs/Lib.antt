@@ -2,4 +2,4 @@ pub mod Getters
 pub mod Accepted
 mod Laws
 mod Taking
-mod Nothing
+mod Verbs

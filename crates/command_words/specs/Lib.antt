@@ -4,4 +4,5 @@ pub mod Values
 pub mod Requests
 pub mod Asked
 pub mod Held
+pub mod Verbs
 pub mod Matching

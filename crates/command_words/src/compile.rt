@@ -1,19 +1,16 @@
 // The words of `compile`.
-ghost use Rattle.std.specs.Prelude.{◌≡◌, IfOk, map, option_map, string_bytes, codes};
+ghost use Rattle.std.specs.Prelude.{◌≡◌, IfOk, codes};
 ghost use Rattle.clap.specs.Words.{app_of, found_of, rows_of, with_rule};
 ghost use Rattle.command_words.specs.Arguments.{number_rule};
 ghost use Rattle.command_words.specs.Commands.{compile_command};
 ghost use Rattle.command_words.specs.Values.{IsGivenIn};
-ghost use Rattle.command_words.specs.Asked.{compile_asked, taken};
+ghost use Rattle.command_words.specs.Asked.{compile_asked};
 ghost use Rattle.command_words.specs.Held.{request_of};
 
-use crate::matching::matches;
-use crate::names::distinct;
 use crate::request::{CompileRequest, Request};
 use crate::{arguments, values};
 use clap::{ArgMatches, Command};
 use std::alloc::{AllocError, Global};
-use wcc_base::Memory;
 
 const SPM_MOST: u64 = 65_536;
 
@@ -32,8 +29,8 @@ fn with_numbers<'a>(alloc: Global, command: Command<'a>) -> Result<Command<'a>, 
         .arg(arguments::number(alloc, "inline", 0, INLINE_MOST))
 }
 
-// The definition of `compile`.
-fn command<'a>(alloc: Global) -> Result<Command<'a>, AllocError>
+/// The definition of `compile`.
+pub fn command<'a>(alloc: Global) -> Result<Command<'a>, AllocError>
     ensures { IfOk result (λ c. app_of c ≡ compile_command) }
 {
     let command = Command::new(alloc, "compile");
@@ -43,8 +40,8 @@ fn command<'a>(alloc: Global) -> Result<Command<'a>, AllocError>
         .arg(arguments::flag(alloc, "derive"))
 }
 
-// What the matches ask.
-fn request<'a>(matches: &ArgMatches<'a>) -> Request<'a>
+/// What the matches ask.
+pub fn request<'a>(matches: &ArgMatches<'a>) -> Request<'a>
     requires spm { IsGivenIn 0 65536 (codes "spm") (rows_of (found_of matches.now)) }
     requires unroll { IsGivenIn 1 64 (codes "unroll") (rows_of (found_of matches.now)) }
     requires inline { IsGivenIn 0 10000 (codes "inline") (rows_of (found_of matches.now)) }
@@ -60,20 +57,4 @@ fn request<'a>(matches: &ArgMatches<'a>) -> Request<'a>
         table: values::option(matches, "table"),
         derive: values::flag(matches, "derive"),
     })
-}
-
-/// What the words ask of `compile`, if they ask for anything.
-pub fn read<'a>(alloc: Global, words: &'a [String]) -> Result<Option<Request<'a>>, Memory>
-    ensures { IfOk result (λ o. option_map request_of o ≡ taken compile_command compile_asked (map string_bytes words.now)) }
-{
-    let command = command(alloc)?;
-    match matches(command, words) {
-        Ok(Some(matches)) => {
-            let asked = request(&matches);
-            drop(matches);
-            Ok(distinct(asked))
-        }
-        Ok(None) => Ok(None),
-        Err(_) => Err(Memory),
-    }
 }

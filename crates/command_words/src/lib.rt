@@ -27,6 +27,7 @@ mod request;
 mod respond;
 mod run;
 mod values;
+mod verb;
 
 pub use reading::read_words;
 pub use request::{
