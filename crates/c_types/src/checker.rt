@@ -128,6 +128,23 @@ fn seal(unit: Unit, draft: Draft) -> Typed
     }
 }
 
+/// What was found in a unit that has a typed program, or why it has none.
+fn draft_of(unit: &Unit, alloc: Global) -> Result<Draft, TypeFault>
+    ensures passes { IfOk result (λ draft. fault_of unit.now.names.items (tree_of unit.now) ≡ None) }
+    ensures draft { IfOk result (λ draft. IsDraft draft unit.now.names.items (tree_of unit.now)) }
+    ensures refused { IfErr result (λ fault. Refuses fault unit.now.names.items (tree_of unit.now)) }
+{
+    if let Some(fault) = fault_before(unit)? {
+        return Err(fault);
+    }
+    let draft = make_draft(unit, alloc)?;
+    if let Some(fault) = draft.fault {
+        drop(draft);
+        return Err(fault);
+    }
+    Ok(draft)
+}
+
 /// The typed program of a unit, or why it has none: the first of the limits of nodes, functions, parameters, markers and
 /// restrictions that it passes; else the first node in source order at which a rule fails, with the least rule that
 /// fails there; else the first of the limits of the bytes of its global and of its local objects.
@@ -137,15 +154,11 @@ pub fn check(alloc: Global, unit: Unit) -> Result<Typed, TypeFault>
     ensures names { IfOk result (λ typed. typed.program.names.items ≡ unit.names.items) }
     ensures refused { IfErr result (λ fault. Refuses fault unit.names.items (tree_of unit)) }
 {
-    if let Some(fault) = fault_before(&unit)? {
-        drop(unit);
-        return Err(fault);
+    match draft_of(&unit, alloc) {
+        Ok(draft) => Ok(seal(unit, draft)),
+        Err(fault) => {
+            drop(unit);
+            Err(fault)
+        }
     }
-    let draft = make_draft(&unit, alloc)?;
-    if let Some(fault) = draft.fault {
-        drop(unit);
-        drop(draft);
-        return Err(fault);
-    }
-    Ok(seal(unit, draft))
 }

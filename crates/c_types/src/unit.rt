@@ -1,10 +1,12 @@
 // The walk over a unit.
-ghost use Rattle.std.specs.Prelude.{◌≡◌, ◌++◌, ◌∷◌, [], IfOk, OnOk};
+ghost use Rattle.std.specs.Prelude.{◌≡◌, ◌++◌, ◌∷◌, [], map, IfOk, OnOk};
 ghost use Rattle.c_tree.specs.Tree.{Nothing};
 ghost use Rattle.c_tree.specs.View.{function_of as source_function, param_of as source_param, row_of};
 ghost use Rattle.types_rules.specs.DeclarationRules.{after_list, function_rule, redefines, routine};
-ghost use Rattle.types_rules.specs.Scope.{with_definition, with_routine};
-ghost use Rattle.c_types.specs.Unit.{AreExternals, IsExternal, IsFunction, definition_fault};
+ghost use Rattle.types_rules.specs.Scope.{Around, with_definition, with_routine};
+ghost use Rattle.types_rules.specs.Typing.{typed_params};
+ghost use Rattle.types_tree.specs.View.{param_of};
+ghost use Rattle.c_types.specs.Unit.{AreExternals, AreParts, IsExternal, IsFunction, definition_fault};
 
 use c_tree::declaration::Param;
 use c_tree::expression::{NameId, Specifier};
@@ -17,9 +19,17 @@ use types_declaration::{
 use types_expression::first_of;
 use types_rules::{Fault, Rule, are_wrong, kind_spelled};
 use types_scope::{Table, narrow};
-use types_statement::{Within, check_body, copy_pragma};
+use types_statement::{CheckedItems, Within, check_body, copy_pragma};
+use types_tree::declaration::Param as TypedParam;
 use types_tree::expression::{FunctionId, ObjectId};
 use types_tree::external::{External, Function};
+
+/// What was found in the parameters of a definition.
+#[derive(Drop)]
+pub struct CheckedList {
+    pub params: Vec<TypedParam>,
+    pub fault: Option<Fault>,
+}
 
 /// What was found in a function.
 #[derive(Drop)]
@@ -90,6 +100,61 @@ fn declare_list(
     Ok(fault)
 }
 
+/// Checks the parameters of a definition, and declares them.
+fn check_list(source: &[Param], table: &mut Table, alloc: Global) -> Result<CheckedList, AllocError>
+    ensures params { IfOk result (λ r. map param_of r.params.items ≡ typed_params (row_of source_param Nothing source.now) table.old) }
+    ensures fault { IfOk result (λ r. r.fault ≡ definition_fault (row_of source_param Nothing source.now) table.old) }
+    ensures after { OnOk result (table.new ≡ after_list (row_of source_param Nothing source.now) table.old) }
+{
+    let inner = check_params(source, table, alloc)?;
+    match declare_list(source, table, alloc) {
+        Ok(fault) => Ok(CheckedList {
+            params: inner.params,
+            fault,
+        }),
+        Err(memory) => {
+            drop(inner);
+            Err(memory)
+        }
+    }
+}
+
+/// A function, once its parts are walked.
+fn make_function(
+    source: &SourceFunction,
+    rule: Option<Rule>,
+    first: u32,
+    list: CheckedList,
+    body: CheckedItems,
+    alloc: Global,
+) -> Result<CheckedFunction, AllocError>
+    ensures { IfOk result (λ r. (a b : Around) → AreParts rule first list body source.now a b → IsFunction r source.now a b) }
+{
+    match copy_specifiers(&source.specifiers, alloc) {
+        Ok(specifiers) => {
+            let own = fault_at(rule, source.at);
+            Ok(CheckedFunction {
+                function: Function {
+                    specifiers,
+                    name: source.name,
+                    name_at: source.name_at,
+                    params: list.params,
+                    first: ObjectId(first),
+                    body: body.items,
+                    body_at: source.body_at,
+                    at: source.at,
+                },
+                fault: first_of(own, first_of(list.fault, body.fault)),
+            })
+        }
+        Err(memory) => {
+            drop(list);
+            drop(body);
+            Err(memory)
+        }
+    }
+}
+
 /// Checks the definition of a function.
 fn check_function(
     source: &SourceFunction,
@@ -99,7 +164,6 @@ fn check_function(
     ensures { IfOk result (λ r. IsFunction r source.now table.old table.new) }
 {
     let first = narrow(table.objects())?;
-    let specifiers = copy_specifiers(&source.specifiers, alloc)?;
     let rule = define(
         &source.specifiers,
         source.name,
@@ -108,25 +172,18 @@ fn check_function(
         alloc,
     )?;
     table.enter(alloc)?;
-    let params = check_params(&source.params, table, alloc)?;
-    let declared = declare_list(&source.params, table, alloc)?;
+    let list = check_list(&source.params, table, alloc)?;
     let within = Within::function(kind_spelled(&source.specifiers));
-    let body = check_body(&source.body, within, table, alloc)?;
-    table.leave(alloc);
-    let own = fault_at(rule, source.at);
-    Ok(CheckedFunction {
-        function: Function {
-            specifiers,
-            name: source.name,
-            name_at: source.name_at,
-            params: params.params,
-            first: ObjectId(first),
-            body: body.items,
-            body_at: source.body_at,
-            at: source.at,
-        },
-        fault: first_of(own, first_of(declared, body.fault)),
-    })
+    match check_body(&source.body, within, table, alloc) {
+        Ok(body) => {
+            table.leave(alloc);
+            make_function(source, rule, first, list, body, alloc)
+        }
+        Err(memory) => {
+            drop(list);
+            Err(memory)
+        }
+    }
 }
 
 fn keep(functions: &mut Vec<Function>, function: Function) -> Result<(), AllocError>

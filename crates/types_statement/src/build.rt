@@ -6,11 +6,17 @@ ghost use Rattle.c_tree.specs.View.{expr_of as source_of};
 ghost use Rattle.types_tree.specs.Tree.{Block, Do, For, If, IfElse, Switch, While};
 ghost use Rattle.types_tree.specs.View.{expr_of, items_of, start_of, statement_of};
 ghost use Rattle.types_rules.specs.Scope.{or_else};
+ghost use Rattle.types_rules.specs.Sights.{first_fault, value_nodes};
+ghost use Rattle.types_rules.specs.Types.{kind_of};
+ghost use Rattle.types_rules.specs.Typing.{typed_value};
+ghost use Rattle.types_value.specs.Kinds.{is_void};
 ghost use Rattle.types_statement.specs.Checked.{IsStatement, void_fault};
 ghost use Rattle.types_statement.specs.Within.{within_said};
 
-use super::checked::{Begun, CheckedHead, CheckedItems, CheckedStatement, CheckedTest, Within};
-use super::parts::{check_option_at, copy_pragma, differ, has_value, own_fault};
+use super::checked::{
+    Begun, BegunFor, BegunWhile, CheckedHead, CheckedItems, CheckedStatement, CheckedTest, Within,
+};
+use super::parts::{check_option_at, check_test, copy_pragma, differ, has_value, own_fault};
 use c_tree::Pragma;
 use c_tree::expression::Expr as Source;
 use std::alloc::{AllocError, Global};
@@ -103,14 +109,14 @@ pub fn make_if_else(
 }
 
 pub fn make_while(
-    begun: Begun,
-    test: CheckedTest,
+    head: BegunWhile,
     body: CheckedStatement,
     alloc: Global,
 ) -> Result<CheckedStatement, AllocError>
-    ensures statement { IfOk result (λ r. statement_of r.statement.value ≡ While begun.number.0 begun.bound (expr_of test.test.value) (statement_of body.statement.value) begun.at) }
-    ensures fault { IfOk result (λ r. r.fault ≡ or_else test.own (or_else test.fault body.fault)) }
+    ensures statement { IfOk result (λ r. statement_of r.statement.value ≡ While head.begun.number.0 head.begun.bound (expr_of head.test.test.value) (statement_of body.statement.value) head.begun.at) }
+    ensures fault { IfOk result (λ r. r.fault ≡ or_else head.test.own (or_else head.test.fault body.fault)) }
 {
+    let BegunWhile { begun, test } = head;
     let fault = first_of(test.own, first_of(test.fault, body.fault));
     let statement = Statement::While {
         number: begun.number,
@@ -122,7 +128,7 @@ pub fn make_while(
     made(statement, fault, alloc)
 }
 
-pub fn make_do(
+fn make_do(
     begun: Begun,
     body: CheckedStatement,
     test: CheckedTest,
@@ -142,15 +148,36 @@ pub fn make_do(
     made(statement, fault, alloc)
 }
 
-pub fn make_for(
+/// Checks the test of a `do`, and makes it.
+pub fn end_do(
     begun: Begun,
-    head: Box<CheckedHead>,
+    body: CheckedStatement,
+    test: &Source,
+    table: &Table,
+    alloc: Global,
+) -> Result<CheckedStatement, AllocError>
+    ensures statement { IfOk result (λ r. statement_of r.statement.value ≡ Do begun.number.0 begun.bound (statement_of body.statement.value) (typed_value (source_of test.now) table.now) begun.at) }
+    ensures fault { IfOk result (λ r. r.fault ≡ or_else (void_fault (is_void (kind_of (source_of test.now) table.now)) begun.at) (or_else body.fault (first_fault (value_nodes (source_of test.now) table.now)))) }
+{
+    match check_test(test, begun.at, table, alloc) {
+        Ok(test) => make_do(begun, body, test, alloc),
+        Err(memory) => {
+            begun.let_go();
+            body.let_go();
+            Err(memory)
+        }
+    }
+}
+
+pub fn make_for(
+    begun: BegunFor,
     body: CheckedStatement,
     alloc: Global,
 ) -> Result<CheckedStatement, AllocError>
-    ensures statement { IfOk result (λ r. statement_of r.statement.value ≡ For begun.number.0 begun.bound (start_of head.value.start.start) (map_option expr_of head.value.test.value) (map_option expr_of head.value.step.value) (statement_of body.statement.value) begun.at) }
-    ensures fault { IfOk result (λ r. r.fault ≡ or_else (void_fault head.value.test.void begun.at) (or_else head.value.start.fault (or_else head.value.test.fault (or_else head.value.step.fault body.fault)))) }
+    ensures statement { IfOk result (λ r. statement_of r.statement.value ≡ For begun.begun.number.0 begun.begun.bound (start_of begun.head.value.start.start) (map_option expr_of begun.head.value.test.value) (map_option expr_of begun.head.value.step.value) (statement_of body.statement.value) begun.begun.at) }
+    ensures fault { IfOk result (λ r. r.fault ≡ or_else (void_fault begun.head.value.test.void begun.begun.at) (or_else begun.head.value.start.fault (or_else begun.head.value.test.fault (or_else begun.head.value.step.fault body.fault)))) }
 {
+    let BegunFor { begun, head } = begun;
     let CheckedHead { start, test, step } = Box::into_inner(head);
     let own = own_fault(test.void, false, false, begun.at);
     let parts = first_of(test.fault, first_of(step.fault, body.fault));

@@ -84,6 +84,52 @@ pub struct Begun {
     pub at: u32,
 }
 
+/// A `while` that was counted, and its test.
+#[derive(Drop)]
+pub struct BegunWhile {
+    pub begun: Begun,
+    pub test: CheckedTest,
+}
+
+/// A `for` that was counted, and its head.
+#[derive(Drop)]
+pub struct BegunFor {
+    pub begun: Begun,
+    pub head: Box<CheckedHead>,
+}
+
+// What is found is let go here, once for each type.
+
+impl CheckedStatement {
+    pub fn let_go(self) {
+        drop(self);
+    }
+}
+
+impl CheckedTest {
+    pub fn let_go(self) {
+        drop(self);
+    }
+}
+
+impl Begun {
+    pub fn let_go(self) {
+        drop(self);
+    }
+}
+
+impl BegunWhile {
+    pub fn let_go(self) {
+        drop(self);
+    }
+}
+
+impl BegunFor {
+    pub fn let_go(self) {
+        drop(self);
+    }
+}
+
 impl Within {
     ghost use Rattle.std.specs.Prelude.{◌≡◌};
     ghost use Rattle.types_rules.specs.StatementRules.{in_function, in_loop, in_switch};

@@ -9,6 +9,7 @@
 
 mod build;
 mod checked;
+mod heads;
 mod labels;
 mod parts;
 mod walk;

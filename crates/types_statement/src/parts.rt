@@ -1,26 +1,26 @@
 // The parts of statements.
-ghost use Rattle.std.specs.Prelude.{◌≡◌, ◌+◌, ◌++◌, ◌∷◌, [], is_some, IfOk, OnOk};
+ghost use Rattle.std.specs.Prelude.{◌≡◌, ◌++◌, ◌∷◌, [], is_some, IfOk, OnOk};
 ghost use Rattle.c_tree.specs.Named.{map_option};
 ghost use Rattle.c_tree.specs.View.{expr_of as source_of, start_of as source_start};
 ghost use Rattle.types_tree.specs.View.{expr_of, start_of};
 ghost use Rattle.types_rules.specs.ExpressionRules.{differ, when};
-ghost use Rattle.types_rules.specs.Scope.{or_else, with_loop};
-ghost use Rattle.types_statement.specs.Checked.{IsChoice, IsHead, IsTest};
+ghost use Rattle.types_rules.specs.Scope.{or_else};
+ghost use Rattle.types_statement.specs.Checked.{IsChoice, IsTest};
 ghost use Rattle.types_rules.specs.Sights.{fault_at, first_fault, option_nodes, start_nodes};
 ghost use Rattle.types_rules.specs.StatementRules.{after_start, is_void_option};
 ghost use Rattle.types_rules.specs.Typing.{option_at, typed_option, typed_start};
 ghost use Rattle.types_rules.specs.declared.fault.Rule.TheVariants as rules;
 
-use super::checked::{Begun, CheckedHead, CheckedOption, CheckedStart, CheckedTest};
+use super::checked::{CheckedOption, CheckedStart, CheckedTest};
 use c_tree::Pragma;
 use c_tree::expression::Expr as Source;
-use c_tree::statement::{ForHead as SourceHead, ForStart as SourceStart};
+use c_tree::statement::ForStart as SourceStart;
 use std::alloc::{AllocError, Global};
 use types_declaration::{check_declaration, fault_at, rule_or, when};
 use types_expression::{check, convert};
 use types_rules::{Fault, Rule};
 use types_scope::Table;
-use types_tree::statement::{ForStart, Item, LoopId};
+use types_tree::statement::{ForStart, Item};
 use types_value::Kind;
 use wcc_base::Text;
 
@@ -163,37 +163,6 @@ pub fn check_start(
     }
 }
 
-fn boxed(head: CheckedHead, alloc: Global) -> Result<Box<CheckedHead>, AllocError>
-    ensures { IfOk result (λ b. b.value ≡ head) }
-{
-    Ok(Box::new(alloc, head)?)
-}
-
-/// Checks the head of a `for`, and declares what it declares.
-pub fn check_head(
-    head: &SourceHead,
-    table: &mut Table,
-    alloc: Global,
-) -> Result<Box<CheckedHead>, AllocError>
-    ensures { IfOk result (λ r. IsHead r.value (source_start head.now.start) (map_option source_of head.now.test) (map_option source_of head.now.step) table.old table.new) }
-{
-    let start = check_start(&head.start, table, alloc)?;
-    match check_option(&head.test, table, alloc) {
-        Ok(test) => match check_option(&head.step, table, alloc) {
-            Ok(step) => boxed(CheckedHead { start, test, step }, alloc),
-            Err(memory) => {
-                drop(start);
-                drop(test);
-                Err(memory)
-            }
-        },
-        Err(memory) => {
-            drop(start);
-            Err(memory)
-        }
-    }
-}
-
 /// Checks the test of a statement at this place.
 pub fn check_test(
     test: &Source,
@@ -227,22 +196,4 @@ pub fn check_choice(
     let own = own_fault(kind.is_void(), false, false, at);
     let test = convert(kind, kind.promoted(), inner.value.expr, alloc)?;
     Ok(CheckedTest { test, own, fault })
-}
-
-/// Counts a loop.
-pub fn begin_loop(
-    bound: &Option<Pragma>,
-    at: u32,
-    table: &mut Table,
-    alloc: Global,
-) -> Result<Begun, AllocError>
-    ensures number { IfOk result (λ r. r.number.0 ≡ table.old.loops + 1) }
-    ensures bound { IfOk result (λ r. r.bound ≡ bound.now) }
-    ensures at { IfOk result (λ r. r.at ≡ at) }
-    ensures after { OnOk result (table.new ≡ with_loop table.old) }
-{
-    table.count_loop()?;
-    let number = LoopId(table.loops());
-    let bound = copy_bound(bound, alloc)?;
-    Ok(Begun { number, bound, at })
 }

@@ -6,14 +6,13 @@ ghost use Rattle.types_statement.specs.Checked.{AreItems, AreTyped, IsItem, IsSt
 ghost use Rattle.types_statement.specs.Within.{within_said};
 
 use super::build::{
-    check_evaluate, check_marker, check_return, made, make_block, make_do, make_for, make_if,
+    check_evaluate, check_marker, check_return, end_do, made, make_block, make_for, make_if,
     make_if_else, make_switch, make_while,
 };
 use super::checked::{CheckedItem, CheckedItems, CheckedStatement, Within};
+use super::heads::{begin_for, begin_loop, begin_switch, begin_while};
 use super::labels::{Labels, check_label};
-use super::parts::{
-    begin_loop, check_choice, check_head, check_test, copy_pragma, own_fault, push,
-};
+use super::parts::{check_test, copy_pragma, own_fault, push};
 use c_tree::statement::{Item as SourceItem, Statement as Source};
 use std::alloc::{AllocError, Global};
 use types_declaration::check_declaration;
@@ -44,8 +43,13 @@ fn check_statement(
         Source::Marker(pragma) => check_marker(pragma, within, table, alloc),
         Source::If { test, then, at } => {
             let test = check_test(test, *at, table, alloc)?;
-            let first = check_statement(then, within, table, alloc)?;
-            make_if(test, first, *at, alloc)
+            match check_statement(then, within, table, alloc) {
+                Ok(first) => make_if(test, first, *at, alloc),
+                Err(memory) => {
+                    test.let_go();
+                    Err(memory)
+                }
+            }
         }
         Source::IfElse {
             test,
@@ -54,9 +58,20 @@ fn check_statement(
             at,
         } => {
             let test = check_test(test, *at, table, alloc)?;
-            let first = check_statement(then, within, table, alloc)?;
-            let second = check_statement(otherwise, within, table, alloc)?;
-            make_if_else(test, first, second, *at, alloc)
+            match check_statement(then, within, table, alloc) {
+                Ok(first) => match check_statement(otherwise, within, table, alloc) {
+                    Ok(second) => make_if_else(test, first, second, *at, alloc),
+                    Err(memory) => {
+                        test.let_go();
+                        first.let_go();
+                        Err(memory)
+                    }
+                },
+                Err(memory) => {
+                    test.let_go();
+                    Err(memory)
+                }
+            }
         }
         Source::While {
             bound,
@@ -64,10 +79,14 @@ fn check_statement(
             body,
             at,
         } => {
-            let begun = begin_loop(bound, *at, table, alloc)?;
-            let test = check_test(test, *at, table, alloc)?;
-            let body = check_statement(body, within.in_loop(), table, alloc)?;
-            make_while(begun, test, body, alloc)
+            let head = begin_while(bound, test, *at, table, alloc)?;
+            match check_statement(body, within.in_loop(), table, alloc) {
+                Ok(body) => make_while(head, body, alloc),
+                Err(memory) => {
+                    head.let_go();
+                    Err(memory)
+                }
+            }
         }
         Source::Do {
             bound,
@@ -76,9 +95,13 @@ fn check_statement(
             at,
         } => {
             let begun = begin_loop(bound, *at, table, alloc)?;
-            let body = check_statement(body, within.in_loop(), table, alloc)?;
-            let test = check_test(test, *at, table, alloc)?;
-            make_do(begun, body, test, alloc)
+            match check_statement(body, within.in_loop(), table, alloc) {
+                Ok(body) => end_do(begun, body, test, table, alloc),
+                Err(memory) => {
+                    begun.let_go();
+                    Err(memory)
+                }
+            }
         }
         Source::For {
             bound,
@@ -86,19 +109,30 @@ fn check_statement(
             body,
             at,
         } => {
-            table.enter(alloc)?;
-            let begun = begin_loop(bound, *at, table, alloc)?;
-            let head = check_head(head, table, alloc)?;
-            let body = check_statement(body, within.in_loop(), table, alloc)?;
-            table.leave(alloc);
-            make_for(begun, head, body, alloc)
+            let head = begin_for(bound, head, *at, table, alloc)?;
+            match check_statement(body, within.in_loop(), table, alloc) {
+                Ok(body) => {
+                    table.leave(alloc);
+                    make_for(head, body, alloc)
+                }
+                Err(memory) => {
+                    head.let_go();
+                    Err(memory)
+                }
+            }
         }
         Source::Switch { test, items, at } => {
-            let choice = check_choice(test, *at, table, alloc)?;
-            table.enter(alloc)?;
-            let inner = check_items(items, within.in_switch(), table, alloc)?;
-            table.leave(alloc);
-            make_switch(choice, inner, *at, alloc)
+            let choice = begin_switch(test, *at, table, alloc)?;
+            match check_items(items, within.in_switch(), table, alloc) {
+                Ok(inner) => {
+                    table.leave(alloc);
+                    make_switch(choice, inner, *at, alloc)
+                }
+                Err(memory) => {
+                    choice.let_go();
+                    Err(memory)
+                }
+            }
         }
         Source::Break { at } => {
             let own = own_fault(false, !within.has_exit, false, *at);
@@ -186,6 +220,5 @@ pub fn check_body(
 ) -> Result<CheckedItems, AllocError>
     ensures { IfOk result (λ r. AreTyped r (source_items NoItem given.now) (within_said within) table.old table.new) }
 {
-    let checked = check_items(given, within, table, alloc)?;
-    Ok(checked)
+    check_items(given, within, table, alloc)
 }

@@ -31,12 +31,12 @@ check_statement-returns-in_ok-inner-in-Block t c =
     (block_made c.in-Block.items c.in-Block.at w c.args.table.now c.enter.new.self b c.leave.new.self c.in_ok-inner-in-Block.inner c.make_block.result
     c.in_ok-enter-in-Block.ensures (subst P c.deref.ensures.value c.in_ok-inner-in-Block.ensures) c.leave.ensures c.make_block.ensures.statement c.make_block.ensures.fault)
 
-pub check_statement-returns-in_ok-inner-in-Switch : goal.check_statement-returns-in_ok-inner-in-Switch
-check_statement-returns-in_ok-inner-in-Switch t c =
+pub check_statement-returns-in-Ok-check_items : goal.check_statement-returns-in-Ok-check_items
+check_statement-returns-in-Ok-check_items t c =
     let w = within_said c.args.within in
     let v = within_said c.in_switch.result in
     let b = c.check_items-in-Switch.new.table in
-    let P : List sources.Item → Type 0 = λ xs. AreItems c.in_ok-inner-in-Switch.inner (source_items NoItem xs) v c.enter-in-Switch.new.self b in
+    let P : List sources.Item → Type 0 = λ xs. AreItems c.in-Ok-check_items.inner (source_items NoItem xs) v c.begin_switch.new.table b in
     rw c.in-Switch.is
-    (switch_made c.in-Switch.test c.in-Switch.items c.in-Switch.at w v c.args.table.now c.enter-in-Switch.new.self b c.leave-in-Switch.new.self c.in_ok-choice-in-Switch.choice c.in_ok-inner-in-Switch.inner c.make_switch.result
-    c.in_switch.ensures c.in_ok-enter-in-Switch.ensures c.in_ok-choice-in-Switch.ensures (subst P c.deref-in-Switch.ensures.value c.in_ok-inner-in-Switch.ensures) c.leave-in-Switch.ensures c.make_switch.ensures.statement c.make_switch.ensures.fault)
+    (switch_made c.in-Switch.test c.in-Switch.items c.in-Switch.at w v c.args.table.now c.begin_switch.new.table b c.leave-in-Ok-check_items.new.self c.in_ok-choice-in-Switch.choice c.in-Ok-check_items.inner c.make_switch.result
+    c.in_switch.ensures c.in_ok-choice-in-Switch.ensures.after c.in_ok-choice-in-Switch.ensures.choice (subst P c.deref-in-Switch.ensures.value c.in-Ok-check_items.ensures) c.leave-in-Ok-check_items.ensures c.make_switch.ensures.statement c.make_switch.ensures.fault)

@@ -1,4 +1,5 @@
 use Rattle.std.proofs.Common.{◌∙◌, sym}
+use Rattle.std.proofs.lemmas.Result.{MatchResult-weaker}
 use Rattle.c_tree.specs.Tree.{NoItem}
 use Rattle.c_tree.specs.View.{items_of as source_items}
 use Rattle.types_statement.specs.Within.{within_said}
@@ -7,5 +8,5 @@ use Rattle.types_statement.proofs.walk.check_body.Goals as goal
 
 pub returns : goal.returns
 returns c =
-    let h = c.in_ok-checked.ensures in
-    record { items = h.items; fault = h.fault ∙ sym (first_among (source_items NoItem c.args.given.now) c.args.table.now (within_said c.args.within)); after = h.after }
+    MatchResult-weaker c.check_items.result c.check_items.ensures (λ r h.
+    record { items = h.items; fault = h.fault ∙ sym (first_among (source_items NoItem c.args.given.now) c.args.table.now (within_said c.args.within)); after = h.after }) (λ memory none. none)
