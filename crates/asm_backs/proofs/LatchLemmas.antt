@@ -42,8 +42,8 @@ module _ (g : Graph) (l : Placing) (main : ℕ) (image : Image) (claims : Claims
   by_form f k true h =
       let at = start_of l f k.latch in
       let to = start_of l f k.header in
-      let first = instruction Auipc 7 0 0 (upper_part at to) in
-      let second = instruction Jalr 0 7 0 (lower_part at to) in
+      let first = instruction Auipc 5 0 0 (upper_part at to) in
+      let second = instruction Jalr 0 5 0 (lower_part at to) in
       let low = (here.laid.places f k.latch).low in
       let behind_it : next at ≡ at + 4 = omega (arith, low) in
       let moves : moves_at c at ≡ move at 0 first (Some (at + 4)) None ∷ [] = moves_of_way c at first Next h.0.0 refl ∙ ap (λ n. move at 0 first (Some n) None ∷ []) behind_it in

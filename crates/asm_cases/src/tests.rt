@@ -128,7 +128,7 @@ const BRANCHES_AHEAD: [Case; 4] = [
         lead: Lead::Branch,
         ahead: true,
         between: 262_143,
-        words: &[0x0062_9663, 0x0010_0397, 0x0043_8067],
+        words: &[0x0062_9663, 0x0010_0297, 0x0042_8067],
     },
 ];
 
@@ -159,7 +159,7 @@ const JUMPS: [Case; 4] = [
         lead: Lead::Jump,
         ahead: true,
         between: 262_143,
-        words: &[0x0010_0397, 0x0043_8067],
+        words: &[0x0010_0297, 0x0042_8067],
     },
     Case {
         lead: Lead::Jump,
@@ -171,7 +171,7 @@ const JUMPS: [Case; 4] = [
         lead: Lead::Jump,
         ahead: false,
         between: 262_145,
-        words: &[0xfff0_0397, 0xffc3_8067],
+        words: &[0xfff0_0297, 0xffc2_8067],
     },
 ];
 

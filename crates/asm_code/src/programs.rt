@@ -105,6 +105,6 @@ pub fn items_of(
     ensures { IfOk result (λ all. all.items ≡ program_items memory.now (placed_of code.now)) }
 {
     let mut all = all_functions(alloc, code, memory)?;
-    all.push(start_items(alloc, code.low.main)?)?;
+    all.push(start_items(alloc, memory.second(), code.low.main)?)?;
     Ok(all)
 }

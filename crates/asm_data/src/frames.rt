@@ -98,13 +98,15 @@ impl Frame {
     }
 }
 
-/// Where everything lies in RAM: the frame of each function and the address of each array, by their numbers.
+/// Where everything lies: the frame of each function and the address of each array, by their numbers, and the address
+/// that the second base holds.
 #[derive(Drop)]
 pub struct Data {
     frames: Vec<Frame>,
     /// The frame of a function that has none.
     none: Frame,
     objects: Vec<u32>,
+    second: u32,
 }
 
 impl Model for Data {
@@ -113,20 +115,21 @@ impl Model for Data {
 
     ghost Value = { Memory };
 
-    ghost view = { λ d. record { frames = d.frames.items; objects = d.objects.items } };
+    ghost view = { λ d. record { frames = d.frames.items; objects = d.objects.items; second = d.second } };
 
     ghost invariant = { λ d. d.none ≡ no_frame };
 }
 
 impl Data {
-    pub fn new(alloc: Global, frames: Vec<Frame>, objects: Vec<u32>) -> Data
-        ensures { result ≡ record { frames = frames.items; objects = objects.items } }
+    pub fn new(alloc: Global, frames: Vec<Frame>, objects: Vec<u32>, second: u32) -> Data
+        ensures { result ≡ record { frames = frames.items; objects = objects.items; second = second } }
     {
         let none = Frame::new(0, Vec::new(alloc), Vec::new(alloc), 0);
         Data {
             frames,
             none,
             objects,
+            second,
         }
     }
 
@@ -148,5 +151,12 @@ impl Data {
             Some(at) => *at,
             None => 0,
         }
+    }
+
+    /// The address that the second base holds, or 0.
+    pub fn second(&self) -> u32
+        ensures { result ≡ self.now.second }
+    {
+        self.second
     }
 }

@@ -4,17 +4,17 @@ ghost use Rattle.std.specs.Option.{option_to_list};
 ghost use Rattle.rv_core.specs.Instructions.{is_within, instruction};
 ghost use Rattle.rv_core.specs.declared.op.Op.TheVariants.{Add};
 ghost use Rattle.asm_program.specs.Frames.{object_at};
-ghost use Rattle.asm_program.specs.Numbers.{is_short, lower_of, reach_register, reach_code, reach_offset};
+ghost use Rattle.asm_program.specs.Numbers.{is_short, lower_of, object_register, object_code, object_offset};
 ghost use Rattle.asm_program.specs.Operands.{offset_code, offset_register, far_code, far_register, address_code, address_register, address_offset};
 ghost use Rattle.asm_program.specs.Functions.{singles};
 ghost use Rattle.asm_sound.specs.Ranges.{IsRegister, InBase, InAddress};
 ghost use Rattle.asm_emission.specs.View.{address_of};
 ghost use Rattle.asm_emission.specs.Reaching.{pointer_code, pointer_register};
 
-use super::numbers::{FIRST_FREE, SECOND_FREE, is_short, lower_of, reach_offset, reach_register};
+use super::numbers::{FIRST_FREE, SECOND_FREE, is_short, lower_of, object_offset, object_register};
 use super::operands::{emit_fetch, place_register};
 use super::placed::{PlacedAddress, PlacedBase};
-use super::words::{add_registers, emit, emit_reach, load_upper};
+use super::words::{add_registers, emit, emit_object, load_upper};
 use asm_data::{Data, Frame};
 use asm_items::Item;
 use low_ir::Place;
@@ -90,17 +90,19 @@ fn emit_in_object(
 ) -> Result<Reached, Memory>
     requires at { at < 2 ^ 32 }
     requires offset { All IsRegister (option_to_list offset) }
-    ensures code { OnOk result (code.new.items ≡ code.old.items ++ singles (reach_code 5 at ++ offset_code frame.now memory.now (reach_register 5 at) offset)) }
-    ensures register { IfOk result (λ r. r.register ≡ offset_register frame.now memory.now (reach_register 5 at) offset) }
-    ensures offset { IfOk result (λ r. r.offset ≡ reach_offset at) }
+    ensures code { OnOk result (code.new.items ≡ code.old.items ++ singles (object_code memory.now.second 5 at ++ offset_code frame.now memory.now (object_register memory.now.second 5 at) offset)) }
+    ensures register { IfOk result (λ r. r.register ≡ offset_register frame.now memory.now (object_register memory.now.second 5 at) offset) }
+    ensures offset { IfOk result (λ r. r.offset ≡ object_offset memory.now.second at) }
     ensures small { IfOk result (λ r. r.register < 32) }
     ensures short { IfOk result (λ r. is_within (2 ^ 11) r.offset ≡ true) }
 {
-    emit_reach(code, FIRST_FREE, at)?;
-    let register = emit_offset(frame, code, memory, reach_register(FIRST_FREE, at), offset)?;
+    let second = memory.second();
+    emit_object(code, second, FIRST_FREE, at)?;
+    let base = object_register(second, FIRST_FREE, at);
+    let register = emit_offset(frame, code, memory, base, offset)?;
     Ok(Reached {
         register,
-        offset: reach_offset(at),
+        offset: object_offset(second, at),
     })
 }
 

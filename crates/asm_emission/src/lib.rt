@@ -25,7 +25,7 @@ mod words;
 pub use addresses::{Reached, emit_address};
 pub use calls::{emit_homes, emit_late, emit_pass, emit_returns, emit_value, kept_among};
 pub use entries::{emit_entry, emit_exit, leaves_at_once};
-pub use numbers::{FIRST_FREE, RESULT, SECOND_FREE, is_near};
+pub use numbers::{FIRST_FREE, RESULT, SECOND_FREE, is_reached};
 pub use operands::{emit_into, emit_operand, emit_result, operand_register};
 pub use placed::{
     PlacedAddress, PlacedBase, PlacedOperand, PlacedPlain, place_address, place_of, place_operand,

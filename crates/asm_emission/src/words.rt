@@ -2,11 +2,13 @@
 ghost use Rattle.std.specs.Prelude.{◌≡◌, ◌<◌, ◌^◌, ◌++◌, ◌∷◌, [], pos, true, OnOk};
 ghost use Rattle.rv_core.specs.Instructions.{instruction, addi, is_within};
 ghost use Rattle.asm_items.specs.declared.item.Item.TheVariants.{Single};
-ghost use Rattle.asm_program.specs.Numbers.{load_upper, constant_code, reach_code, load_word, store_word, move_code};
+ghost use Rattle.asm_program.specs.Numbers.{load_upper, constant_code, reach_code, object_code, load_word, store_word, move_code};
 ghost use Rattle.asm_program.specs.Operands.{load_code, store_code};
 ghost use Rattle.asm_program.specs.Functions.{singles};
 
-use super::numbers::{is_near, is_short, lower_of, reach_offset, reach_register, upper_of};
+use super::numbers::{
+    is_beside, is_near, is_short, lower_of, reach_offset, reach_register, upper_of,
+};
 use asm_items::Item;
 use rv_core::{Instr, Op};
 use wcc_base::{Memory, sign_extend};
@@ -94,6 +96,18 @@ pub fn emit_reach(code: &mut Vec<Item>, free: u8, address: u64) -> Result<(), Me
         return Ok(());
     }
     emit(code, load_upper(free, address))
+}
+
+/// The same for an address of an array, if the second base holds this.
+pub fn emit_object(code: &mut Vec<Item>, second: u32, free: u8, address: u64) -> Result<(), Memory>
+    requires free { free < 32 }
+    requires address { address < 2 ^ 36 }
+    ensures { OnOk result (code.new.items ≡ code.old.items ++ singles (object_code second free address)) }
+{
+    if is_beside(second, address) {
+        return Ok(());
+    }
+    emit_reach(code, free, address)
 }
 
 /// The word at an address comes into a register.

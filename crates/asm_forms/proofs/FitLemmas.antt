@@ -56,9 +56,9 @@ lower_within a to = is_within-difference (2 ^ 11) (raised a to % 2 ^ 12) (2 ^ 11
 -- AUIPC and JALR lead from anywhere to anywhere
 pub far_rows : (link a to : ℕ) → link < 32 → a ≤ 2 ^ 30 → to < 2 ^ 30 → in_rows (far_jump link a to) ≡ true
 far_rows link a to l h k =
-    let upper : in_row (instruction Auipc 7 0 0 (upper_part a to)) ≡ true = and_from (is_within (2 ^ 31) (upper_part a to)) (is_multiple 12 (upper_part a to)) (upper_within a to h k) (upper_multiple a to h k) in
-    let lower : in_row (instruction Jalr link 7 0 (lower_part a to)) ≡ true = and_from (nat_lt link 32) (is_within (2 ^ 11) (lower_part a to)) (lt-ltb link 32 l) (lower_within a to) in
-    and_from (in_row (instruction Auipc 7 0 0 (upper_part a to))) (in_row (instruction Jalr link 7 0 (lower_part a to)) && true) upper (and_from (in_row (instruction Jalr link 7 0 (lower_part a to))) true lower refl)
+    let upper : in_row (instruction Auipc 5 0 0 (upper_part a to)) ≡ true = and_from (is_within (2 ^ 31) (upper_part a to)) (is_multiple 12 (upper_part a to)) (upper_within a to h k) (upper_multiple a to h k) in
+    let lower : in_row (instruction Jalr link 5 0 (lower_part a to)) ≡ true = and_from (nat_lt link 32) (is_within (2 ^ 11) (lower_part a to)) (lt-ltb link 32 l) (lower_within a to) in
+    and_from (in_row (instruction Auipc 5 0 0 (upper_part a to))) (in_row (instruction Jalr link 5 0 (lower_part a to)) && true) upper (and_from (in_row (instruction Jalr link 5 0 (lower_part a to))) true lower refl)
 
 -- a branch over what stands behind it
 branch_row : (c : Condition) (x y : ℕ) → x < 32 → y < 32 → in_row (instruction (branch_op c) 0 x y (pos 12)) ≡ true

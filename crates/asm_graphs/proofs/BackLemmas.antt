@@ -35,7 +35,7 @@ module _ (g : Graph) (l : Placing) (c : Code) (sh : IsShaped g) (laid : IsLaid g
   back_by f k true h =
       let at = start_of l f k.latch in
       let to = start_of l f k.header in
-      let i = instruction Jalr 0 7 0 (lower_part at to) in
+      let i = instruction Jalr 0 5 0 (lower_part at to) in
       let e : at + 8 - 4 ≡ at + 4 = omega arith in
       subst (λ n. JumpsBack n to) (sym e) (i, moves_of_way c (at + 4) i (Jumps to) h.0.1.0 (register_is c at to 0 (laid.places f k.latch) (laid.places f k.header) h.0))
 
@@ -53,7 +53,7 @@ module _ (g : Graph) (l : Placing) (c : Code) (sh : IsShaped g) (laid : IsLaid g
   latch_by f k a false false small h (inl w) m t has on = inr (omega arith)
   latch_by f k a true true small h (inl w) m t has on = inr (omega arith)
   latch_by f k a false true small h (inl w) m t has on =
-      let i = instruction Auipc 7 0 0 (upper_part (start_of l f k.latch) (start_of l f k.header)) in
+      let i = instruction Auipc 5 0 0 (upper_part (start_of l f k.latch) (start_of l f k.header)) in
       let moves = moves_of_way c a i Next (ap c.fetch w ∙ h.0.0) refl in
       let same : move a 0 i (Some (next a)) None ≡ m = one_of _ m (subst (λ ms. Contains ms m) moves has) in
       let e : next a ≡ t = one_of (next a) t (subst (λ n. Contains (onward n) t) (sym same) on) in

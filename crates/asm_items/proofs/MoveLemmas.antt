@@ -111,11 +111,11 @@ size_some Return = omega arith
 size_some Exit = omega arith
 
 -- the second word of a far jump
-pub register_is : (c : Code) (at to link : ℕ) → IsCodeAddress at → IsCodeAddress to → HasWords c at (far_jump link at to) → way_of (c.exit (at + 4)) (fetch_before c (at + 4)) (at + 4) (instruction Jalr link 7 0 (lower_part at to)) ≡ jump_way link to
+pub register_is : (c : Code) (at to link : ℕ) → IsCodeAddress at → IsCodeAddress to → HasWords c at (far_jump link at to) → way_of (c.exit (at + 4)) (fetch_before c (at + 4)) (at + 4) (instruction Jalr link 5 0 (lower_part at to)) ≡ jump_way link to
 register_is c at to link h g there =
-    let i = instruction Jalr link 7 0 (lower_part at to) in
+    let i = instruction Jalr link 5 0 (lower_part at to) in
     let back : at + 4 - 4 ≡ at = omega arith in
-    ap (λ o. register_way (sets_upper o 7) o (at + 4) i) (before_next c at ∙ there.0)
+    ap (λ o. register_way (sets_upper o 5) o (at + 4) i) (before_next c at ∙ there.0)
     ∙ ap (λ n. jump_way link (displaced (displaced n (upper_part at to)) (lower_part at to) / 2 * 2)) back
     ∙ ap (jump_way link) (displaced-parts at to h g)
 
@@ -163,9 +163,9 @@ module _ (c : Code) (k : Around) (places : (f n : ℕ) → IsCodeAddress (k.star
     alone = ap (λ o. resolves (fetch_before c at) o) there;
   }
 
-  upper_out : (at to : ℕ) → c.fetch at ≡ Some (instruction Auipc 7 0 0 (upper_part at to)) → Within k (at + 4) true → Outcome c k at false
+  upper_out : (at to : ℕ) → c.fetch at ≡ Some (instruction Auipc 5 0 0 (upper_part at to)) → Within k (at + 4) true → Outcome c k at false
   upper_out at to there second = record {
-    instr = instruction Auipc 7 0 0 (upper_part at to);
+    instr = instruction Auipc 5 0 0 (upper_part at to);
     way = Next;
     there = there;
     is = refl;
@@ -175,7 +175,7 @@ module _ (c : Code) (k : Around) (places : (f n : ℕ) → IsCodeAddress (k.star
 
   far_out : (at to : ℕ) → IsCodeAddress at → IsCodeAddress to → HasWords c at (far_jump 0 at to) → GoesWell k (at + 4) to → Outcome c k (at + 4) true
   far_out at to h g there well = record {
-    instr = instruction Jalr 0 7 0 (lower_part at to);
+    instr = instruction Jalr 0 5 0 (lower_part at to);
     way = Jumps to;
     there = there.1.0;
     is = register_is c at to 0 h g there;
@@ -185,7 +185,7 @@ module _ (c : Code) (k : Around) (places : (f n : ℕ) → IsCodeAddress (k.star
 
   far_call_out : (at to : ℕ) → IsCodeAddress at → IsCodeAddress to → HasWords c at (far_jump 1 at to) → CallsWell k to → GoesWell k (at + 4) (at + 4 + 4) → Outcome c k (at + 4) true
   far_call_out at to h g there called well = record {
-    instr = instruction Jalr 1 7 0 (lower_part at to);
+    instr = instruction Jalr 1 5 0 (lower_part at to);
     way = Calls to;
     there = there.1.0;
     is = register_is c at to 1 h g there;

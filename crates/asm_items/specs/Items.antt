@@ -32,9 +32,9 @@ opposite AtLeast = Less
 opposite LessUnsigned = AtLeastUnsigned
 opposite AtLeastUnsigned = LessUnsigned
 
--- x7 has the upper part of a far target, and x1 the return address
+-- x5 has the upper part of a far target, and x1 the return address
 abbrev pub far_jump : ℕ → ℕ → ℕ → List Instruction
-far_jump link a to = instruction Auipc 7 0 0 (upper_part a to) ∷ instruction Jalr link 7 0 (lower_part a to) ∷ []
+far_jump link a to = instruction Auipc 5 0 0 (upper_part a to) ∷ instruction Jalr link 5 0 (lower_part a to) ∷ []
 
 abbrev pub near_jump : ℕ → ℕ → ℕ → List Instruction
 near_jump link a to = instruction Jal link 0 0 (offset a to) ∷ []

@@ -69,7 +69,7 @@ branch_quiet LessUnsigned exit before a x y imm = tt
 branch_quiet AtLeastUnsigned exit before a x y imm = tt
 
 -- a far jump that keeps no return address, and a return
-far_quiet : (upper : Bool) (before : Option Instruction) (a : ℕ) (imm : ℤ) → IsQuiet (register_way upper before a (instruction Jalr 0 7 0 imm))
+far_quiet : (upper : Bool) (before : Option Instruction) (a : ℕ) (imm : ℤ) → IsQuiet (register_way upper before a (instruction Jalr 0 5 0 imm))
 far_quiet true before a imm = tt
 far_quiet false before a imm = tt
 
@@ -102,16 +102,16 @@ module _ (c : Code) (p : Starts) (f : ℕ) (calls : List ℕ) (places : (h n : �
   call_word a at to i m e there is has =
       sym (ap (λ (n : Move). n.to) (one_of _ m (subst (λ ms. Contains ms m) (moves_of_way c at i (Calls to) there is) (subst (λ n. Contains (moves_at c n) m) e has))))
 
-  upper_word : (a at to : ℕ) (m : Move) → a ≡ at → c.fetch at ≡ Some (instruction Auipc 7 0 0 (upper_part at to)) → Contains (moves_at c a) m → m.behind ≡ None
-  upper_word a at to m e there has = quiet_word a at (instruction Auipc 7 0 0 (upper_part at to)) m e there tt has
+  upper_word : (a at to : ℕ) (m : Move) → a ≡ at → c.fetch at ≡ Some (instruction Auipc 5 0 0 (upper_part at to)) → Contains (moves_at c a) m → m.behind ≡ None
+  upper_word a at to m e there has = quiet_word a at (instruction Auipc 5 0 0 (upper_part at to)) m e there tt has
 
   near_word : (a at to : ℕ) (m : Move) → a ≡ at → c.fetch at ≡ Some (instruction Jal 0 0 0 (offset at to)) → Contains (moves_at c a) m → m.behind ≡ None
   near_word a at to m e there has = quiet_word a at (instruction Jal 0 0 0 (offset at to)) m e there tt has
 
   far_word : (a at to : ℕ) (m : Move) → a ≡ at + 4 → HasWords c at (far_jump 0 at to) → Contains (moves_at c a) m → m.behind ≡ None
   far_word a at to m e there has =
-      quiet_word a (at + 4) (instruction Jalr 0 7 0 (lower_part at to)) m e there.1.0
-      (far_quiet (sets_upper (fetch_before c (at + 4)) 7) (fetch_before c (at + 4)) (at + 4) (lower_part at to)) has
+      quiet_word a (at + 4) (instruction Jalr 0 5 0 (lower_part at to)) m e there.1.0
+      (far_quiet (sets_upper (fetch_before c (at + 4)) 5) (fetch_before c (at + 4)) (at + 4) (lower_part at to)) has
 
   branch_word : (a at x y : ℕ) (cond : Condition) (imm : ℤ) (m : Move) → a ≡ at → c.fetch at ≡ Some (instruction (branch_op cond) 0 x y imm) → Contains (moves_at c a) m → m.behind ≡ None
   branch_word a at x y cond imm m e there has =
@@ -137,7 +137,7 @@ module _ (c : Code) (p : Starts) (f : ℕ) (calls : List ℕ) (places : (h n : �
       inr (record { callee = g; called = s; to = call_word a at (p g 0) (instruction Jal 1 0 0 (offset at (p g 0))) m w h.0 (ap Calls (displaced-offset at (p g 0) here (places g 0))) has; covers = near_call of worth at a g w })
   item_comes (Call true g) at a false m here h s w has = inl (upper_word a at (p g 0) m w h.0 has)
   item_comes (Call true g) at a true m here h s w has =
-      inr (record { callee = g; called = s; to = call_word a (at + 4) (p g 0) (instruction Jalr 1 7 0 (lower_part at (p g 0))) m w h.1.0 (register_is c at (p g 0) 1 here (places g 0) h) has; covers = far_call of worth at a g w })
+      inr (record { callee = g; called = s; to = call_word a (at + 4) (p g 0) (instruction Jalr 1 5 0 (lower_part at (p g 0))) m w h.1.0 (register_is c at (p g 0) 1 here (places g 0) h) has; covers = far_call of worth at a g w })
   item_comes (Branch Short cond x y n) at a true m here h s w has = absurd w
   item_comes (Branch Short cond x y n) at a false m here h s w has = inl (branch_word a at x y cond (offset at (p f n)) m w h.0 has)
   item_comes (Branch Inverted cond x y n) at a true m here h s (inl w) has = absurd w

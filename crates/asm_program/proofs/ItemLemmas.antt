@@ -16,7 +16,7 @@ use Rattle.asm_program.specs.Frames.{Memory}
 use Rattle.asm_program.specs.Functions.{PlacedBlock, PlacedFunction, function_in, callees_in, all_callees, callees_of, at_once, ends_at, ends_by, block_count, block_items, blocks_from, leaving_blocks, leave_items, function_items, functions_from, start_items, program_items, items_at, filled, jump_items, loop_of, graph_of}
 use Rattle.asm_program.specs.Formed.{IsProgram}
 use Rattle.asm_program.proofs.GraphLemmas.{in_map, function_at, below_of, with_loops}
-use Rattle.asm_program.proofs.KeepLemmas.{AllCall, block_keeps, leave_keep}
+use Rattle.asm_program.proofs.KeepLemmas.{AllCall, block_keeps, leave_keep, start_keeps}
 
 -- what a function calls, a block of it calls
 
@@ -68,12 +68,12 @@ module _ (m : Memory) (p : Placed) where
   of_function f h =
       let n = functions_length 0 p.functions in
       let number : 0 + f ≡ f = omega arith in
-      before_all (functions_from m p 0 p.functions) (start_items p.main ∷ []) f [] (omega arith) ∙ function_at_number 0 p.functions f h ∙ ap (function_items m p) number
+      before_all (functions_from m p 0 p.functions) (start_items m.second p.main ∷ []) f [] (omega arith) ∙ function_at_number 0 p.functions f h ∙ ap (function_items m p) number
 
-  pub of_start : slice_index_or (program_items m p) (length p.functions) [] ≡ start_items p.main
+  pub of_start : slice_index_or (program_items m p) (length p.functions) [] ≡ start_items m.second p.main
   of_start =
       ap (λ n. slice_index_or (program_items m p) n []) (sym (functions_length 0 p.functions))
-      ∙ behind_all (functions_from m p 0 p.functions) (start_items p.main ∷ []) []
+      ∙ behind_all (functions_from m p 0 p.functions) (start_items m.second p.main ∷ []) []
 
   pub blocks_length : (f b : ℕ) (bs : List PlacedBlock) → length (blocks_from m p f b bs) ≡ length bs
   blocks_length f b [] = refl
@@ -148,7 +148,7 @@ module _ (m : Memory) (p : Placed) where
         let test : (length p.functions == length p.functions) ≡ true = grind (arith, nat_tests) in
         let calls : (graph_of m p).calls (length p.functions) ≡ p.main ∷ [] = ap (λ b. if b then p.main ∷ [] else callees_of (function_in p (length p.functions))) test in (
           subst (Keeps ((graph_of m p).follows (length p.functions) 0) ((graph_of m p).calls (length p.functions)) 0) (sym is)
-              (refl, (refl, (subst (λ xs. Contains xs p.main) (sym calls) (0, omega arith, refl), (refl, refl)))),
+              (start_keeps m p (length p.functions) ((graph_of m p).follows (length p.functions) 0) ((graph_of m p).calls (length p.functions)) 0 m.second p.main (subst (λ xs. Contains xs p.main) (sym calls) (0, omega arith, refl))),
           (λ none. let q = sym is ∙ none in cc),
         )
 

@@ -17,11 +17,11 @@ use Rattle.low_ir.specs.declared.places.Place.{Place}
 use Rattle.low_ir.specs.declared.places.Place.TheVariants.{Register as InRegister, Slot}
 use Rattle.low_ir.specs.Code.{Operand, Register, Constant, Base, Fixed, Through, Plain, Set, Operate, Point, Load, Store, Put, Get, Instr, Do, Call, End, Jump, Branch, Return}
 use Rattle.low_ir.specs.Places.{Placed}
-use Rattle.asm_program.specs.Numbers.{result, first_free, second_free, machine_register, is_near, reach_register, reach_code, constant_code, is_short, move_code}
+use Rattle.asm_program.specs.Numbers.{second_base, result, first_free, second_free, machine_register, is_near, is_beside, reach_code, object_register, object_code, constant_code, is_short, move_code}
 use Rattle.asm_program.specs.Frames.{Frame, Memory, frame_of, slot_at, home_at, object_at}
 use Rattle.asm_program.specs.Operands.{place_register, operand_register, offset_register, load_code, store_code, fetch_code, operand_code, into_code, result_code, put_code, offset_code, far_code, code_to}
 use Rattle.asm_program.specs.Emission.{register_op, load_op, store_op, immediate_form, immediate_of, is_direct, kept_among, set_code, operate_by, plain_code, home_code, return_code, store_argument, pass_code, late_code, value_code, before_call, behind_call}
-use Rattle.asm_program.specs.Functions.{singles, PlacedBlock, function_in, is_leaf, is_frame_near, frame_code, link_store, link_load, saves, loads, saves_nothing, entry_code, exit_code, at_once, passed_in, instr_items, jump_items, two_way_items, leave_items, end_items, body_items, filled, opening_items, block_items, ends_at}
+use Rattle.asm_program.specs.Functions.{singles, PlacedBlock, function_in, is_leaf, is_frame_near, frame_code, link_store, link_load, saves, loads, saves_nothing, entry_code, exit_code, at_once, passed_in, instr_items, jump_items, two_way_items, leave_items, end_items, body_items, filled, opening_items, block_items, based, bases_code, main_items, ends_at}
 
 -- all of them go on
 abbrev pub AllGoOn : List Instruction → Type 0
@@ -38,6 +38,9 @@ either false is js h k = k
 
 reach_on : (t a : ℕ) → AllGoOn (reach_code t a)
 reach_on t a = either (is_near a) [] _ tt (refl, tt)
+
+object_on : (second t a : ℕ) → AllGoOn (object_code second t a)
+object_on second t a = either (is_beside second a) [] _ tt (reach_on t a)
 
 constant_on : (r n : ℕ) → AllGoOn (constant_code r n)
 constant_on r n = either (is_short n) _ _ (refl, tt) (either (n % 2 ^ 12 == 0) _ _ (refl, tt) (refl, (refl, tt)))
@@ -228,7 +231,8 @@ module _ (fr : Frame) where
     to_on : (base : Base Place) (o : Option Place) (n : ℕ) → AllGoOn (code_to fr m base o n)
     to_on (Fixed object) o n =
         let at = (object_at m object + n) % 2 ^ 32 in
-        both (reach_code first_free at) (offset_code fr m (reach_register first_free at) o) (reach_on first_free at) (offset_on (reach_register first_free at) o)
+        let r = object_register m.second first_free at in
+        both (object_code m.second first_free at) (offset_code fr m r o) (object_on m.second first_free at) (offset_on r o)
     to_on (Through p claim) o n =
         let r = place_register fr first_free p in
         let by_offset = offset_code fr m r o in
@@ -244,6 +248,9 @@ module _ (fr : Frame) where
         both (code_to fr m a.base a.offset a.displacement) _ (to_on a.base a.offset a.displacement) (both (operand_code fr second_free x) _ (operand_on second_free x) (store_op_on kind, tt))
     plain_on (Put x) = both (into_code fr result x) _ (into_on result x) (refl, (refl, tt))
     plain_on (Get d) = (refl, (refl, put_on result d))
+
+bases_on : (second : ℕ) → AllGoOn (bases_code second)
+bases_on second = (refl, (refl, either (second == 0) [] (based second_base second) tt (refl, (refl, tt))))
 
 abbrev pub Calls : Instr Place (List ℕ) → ℕ → Type 0
 Calls (Do i) g = ⊥
@@ -301,6 +308,10 @@ module _ (m : Memory) (p : Placed) (f : ℕ) (follows calls : List ℕ) (b : ℕ
   body_keep : (is : List (Instr Place (List ℕ))) (end : End Place) → ((g : ℕ) → AllCall is g → Contains calls g) → ((n : ℕ) → Contains (ends_at (at_once m p f) (length (function_in p f).blocks) end) n → Contains follows n) → Keeps follows calls b (body_items m p f b is end)
   body_keep [] end h k = end_keep end k
   body_keep (i ∷ is) end h k = instr_keep i (body_items m p f b is end) (λ g c. h g (inl c)) (body_keep is end (λ g c. h g (inr c)) k)
+
+  -- the start code puts addresses into the bases, and calls main
+  pub start_keeps : (second main : ℕ) → Contains calls main → Keeps follows calls b (singles (bases_code second) ++ main_items main)
+  start_keeps second main h = singles_keep (bases_code second) (main_items main) (bases_on second) (h, (refl, refl))
 
   -- the items of a block go where its end leads and call what it calls
   pub block_keeps : (block : PlacedBlock) → ((g : ℕ) → AllCall block.code g → Contains calls g) → ((n : ℕ) → Contains (ends_at (at_once m p f) (length (function_in p f).blocks) block.end) n → Contains follows n) → Keeps follows calls b (block_items m p f b block)

@@ -9,7 +9,7 @@ use Rattle.low_ir.specs.declared.places.Place.{Place}
 use Rattle.low_ir.specs.declared.places.Place.TheVariants.{Register as InRegister, Slot}
 use Rattle.low_ir.specs.Code.{Operand, Register, Constant, Base, Fixed, Through, Plain, Set, Operate, Point, Load, Store, Put, Get}
 use Rattle.low_ir.specs.Room.{is_near as is_near_zero, far_room, offset_room, address_room, plain_room}
-use Rattle.asm_program.specs.Numbers.{result, first_free, second_free, machine_register, is_near, reach_register, reach_code, constant_code, is_short, upper_of, move_code}
+use Rattle.asm_program.specs.Numbers.{result, first_free, second_free, machine_register, is_near, is_beside, reach_code, object_register, object_code, constant_code, is_short, upper_of, move_code}
 use Rattle.asm_program.specs.Frames.{Frame, Memory, slot_at, home_at, object_at}
 use Rattle.asm_program.specs.Operands.{place_register, operand_register, offset_register, address_register, address_offset, load_code, store_code, fetch_code, operand_code, into_code, result_code, put_code, offset_code, far_code, code_to}
 use Rattle.asm_program.specs.Emission.{register_op, load_op, store_op, immediate_of, is_direct, set_code, operate_by, plain_code, home_code, return_code, store_argument, pass_code, late_code, value_code}
@@ -24,6 +24,9 @@ either false is js n h k = k
 
 reach_few : (t a : ℕ) → length (reach_code t a) ≤ 1
 reach_few t a = either (is_near a) [] _ 1 (omega arith) (omega arith)
+
+object_few : (second t a : ℕ) → length (object_code second t a) ≤ 1
+object_few second t a = either (is_beside second a) [] _ 1 (omega arith) (reach_few t a)
 
 constant_few : (r n : ℕ) → length (constant_code r n) ≤ 2
 constant_few r n = either (is_short n) _ _ 2 (omega arith) (either (n % 2 ^ 12 == 0) _ _ 2 (omega arith) (omega arith))
@@ -147,8 +150,9 @@ module _ (fr : Frame) where
     to_few : (base : Base Place) (o : Option Place) (n : ℕ) → n < 2 ^ 32 → length (code_to fr m base o n) ≤ address_room base o n
     to_few (Fixed object) o n s =
         let at = (object_at m object + n) % 2 ^ 32 in
-        let by_offset = offset_code fr m (reach_register first_free at) o in
-        joined (reach_code first_free at) by_offset 1 (offset_room o) (reach_few first_free at) (offset_few (reach_register first_free at) o)
+        let r = object_register m.second first_free at in
+        let by_offset = offset_code fr m r o in
+        joined (object_code m.second first_free at) by_offset 1 (offset_room o) (object_few m.second first_free at) (offset_few r o)
     to_few (Through p claim) o n s =
         let r = place_register fr first_free p in
         let by_offset = offset_code fr m r o in

@@ -30,10 +30,11 @@ slot_at fr k = fr.at + 4 * (1 + length fr.saved + length fr.homes + k)
 abbrev pub frame_end : Frame → ℕ
 frame_end fr = slot_at fr fr.slots
 
--- where everything lies in RAM: the frame of each function, and the address of each array
+-- where everything lies: the frame of each function, the address of each array, and the address that x7 holds
 pub record Memory : Type 0 where
   pub frames : List Frame
   pub objects : List ℕ
+  pub second : ℕ
 
 abbrev pub no_frame : Frame
 no_frame = record { at = 0; saved = []; homes = []; slots = 0 }

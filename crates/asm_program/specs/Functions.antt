@@ -12,7 +12,7 @@ use Rattle.asm_graphs.specs.Graphs as graphs
 use Rattle.low_ir.specs.declared.places.Place.{Place}
 use Rattle.low_ir.specs.Code.{Operand, Instr, Do, Call, End, Jump, Branch, Return, Block, Loop, Function}
 use Rattle.low_ir.specs.Places.{Placed}
-use Rattle.asm_program.specs.Numbers.{link, base, base_address, result, service, first_free, second_free, machine_register, is_near, load_upper, lower_of, load_word, store_word}
+use Rattle.asm_program.specs.Numbers.{link, base, second_base, base_address, result, service, first_free, second_free, machine_register, is_near, load_upper, lower_of, load_word, store_word}
 use Rattle.asm_program.specs.Frames.{Frame, Memory, frame_of, return_at, saved_at}
 use Rattle.asm_program.specs.Operands.{operand_register, operand_code, into_code}
 use Rattle.asm_program.specs.Emission.{plain_code, before_call, behind_call}
@@ -169,11 +169,22 @@ module _ (m : Memory) (p : Placed) (f : ℕ) where
   abbrev pub function_items : Blocks
   function_items = blocks_from 0 own_function.blocks ++ leaving_blocks at_once
 
--- the start code: x3 has the base, main is called, and its value is that of the run
-abbrev pub start_items : ℕ → Blocks
-start_items main =
-    (items.Single (load_upper base base_address) ∷ items.Single (addi base base (lower_of base_address))
-    ∷ items.Call true main ∷ items.Single (addi service 0 (pos 0)) ∷ items.Exit ∷ []) ∷ []
+-- an address comes into a base, in two instructions; x7 has 0 from the beginning
+abbrev pub based : ℕ → ℕ → List Instruction
+based r a = load_upper r a ∷ addi r r (lower_of a) ∷ []
+
+abbrev pub second_code : ℕ → List Instruction
+second_code second = if second == 0 then [] else based second_base second
+
+abbrev pub bases_code : ℕ → List Instruction
+bases_code second = based base base_address ++ second_code second
+
+abbrev pub main_items : ℕ → List Item
+main_items main = items.Call true main ∷ items.Single (addi service 0 (pos 0)) ∷ items.Exit ∷ []
+
+-- the start code: x3 and x7 get their addresses, main is called, and its value is that of the run
+abbrev pub start_items : ℕ → ℕ → Blocks
+start_items second main = (singles (bases_code second) ++ main_items main) ∷ []
 
 abbrev pub functions_from : Memory → Placed → ℕ → List PlacedFunction → List Blocks
 functions_from m p f [] = []
@@ -181,7 +192,7 @@ functions_from m p f (fn ∷ fns) = function_items m p f ∷ functions_from m p 
 
 -- all functions, and the start code as the last one
 abbrev pub program_items : Memory → Placed → List Blocks
-program_items m p = functions_from m p 0 p.functions ++ start_items p.main ∷ []
+program_items m p = functions_from m p 0 p.functions ++ start_items m.second p.main ∷ []
 
 -- the graph that the items keep to
 

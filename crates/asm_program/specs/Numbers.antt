@@ -1,17 +1,21 @@
 -- The registers of the machine that a layout uses, and words and addresses in the immediates of instructions (RISC-V unprivileged manual 2.4, 2.6).
-use Rattle.std.specs.Prelude.{ℕ, ◌+◌, ◌*◌, ◌/◌, ◌%◌, ◌^◌, ◌==◌, ◌&&◌, ℤ, pos, ◌-ℤ◌, Bool, nat_lt, nat_le, if◌then◌else◌, List, [], ◌∷◌}
+use Rattle.std.specs.Prelude.{ℕ, ◌+◌, ◌*◌, ◌/◌, ◌%◌, ◌^◌, ◌==◌, ◌&&◌, ◌||◌, ℤ, pos, ◌-ℤ◌, Bool, nat_lt, nat_le, if◌then◌else◌, List, [], ◌∷◌}
 use Rattle.wcc_base.specs.Signs.{signed_of}
 use Rattle.rv_core.specs.declared.op.Op.TheVariants.{Lw, Sw}
 use Rattle.rv_core.specs.Instructions.{Instruction, instruction, addi, lui}
 
--- x0 is zero, x1 the return address, x3 the base, x10 and x17 are those of environment calls, x5 to x7 are free for a moment,
--- and the other 24 hold values
+-- x0 is zero, x1 the return address, x3 and x7 are the bases, x10 and x17 are those of environment calls, x5 and x6 are free for a
+-- moment, and the other 24 hold values
 
 abbrev pub link : ℕ
 link = 1
 
 abbrev pub base : ℕ
 base = 3
+
+-- for arrays that lie apart from what is near the first one
+abbrev pub second_base : ℕ
+second_base = 7
 
 abbrev pub result : ℕ
 result = 10
@@ -39,6 +43,10 @@ base_address = ram + 2 ^ 11
 
 abbrev pub is_near : ℕ → Bool
 is_near a = nat_le ram a && nat_lt a (ram + 2 ^ 12)
+
+-- what lies less than 2048 bytes from an address is one instruction away from it
+abbrev pub is_beside : ℕ → ℕ → Bool
+is_beside from a = nat_le from (a + 2 ^ 11) && nat_lt a (from + 2 ^ 11)
 
 -- the parts of a word: one whose low 12 bits are 0, and one of 12 bits with a sign
 abbrev pub upper_of : ℕ → ℕ
@@ -69,6 +77,19 @@ reach_register t a = if is_near a then base else t
 
 abbrev pub reach_offset : ℕ → ℤ
 reach_offset a = if is_near a then pos a -ℤ pos base_address else lower_of a
+
+-- the same for an address of an array, if x7 holds this address
+abbrev pub is_reached : ℕ → ℕ → Bool
+is_reached second a = is_beside second a || is_near a
+
+abbrev pub object_code : ℕ → ℕ → ℕ → List Instruction
+object_code second t a = if is_beside second a then [] else reach_code t a
+
+abbrev pub object_register : ℕ → ℕ → ℕ → ℕ
+object_register second t a = if is_beside second a then second_base else reach_register t a
+
+abbrev pub object_offset : ℕ → ℕ → ℤ
+object_offset second a = if is_beside second a then pos a -ℤ pos second else reach_offset a
 
 abbrev pub load_word : ℕ → ℕ → ℤ → Instruction
 load_word r from offset = instruction Lw r from 0 offset

@@ -5,7 +5,7 @@ use Rattle.rv_core.specs.Instructions.{Instruction, instruction}
 use Rattle.low_ir.specs.declared.places.Place.{Place}
 use Rattle.low_ir.specs.declared.places.Place.TheVariants.{Register as InRegister, Slot}
 use Rattle.low_ir.specs.Code.{Operand, Register, Constant, Base, Fixed, Through, Address}
-use Rattle.asm_program.specs.Numbers.{first_free, second_free, machine_register, reach_code, reach_register, reach_offset, constant_code, load_word, store_word, move_code, is_short, load_upper, lower_of}
+use Rattle.asm_program.specs.Numbers.{first_free, second_free, machine_register, reach_code, reach_register, reach_offset, object_code, object_register, object_offset, constant_code, load_word, store_word, move_code, is_short, load_upper, lower_of}
 use Rattle.asm_program.specs.Frames.{Frame, Memory, slot_at, object_at}
 
 -- a word of memory comes into a register, and the other way round by way of t
@@ -70,17 +70,17 @@ module _ (fr : Frame) where
 
     -- an address: the code that leads to it, the register, and what is to be added
     abbrev pub code_to : Base Place → Option Place → ℕ → List Instruction
-    code_to (Fixed o) offset n = reach_code first_free ((object_at m o + n) % 2 ^ 32) ++ offset_code (reach_register first_free ((object_at m o + n) % 2 ^ 32)) offset
+    code_to (Fixed o) offset n = object_code m.second first_free ((object_at m o + n) % 2 ^ 32) ++ offset_code (object_register m.second first_free ((object_at m o + n) % 2 ^ 32)) offset
     code_to (Through p claim) offset n =
         fetch_code first_free p
         ++ (offset_code (place_register first_free p) offset ++ far_code (is_short (n % 2 ^ 32)) (offset_register (place_register first_free p) offset) (n % 2 ^ 32))
 
     abbrev pub register_to : Base Place → Option Place → ℕ → ℕ
-    register_to (Fixed o) offset n = offset_register (reach_register first_free ((object_at m o + n) % 2 ^ 32)) offset
+    register_to (Fixed o) offset n = offset_register (object_register m.second first_free ((object_at m o + n) % 2 ^ 32)) offset
     register_to (Through p claim) offset n = far_register (is_short (n % 2 ^ 32)) (offset_register (place_register first_free p) offset)
 
     abbrev pub offset_to : Base Place → ℕ → ℤ
-    offset_to (Fixed o) n = reach_offset ((object_at m o + n) % 2 ^ 32)
+    offset_to (Fixed o) n = object_offset m.second ((object_at m o + n) % 2 ^ 32)
     offset_to (Through p claim) n = lower_of (n % 2 ^ 32)
 
     abbrev pub address_code : Address Place → List Instruction

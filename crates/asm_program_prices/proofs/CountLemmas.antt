@@ -19,8 +19,8 @@ use Rattle.asm_program.specs.Laws.{AreWords}
 use Rattle.asm_program.proofs.GraphLemmas.{below_of, function_at}
 use Rattle.asm_program.proofs.ItemLemmas.{of_block}
 use Rattle.asm_program_prices.specs.Bounds.{bounds_of, HasCode, CountsBelowWeight}
-use Rattle.asm_program_prices.proofs.LongLemmas.{AreLong, like_once}
-use Rattle.asm_program_prices.proofs.EmissionLemmas.{beside, block_long, block_calls, block_total, leaving_long, leaving_total, leaving_calls}
+use Rattle.asm_program_prices.proofs.LongLemmas.{like_once}
+use Rattle.asm_program_prices.proofs.EmissionLemmas.{beside, start_long, start_total, start_calls, block_long, block_calls, block_total, leaving_long, leaving_total, leaving_calls}
 use Rattle.asm_program_prices.proofs.WeightLemmas.{called_le, in_le, weights_more}
 use Rattle.asm_program_prices.proofs.WorthLemmas.{found, among, not_start, leaving_at, start_at, within_count, count_of, start_count, function_sum, start_sum, are_worths}
 
@@ -49,11 +49,8 @@ module _ (m : Memory) (p : Placed) (l : Placing) (h : HasCode m p l) where
   pub like_leaving : (f : ℕ) → f < length p.functions → at_once m p f ≡ false → AreLike (leave_items m p f true 0) (block_of l f (length (function_in p f).blocks))
   like_leaving f i e = subst (λ xs. AreLike xs (block_of l f (length (function_in p f).blocks))) (leaving_at m p l h f i e) (h.like f (length (function_in p f).blocks) (omega arith) (leaving_there f i e))
 
-  pub like_start : AreLike (slice_index_or (start_items p.main) 0 []) (block_of l (length p.functions) 0)
+  pub like_start : AreLike (slice_index_or (start_items m.second p.main) 0 []) (block_of l (length p.functions) 0)
   like_start = subst (λ xs. AreLike xs (block_of l (length p.functions) 0)) (start_at m p l h) (h.like (length p.functions) 0 (omega arith) (let e = start_count m p l h in omega arith))
-
-  start_long : AreLong (slice_index_or (start_items p.main) 0 [])
-  start_long = (tt, (tt, (refl, (tt, (tt, tt)))))
 
   -- a worth for each function, and one for the start code
   abbrev pub by_number : ℕ → (ℕ → ℕ) → ℕ → ℕ
@@ -117,7 +114,9 @@ module _ (m : Memory) (p : Placed) (l : Placing) (h : HasCode m p l) where
   weight_start : worths.repeated (block_price l weight_prices (length p.functions)) (bounds_of p (length p.functions)) 0 (block_count m p (length p.functions)) ≤ weight_worth (length p.functions)
   weight_start =
       let sum = start_sum m p l h (block_price l weight_prices (length p.functions)) in
-      let q = like_once weight_worth (slice_index_or (start_items p.main) 0 []) (block_of l (length p.functions) 0) (start_of l (length p.functions) 0) start_long like_start in
+      let q = like_once weight_worth (slice_index_or (start_items m.second p.main) 0 []) (block_of l (length p.functions) 0) (start_of l (length p.functions) 0) (start_long m.second p.main) like_start in
+      let s = start_total m.second p.main in
+      let c = start_calls weight_worth m.second p.main in
       let main = own_number (weight p) own_weight p.main h.program.main in
       let own = start_number (weight p) own_weight in
       let some : weights p.functions (suc p.main) p.main ≡ 64 + repeated_in (λ b. block_room b + called (weights p.functions p.main) b.code) (slice_get p.functions p.main) = refl in omega arith

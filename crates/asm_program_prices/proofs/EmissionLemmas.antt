@@ -12,11 +12,11 @@ use Rattle.low_ir.specs.declared.places.Place.{Place}
 use Rattle.low_ir.specs.Code.{Instr, Do, Call, End, Jump, Branch, Return}
 use Rattle.low_ir.specs.Room.{instr_room, end_room, block_room, called}
 use Rattle.low_ir.specs.Places.{Placed}
-use Rattle.asm_program.specs.Numbers.{result, first_free, second_free}
+use Rattle.asm_program.specs.Numbers.{second_base, result, first_free, second_free}
 use Rattle.asm_program.specs.Frames.{Frame, Memory, frame_of}
 use Rattle.asm_program.specs.Operands.{operand_register, operand_code, into_code}
 use Rattle.asm_program.specs.Emission.{plain_code, before_call, behind_call}
-use Rattle.asm_program.specs.Functions.{singles, PlacedBlock, function_in, is_leaf, is_frame_near, frame_code, link_store, link_load, saves, loads, saves_nothing, entry_code, exit_code, at_once, passed_in, instr_items, jump_items, two_way_items, leave_items, end_items, body_items, filled, opening_items, block_items}
+use Rattle.asm_program.specs.Functions.{singles, PlacedBlock, function_in, is_leaf, is_frame_near, frame_code, link_store, link_load, saves, loads, saves_nothing, entry_code, exit_code, at_once, passed_in, instr_items, jump_items, two_way_items, leave_items, end_items, body_items, filled, opening_items, block_items, based, bases_code, main_items}
 use Rattle.asm_program.specs.Laws.{AreWords}
 use Rattle.asm_program.proofs.RoomLemmas.{instr_total, end_total}
 use Rattle.asm_program_prices.proofs.LongLemmas.{AreLong, calls_in}
@@ -33,11 +33,25 @@ singles_total : (is : List Instruction) (xs : List Item) → total (singles is +
 singles_total [] xs = omega arith
 singles_total (i ∷ is) xs = let h = singles_total is xs in omega arith
 
--- the code with which a function begins and ends
-
 either : (b : Bool) (is js : List Instruction) (n : ℕ) → length is ≤ n → length js ≤ n → length (if b then is else js) ≤ n
 either true is js n h k = h
 either false is js n h k = k
+
+-- the start code
+
+bases_few : (second : ℕ) → length (bases_code second) ≤ 4
+bases_few second = let s = either (second == 0) [] (based second_base second) 2 (omega arith) (omega arith) in omega arith
+
+pub start_long : (second main : ℕ) → AreLong (singles (bases_code second) ++ main_items main)
+start_long second main = singles_long (bases_code second) (main_items main) (refl, (tt, (tt, tt)))
+
+pub start_total : (second main : ℕ) → total (singles (bases_code second) ++ main_items main) ≤ 4 * 8
+start_total second main = let n = bases_few second in let e = singles_total (bases_code second) (main_items main) in omega arith
+
+pub start_calls : (worth : ℕ → ℕ) (second main : ℕ) → calls_in worth (singles (bases_code second) ++ main_items main) ≡ calls_in worth (main_items main)
+start_calls worth second main = singles_call worth (bases_code second) (main_items main)
+
+-- the code with which a function begins and ends
 
 frame_few : (near : Bool) (fr : Frame) → length (frame_code near fr) ≤ 2
 frame_few true fr = omega arith

@@ -33,7 +33,7 @@ use Rattle.asm_program.specs.Functions.{PlacedBlock, PlacedFunction, no_function
 use Rattle.asm_program.proofs.GraphLemmas.{below_of}
 use Rattle.asm_program_prices.specs.Bounds.{bounds_of, IsLaidProgram, IsMarked, AreMarked, CountsBelowReach}
 use Rattle.asm_program_prices.proofs.LongLemmas.{like_calls, first_free}
-use Rattle.asm_program_prices.proofs.EmissionLemmas.{beside, block_calls, leaving_calls}
+use Rattle.asm_program_prices.proofs.EmissionLemmas.{beside, start_calls, block_calls, leaving_calls}
 use Rattle.asm_program_prices.proofs.WeightLemmas.{called_le, in_le, reaches_more}
 use Rattle.asm_program_prices.proofs.WorthLemmas.{found, within_count, start_count, function_sum, start_sum, are_worths}
 use Rattle.asm_program_prices.proofs.CountLemmas.{all_of, calls_fall, like_block, like_leaving, like_start, leaving_there, by_number, own_number, start_number, either_function}
@@ -253,7 +253,8 @@ module _ (m : Memory) (p : Placed) (l : Placing) (image : Image) (claims : Claim
       let sum = start_sum m p l h.code (block_price l reach_prices f) in
       let count_is = start_count m p l h.code in
       let q = first_free reach_worth (listed places) (block_of l f 0) (start_of l f 0) (free_within f 0 (omega arith) (omega arith)) in
-      let k = like_calls reach_worth (slice_index_or (start_items p.main) 0 []) (block_of l f 0) (like_start m p l h.code) in
+      let k = like_calls reach_worth (slice_index_or (start_items m.second p.main) 0 []) (block_of l f 0) (like_start m p l h.code) in
+      let c = start_calls reach_worth m.second p.main in
       let none = none_here f 0 (omega arith) (omega arith) (λ d less within same. let y : ⊥ = omega arith in y) in
       let main = own_number m p l h.code (reach p mark) own_reach p.main h.code.program.main in
       let own = start_number m p l h.code (reach p mark) own_reach in omega arith

@@ -89,7 +89,7 @@ module _ (m : Memory) (p : Placed) (l : Placing) (h : HasCode m p l) where
       ∙ behind_all (blocks_from m p f 0 (function_in p f).blocks) (leaving_blocks m p f (at_once m p f)) []
       ∙ ap (λ o. slice_index_or (leaving_blocks m p f o) 0 []) e
 
-  pub start_at : items_at m p (length p.functions) 0 ≡ slice_index_or (start_items p.main) 0 []
+  pub start_at : items_at m p (length p.functions) 0 ≡ slice_index_or (start_items m.second p.main) 0 []
   start_at = ap (λ bs. slice_index_or bs 0 []) (of_start m p)
 
   pub count_of : (f : ℕ) → f < length p.functions → block_count m p f ≡ length (function_in p f).blocks + (if at_once m p f then 0 else 1)

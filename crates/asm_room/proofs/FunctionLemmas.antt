@@ -1,6 +1,6 @@
 -- The size of a function doesn't depend on where arrays lie.
 use Rattle.std.proofs.Common.{◌≡◌, ℕ, suc, ◌+◌, ◌*◌, ◌%◌, ◌^◌, Bool, true, false, List, [], ◌∷◌, ◌++◌, length, Option, Some, None, refl, sym, ap, ◌∙◌, arith, length-append}
-use Rattle.std.specs.Prelude.{if◌then◌else◌}
+use Rattle.std.specs.Prelude.{◌||◌, if◌then◌else◌}
 use Rattle.rv_core.specs.Instructions.{Instruction, addi, instruction}
 use Rattle.asm_items.specs.declared.item.Item.{Item}
 use Rattle.asm_items.specs.declared.item.Item.TheVariants as items
@@ -12,10 +12,10 @@ use Rattle.low_ir.specs.Code.{Base, Fixed, Through, Set, Operate, Point, Load, S
 use Rattle.low_ir.specs.Places.{Placed}
 use Rattle.asm_program.specs.Emission.{before_call, behind_call, load_op, plain_code, store_op}
 use Rattle.asm_program.specs.Frames.{Frame, Memory, frame_of, object_at}
-use Rattle.asm_program.specs.Numbers.{first_free, is_near, load_upper, reach_code, reach_register, second_free}
+use Rattle.asm_program.specs.Numbers.{first_free, is_near, is_beside, is_reached, load_upper, reach_code, object_code, object_register, second_free}
 use Rattle.asm_program.specs.Operands.{address_code, address_offset, address_register, code_to, fetch_code, offset_code, operand_code, operand_register, place_register, result_code}
 use Rattle.asm_program.specs.Functions.{PlacedBlock, at_once, block_items, blocks_from, body_items, filled, function_in, instr_items, leaving_blocks, opening_items, own_frame, passed_in, singles}
-use Rattle.asm_room.specs.Functions.{function_size, near_base, near_blocks, near_code, near_instr}
+use Rattle.asm_room.specs.Functions.{SizesAreKept, function_size, near_base, near_blocks, near_code, near_instr}
 
 -- bytes in longest forms
 abbrev room : List Item → ℕ
@@ -60,12 +60,27 @@ reach_near t a = by_test (is_near a) refl
     by_test true e = ap (λ b. length (if b then [] else load_upper t a ∷ []) + (if b then 1 else 0)) e
     by_test false e = ap (λ b. length (if b then [] else load_upper t a ∷ []) + (if b then 1 else 0)) e
 
-module _ (fr : Frame) (os ns : List ℕ) (fs : List Frame) where
+object_near : (second t a : ℕ) → length (object_code second t a) + (if is_reached second a then 1 else 0) ≡ 1
+object_near second t a = by_test (is_beside second a)
+  where
+    by_test : (b : Bool) → length (if b then [] else reach_code t a) + (if b || is_near a then 1 else 0) ≡ 1
+    by_test true = refl
+    by_test false = reach_near t a
+
+-- where a program's data lie, but for its frames
+record Spread : Type 0 where
+  objects : List ℕ
+  second : ℕ
+
+abbrev with_frames : List Frame → Spread → Memory
+with_frames fs s = record { frames = fs; objects = s.objects; second = s.second }
+
+module _ (fr : Frame) (here there : Spread) (fs : List Frame) where
   abbrev m : Memory
-  m = record { frames = fs; objects = os }
+  m = with_frames fs here
 
   abbrev n : Memory
-  n = record { frames = fs; objects = ns }
+  n = with_frames fs there
 
   offset_long : (r s : ℕ) (o : Option Place) → length (offset_code fr m r o) ≡ length (offset_code fr m s o)
   offset_long r s None = refl
@@ -76,11 +91,13 @@ module _ (fr : Frame) (os ns : List ℕ) (fs : List Frame) where
   base_same (Fixed x) o d =
       let a = (object_at m x + d) % 2 ^ 32 in
       let c = (object_at n x + d) % 2 ^ 32 in
-      let la = length-append (reach_code first_free a) (offset_code fr m (reach_register first_free a) o) in
-      let lc = length-append (reach_code first_free c) (offset_code fr n (reach_register first_free c) o) in
-      let ra = reach_near first_free a in
-      let rc = reach_near first_free c in
-      let same = offset_long (reach_register first_free a) (reach_register first_free c) o in
+      let r = object_register here.second first_free a in
+      let s = object_register there.second first_free c in
+      let la = length-append (object_code here.second first_free a) (offset_code fr m r o) in
+      let lc = length-append (object_code there.second first_free c) (offset_code fr n s o) in
+      let ra = object_near here.second first_free a in
+      let rc = object_near there.second first_free c in
+      let same = offset_long r s o in
       omega (arith, la, lc, ra, rc, same)
 
   plain_same : (i : Plain Place) → length (plain_code fr m i) + near_instr m (Do i) ≡ length (plain_code fr n i) + near_instr n (Do i)
@@ -108,19 +125,19 @@ module _ (fr : Frame) (os ns : List ℕ) (fs : List Frame) where
       let w = length-append (operand_code fr second_free v) (sy ∷ []) in
       omega (arith, h, x, y, u, w)
 
-module _ (fs : List Frame) (os ns : List ℕ) (p : Placed) (f : ℕ) where
+module _ (fs : List Frame) (here there : Spread) (p : Placed) (f : ℕ) where
   abbrev m2 : Memory
-  m2 = record { frames = fs; objects = os }
+  m2 = with_frames fs here
 
   abbrev n2 : Memory
-  n2 = record { frames = fs; objects = ns }
+  n2 = with_frames fs there
 
   abbrev fr : Frame
   fr = own_frame m2 p f
 
   plain_bytes : (i : Plain Place) (k : ℕ) (xs : List Item) (j : ℕ) (ys : List Item) → room xs + 4 * k ≡ room ys + 4 * j → room (instr_items m2 p f (Do i) xs) + 4 * (near_instr m2 (Do i) + k) ≡ room (instr_items n2 p f (Do i) ys) + 4 * (near_instr n2 (Do i) + j)
   plain_bytes i k xs j ys h =
-      let e = plain_same fr os ns fs i in
+      let e = plain_same fr here there fs i in
       let x = room_append (singles (plain_code fr m2 i)) xs in
       let y = room_append (singles (plain_code fr n2 i)) ys in
       let u = room_singles (plain_code fr m2 i) in
@@ -193,9 +210,14 @@ module _ (fs : List Frame) (os ns : List ℕ) (p : Placed) (f : ℕ) where
   blocks_same b [] = refl
   blocks_same b (x ∷ bs) = let h = block_same b x in let k = blocks_same (suc b) bs in omega (arith, h, k)
 
-  pub sizes_kept : function_size m2 p f ≡ function_size n2 p f
-  sizes_kept =
+  sizes_same : function_size m2 p f ≡ function_size n2 p f
+  sizes_same =
       let h = blocks_same 0 (function_in p f).blocks in
       let x = rooms_append (blocks_from m2 p f 0 (function_in p f).blocks) (leaving_blocks m2 p f (at_once m2 p f)) in
       let y = rooms_append (blocks_from n2 p f 0 (function_in p f).blocks) (leaving_blocks n2 p f (at_once n2 p f)) in
       omega (arith, h, x, y)
+
+pub sizes_kept : SizesAreKept
+sizes_kept m n p f e =
+    let there : Spread = record { objects = n.objects; second = n.second } in
+    sizes_same m.frames (record { objects = m.objects; second = m.second }) there p f ∙ ap (λ fs. function_size (with_frames fs there) p f) e

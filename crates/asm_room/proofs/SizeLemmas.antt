@@ -17,7 +17,7 @@ use Rattle.asm_program.specs.Frames.{Memory, frame_of}
 use Rattle.asm_program.specs.Functions.{PlacedBlock, PlacedFunction, no_function, function_in, at_once, blocks_from, leaving_blocks, function_items, start_items, functions_from, program_items}
 use Rattle.asm_program.specs.Laws.{AreWords}
 use Rattle.asm_program_prices.proofs.LongLemmas.{IsLong, AreLong}
-use Rattle.asm_program_prices.proofs.EmissionLemmas.{block_long, block_total, leaving_long, leaving_total}
+use Rattle.asm_program_prices.proofs.EmissionLemmas.{start_long, start_total, block_long, block_total, leaving_long, leaving_total}
 use Rattle.asm_room.specs.Sizes.{IsSmall, LongestHasRoom, ChosenHasRoom}
 
 -- longest forms stay as they are
@@ -115,7 +115,7 @@ module _ (m : Memory) (p : Placed) (saved : (f : ℕ) → length (frame_of m f).
   functions_long k (fn ∷ fns) = (function_long k, functions_long (suc k) fns)
 
   program_long : EachLong (program_items m p)
-  program_long = each_long (functions_from m p 0 p.functions) (start_items p.main ∷ []) (functions_long 0 p.functions) (((tt, (tt, (refl, (tt, (tt, tt))))), tt), tt)
+  program_long = each_long (functions_from m p 0 p.functions) (start_items m.second p.main ∷ []) (functions_long 0 p.functions) ((start_long m.second p.main, tt), tt)
 
   functions_few : (k : ℕ) (fns : List PlacedFunction) → ((i : ℕ) (fn : PlacedFunction) → slice_get fns i ≡ Some fn → function_in p (k + i) ≡ fn) → All (λ (fn : PlacedFunction). WordsIn fn.blocks) fns → functions_size (functions_from m p k fns) + 36 * length fns ≤ 4 * sum_by function_room fns
   functions_few k [] is h = omega arith
@@ -136,7 +136,8 @@ program_few : (m : Memory) (p : Placed) → IsSmall m p → functions_size (prog
 program_few m p h =
     let zero_is : (i : ℕ) → 0 + i ≡ i = λ i. omega arith in
     let a = functions_few m p h.saved 0 p.functions (λ i fn e. ap (function_in p) (zero_is i) ∙ found_is p.functions i no_function fn e) h.words in
-    let e = each_size (functions_from m p 0 p.functions) (start_items p.main ∷ []) in
+    let e = each_size (functions_from m p 0 p.functions) (start_items m.second p.main ∷ []) in
+    let s = start_total m.second p.main in
     let some = h.program.main in omega arith
 
 pub longest_has_room : LongestHasRoom

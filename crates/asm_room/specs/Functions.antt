@@ -5,13 +5,13 @@ use Rattle.asm_forms.specs.Shorter.{blocks_longest}
 use Rattle.low_ir.specs.declared.places.Place.{Place}
 use Rattle.low_ir.specs.Code.{Base, Fixed, Through, Point, Load, Store, Instr, Do}
 use Rattle.low_ir.specs.Places.{Placed}
-use Rattle.asm_program.specs.Frames.{Frame, Memory, object_at}
+use Rattle.asm_program.specs.Frames.{Memory, object_at}
 use Rattle.asm_program.specs.Functions.{PlacedBlock, function_in, function_items}
-use Rattle.asm_program.specs.Numbers.{is_near}
+use Rattle.asm_program.specs.Numbers.{is_reached}
 
--- an array that lies near x3 needs no instruction for its address; wherever it lies, one is enough
+-- an array that lies near x3 or beside x7 needs no instruction for its address; wherever it lies, one is enough
 abbrev pub near_base : Memory → Base Place → ℕ → ℕ
-near_base m (Fixed o) n = if is_near ((object_at m o + n) % 2 ^ 32) then 1 else 0
+near_base m (Fixed o) n = if is_reached m.second ((object_at m o + n) % 2 ^ 32) then 1 else 0
 near_base m (Through r claim) n = 0
 
 abbrev pub near_instr : Memory → Instr Place (List ℕ) → ℕ
@@ -34,4 +34,4 @@ function_size m p f = blocks_size (blocks_longest (function_items m p f)) + 4 * 
 
 -- so it is the same wherever arrays lie
 abbrev pub SizesAreKept : Type 0
-SizesAreKept = (frames : List Frame) (here there : List ℕ) (p : Placed) (f : ℕ) → function_size (record { frames = frames; objects = here }) p f ≡ function_size (record { frames = frames; objects = there }) p f
+SizesAreKept = (m n : Memory) (p : Placed) (f : ℕ) → m.frames ≡ n.frames → function_size m p f ≡ function_size n p f

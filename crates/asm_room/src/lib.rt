@@ -6,7 +6,7 @@
 //! `asm_forms` chooses. A layout knows by it that its rows end where they have to.
 //!
 //! The size of a function (`specs/Functions`) is nearer to what it takes: that of its items in their longest forms, where
-//! every array is far. Proved: [`sizes_are_kept`], that it is the same wherever arrays lie, so that a choice of what to
+//! every array is far. Proved: [`sizes_are_kept`], that it is the same wherever arrays lie and whatever x7 holds, so that a choice of what to
 //! place in the scratchpad may add sizes up.
 //!
 //! The crate knows no addresses.

@@ -12,11 +12,11 @@ use Rattle.asm_forms.proofs.FitLemmas.{rows-append}
 use Rattle.low_ir.specs.declared.places.Place.{Place}
 use Rattle.low_ir.specs.declared.places.Place.TheVariants.{Register as InRegister, Slot}
 use Rattle.low_ir.specs.Code.{Operand, Register, Constant, Base, Fixed, Through, Address}
-use Rattle.asm_program.specs.Numbers.{first_free, second_free, machine_register, reach_code, reach_register, reach_offset, constant_code, load_word, store_word, is_short, load_upper}
+use Rattle.asm_program.specs.Numbers.{first_free, second_free, machine_register, reach_code, reach_register, reach_offset, object_code, object_register, constant_code, load_word, store_word, is_short, load_upper}
 use Rattle.asm_program.specs.Frames.{Frame, Memory, slot_at, object_at}
 use Rattle.asm_program.specs.Operands.{load_code, store_code, place_register, fetch_code, operand_register, operand_code, into_code, result_code, put_code, offset_code, offset_register, far_code, far_register, code_to, register_to, offset_to, address_code, address_register, address_offset}
 use Rattle.asm_sound.specs.Ranges.{IsRegister, InOperand, InBase, InAddress}
-use Rattle.asm_sound.proofs.Words.{alone, before, rows_if, small_if, upper_row, load_row, store_row, lower_in, reach_in, reach_small, reach_rows, constant_rows, move_rows}
+use Rattle.asm_sound.proofs.Words.{alone, before, rows_if, small_if, upper_row, load_row, store_row, lower_in, reach_in, reach_small, reach_rows, object_in, object_small, object_rows, constant_rows, move_rows}
 
 pub machine_small : (q : ℕ) → q < 24 → machine_register q < 32
 machine_small q h = by (nat_lt q 2) (nat_lt q 4) (nat_lt q 10) refl
@@ -88,7 +88,8 @@ module _ (fr : Frame) where
     code_rows : (b : Base Place) (p : Option Place) (n : ℕ) → InBase b → All IsRegister (option_to_list p) → in_rows (code_to fr m b p n) ≡ true
     code_rows (Fixed o) p n h i =
         let a = (object_at m o + n) % 2 ^ 32 in
-        rows-append (reach_code first_free a) (offset_code fr m (reach_register first_free a) p) (reach_rows first_free a (omega arith)) (offset_rows (reach_register first_free a) p (reach_small first_free a (omega arith)) i)
+        let r = object_register m.second first_free a in
+        rows-append (object_code m.second first_free a) (offset_code fr m r p) (object_rows m.second first_free a (omega arith)) (offset_rows r p (object_small m.second first_free a (omega arith)) i)
     code_rows (Through q claim) p n h i =
         let r = place_register fr first_free q in
         let small = place_small first_free q (omega arith) h in
@@ -96,11 +97,11 @@ module _ (fr : Frame) where
         (rows-append (offset_code fr m r p) (far_code fr m (is_short (n % 2 ^ 32)) (offset_register fr m r p) (n % 2 ^ 32)) (offset_rows r p small i) (far_rows (is_short (n % 2 ^ 32)) (offset_register fr m r p) (n % 2 ^ 32) (offset_small r p small)))
 
     register_small : (b : Base Place) (p : Option Place) (n : ℕ) → InBase b → register_to fr m b p n < 32
-    register_small (Fixed o) p n h = let a = (object_at m o + n) % 2 ^ 32 in offset_small (reach_register first_free a) p (reach_small first_free a (omega arith))
+    register_small (Fixed o) p n h = let a = (object_at m o + n) % 2 ^ 32 in offset_small (object_register m.second first_free a) p (object_small m.second first_free a (omega arith))
     register_small (Through q claim) p n h = let r = place_register fr first_free q in far_small (is_short (n % 2 ^ 32)) (offset_register fr m r p) (offset_small r p (place_small first_free q (omega arith) h))
 
     offset_in : (b : Base Place) (n : ℕ) → is_within (2 ^ 11) (offset_to fr m b n) ≡ true
-    offset_in (Fixed o) n = reach_in ((object_at m o + n) % 2 ^ 32)
+    offset_in (Fixed o) n = object_in m.second ((object_at m o + n) % 2 ^ 32)
     offset_in (Through q claim) n = lower_in (n % 2 ^ 32)
 
     pub address_rows : (a : Address Place) → InAddress a → in_rows (address_code fr m a) ≡ true

@@ -15,11 +15,11 @@ use Rattle.asm_forms.proofs.FitLemmas.{rows-append}
 use Rattle.low_ir.specs.declared.places.Place.{Place}
 use Rattle.low_ir.specs.Code.{Instr, Do, Call, End, Jump, Branch, Return}
 use Rattle.low_ir.specs.Places.{Placed}
-use Rattle.asm_program.specs.Numbers.{ram, link, base, base_address, result, service, first_free, second_free, machine_register, is_near, load_upper, lower_of, load_word, store_word}
+use Rattle.asm_program.specs.Numbers.{ram, link, base, second_base, base_address, result, service, first_free, second_free, machine_register, is_near, load_upper, lower_of, load_word, store_word}
 use Rattle.asm_program.specs.Frames.{Frame, Memory, no_frame, frame_of, position, return_at, saved_at}
 use Rattle.asm_program.specs.Operands.{operand_register, operand_code, into_code}
 use Rattle.asm_program.specs.Emission.{plain_code, before_call, behind_call}
-use Rattle.asm_program.specs.Functions.{singles, PlacedBlock, PlacedFunction, no_function, function_in, is_leaf, is_frame_near, frame_code, frame_register, frame_offset, link_store, link_load, saves, loads, saves_nothing, entry_code, exit_code, own_frame, own_function, at_once, passed_in, instr_items, jump_items, two_way_items, leave_items, end_items, body_items, filled, opening_items, block_items, blocks_from, leaving_blocks, function_items, start_items, functions_from, program_items}
+use Rattle.asm_program.specs.Functions.{singles, PlacedBlock, PlacedFunction, no_function, function_in, is_leaf, is_frame_near, frame_code, frame_register, frame_offset, link_store, link_load, saves, loads, saves_nothing, entry_code, exit_code, own_frame, own_function, at_once, passed_in, instr_items, jump_items, two_way_items, leave_items, end_items, body_items, filled, opening_items, block_items, blocks_from, leaving_blocks, function_items, based, second_code, bases_code, main_items, start_items, functions_from, program_items}
 use Rattle.asm_sound.specs.Ranges.{IsRegister, InInstr, InEnd, InBlock, InFunction, InProgram, IsSaving, AreSaving}
 use Rattle.asm_sound.proofs.Words.{alone, before, rows_if, addi_row, load_row, store_row, upper_row, lower_in, near_in}
 use Rattle.asm_sound.proofs.Operands.{machine_small, operand_small, operand_rows, into_rows}
@@ -210,14 +210,21 @@ functions_sound : (m : Memory) (p : Placed) (f : ℕ) (fns : List PlacedFunction
 functions_sound m p f [] h k = All-nil BlocksSound
 functions_sound m p f (fn ∷ fns) h k = All-cons BlocksSound (function_items m p f) (functions_from m p (suc f) fns) (function_sound m p f h k) (functions_sound m p (suc f) fns h k)
 
-start_sound : (main : ℕ) → BlocksSound (start_items main)
-start_sound main =
+-- an address comes into a register
+based_rows : (r a : ℕ) → r < 32 → in_rows (based r a) ≡ true
+based_rows r a h = before (load_upper r a) (addi r r (lower_of a) ∷ []) (upper_row r a h) (alone (addi r r (lower_of a)) (addi_row r r (lower_of a) h h (lower_in a)))
+
+bases_rows : (second : ℕ) → in_rows (bases_code second) ≡ true
+bases_rows second =
+    rows-append (based base base_address) (second_code second) (based_rows base base_address (omega arith))
+    (rows_if (second == 0) [] (based second_base second) refl (based_rows second_base second (omega arith)))
+
+start_sound : (second main : ℕ) → BlocksSound (start_items second main)
+start_sound second main =
     let last = All-cons IsSound (items.Single (addi service 0 (pos 0))) (items.Exit ∷ []) refl (one_sound items.Exit tt) in
     let call = All-cons IsSound (items.Call true main) (items.Single (addi service 0 (pos 0)) ∷ items.Exit ∷ []) tt last in
-    let second = All-cons IsSound (items.Single (addi base base (lower_of base_address))) (items.Call true main ∷ items.Single (addi service 0 (pos 0)) ∷ items.Exit ∷ []) refl call in
-    let all = All-cons IsSound (items.Single (load_upper base base_address)) (items.Single (addi base base (lower_of base_address)) ∷ items.Call true main ∷ items.Single (addi service 0 (pos 0)) ∷ items.Exit ∷ []) refl second in
-    All-cons AreSound (items.Single (load_upper base base_address) ∷ items.Single (addi base base (lower_of base_address)) ∷ items.Call true main ∷ items.Single (addi service 0 (pos 0)) ∷ items.Exit ∷ []) [] all (All-nil AreSound)
+    All-cons AreSound (singles (bases_code second) ++ main_items main) [] (All-append IsSound (singles (bases_code second)) (main_items main) (singles_sound (bases_code second) (bases_rows second)) call) (All-nil AreSound)
 
 pub program_sound : (m : Memory) (p : Placed) → InProgram p → AreSaving m → FunctionsSound (program_items m p)
 program_sound m p h k =
-    All-append BlocksSound (functions_from m p 0 p.functions) (start_items p.main ∷ []) (functions_sound m p 0 p.functions h k) (All-cons BlocksSound (start_items p.main) [] (start_sound p.main) (All-nil BlocksSound))
+    All-append BlocksSound (functions_from m p 0 p.functions) (start_items m.second p.main ∷ []) (functions_sound m p 0 p.functions h k) (All-cons BlocksSound (start_items m.second p.main) [] (start_sound m.second p.main) (All-nil BlocksSound))

@@ -24,7 +24,7 @@ module _ (m : Memory) (p : Placed) (ok : IsProgram p) (few : length m.frames ≤
   count : length (program_items m p) ≡ suc (length p.functions)
   count =
       let n = functions_length m p 0 p.functions in
-      let both = length-append (functions_from m p 0 p.functions) (start_items p.main ∷ []) in
+      let both = length-append (functions_from m p 0 p.functions) (start_items m.second p.main ∷ []) in
       omega arith
 
   abbrev own_blocks : ℕ → ℕ

@@ -8,7 +8,7 @@ use Rattle.rv_core.specs.Arithmetic.{word}
 use Rattle.rv_core.specs.Instructions.{Instruction, in_row, is_within, is_multiple, addi}
 use Rattle.asm_items.specs.Items.{in_rows}
 use Rattle.asm_items.proofs.OffsetLemmas.{is_within-difference}
-use Rattle.asm_program.specs.Numbers.{ram, base, base_address, is_near, upper_of, lower_of, load_upper, is_short, constant_code, reach_code, reach_register, reach_offset, load_word, store_word, move_code}
+use Rattle.asm_program.specs.Numbers.{ram, base, second_base, base_address, is_near, is_beside, upper_of, lower_of, load_upper, is_short, constant_code, reach_code, reach_register, reach_offset, object_code, object_register, object_offset, load_word, store_word, move_code}
 
 pub alone : (i : Instruction) → in_row i ≡ true → in_rows (i ∷ []) ≡ true
 alone i h = and_from (in_row i) true h refl
@@ -70,6 +70,29 @@ reach_small t a h = small_if (is_near a) base t (omega arith) h
 
 pub reach_rows : (t a : ℕ) → t < 32 → in_rows (reach_code t a) ≡ true
 reach_rows t a h = rows_if (is_near a) [] (load_upper t a ∷ []) refl (alone (load_upper t a) (upper_row t a h))
+
+-- the same for addresses of arrays
+pub beside_in : (second a : ℕ) → is_beside second a ≡ true → is_within (2 ^ 11) (pos a -ℤ pos second) ≡ true
+beside_in second a h =
+    let b = and_parts (nat_le second (a + 2 ^ 11)) (nat_lt a (second + 2 ^ 11)) h in
+    let from = b.0 in
+    let to = b.1 in
+    let low : second ≤ a + 2 ^ 11 = grind (arith, nat_tests) in
+    let high : a < second + 2 ^ 11 = grind (arith, nat_tests) in
+    is_within-difference (2 ^ 11) a second (omega arith) (omega arith)
+
+object_by : (second a : ℕ) (b : Bool) → is_beside second a ≡ b → is_within (2 ^ 11) (if b then pos a -ℤ pos second else reach_offset a) ≡ true
+object_by second a true t = beside_in second a t
+object_by second a false t = reach_in a
+
+pub object_in : (second a : ℕ) → is_within (2 ^ 11) (object_offset second a) ≡ true
+object_in second a = object_by second a (is_beside second a) refl
+
+pub object_small : (second t a : ℕ) → t < 32 → object_register second t a < 32
+object_small second t a h = small_if (is_beside second a) second_base (reach_register t a) (omega arith) (reach_small t a h)
+
+pub object_rows : (second t a : ℕ) → t < 32 → in_rows (object_code second t a) ≡ true
+object_rows second t a h = rows_if (is_beside second a) [] (reach_code t a) refl (reach_rows t a h)
 
 pub constant_rows : (r n : ℕ) → r < 32 → in_rows (constant_code r n) ≡ true
 constant_rows r n h =

@@ -61,8 +61,8 @@ fn put_far(words: &mut Vec<u32>, link: u8, at: u32, to: u32) -> Result<(), Memor
     requires rows { IsTrue (in_rows (far_jump link at to)) }
     ensures { OnOk result (words.new.items ≡ words.old.items ++ map word_of (far_jump link at to)) }
 {
-    put(words, Instr::new(Op::Auipc, 7, 0, 0, upper_to(at, to)))?;
-    put(words, Instr::new(Op::Jalr, link, 7, 0, lower_to(at, to)))
+    put(words, Instr::new(Op::Auipc, 5, 0, 0, upper_to(at, to)))?;
+    put(words, Instr::new(Op::Jalr, link, 5, 0, lower_to(at, to)))
 }
 
 fn put_jump(words: &mut Vec<u32>, far: bool, link: u8, at: u32, to: u32) -> Result<(), Memory>

@@ -221,4 +221,4 @@ module _ (regions : ℕ → Region) where
     functions_lie f (fn ∷ fns) = (one_lies f, functions_lie (suc f) fns)
 
     pub program_lies : FunctionsLie (program_touches m p)
-    program_lies = functions_append (functions_touches m p 0 p.functions) (map touches (start_items p.main) ∷ []) (functions_lie 0 p.functions) (blocks_lie (start_items p.main), tt)
+    program_lies = functions_append (functions_touches m p 0 p.functions) (map touches (start_items m.second p.main) ∷ []) (functions_lie 0 p.functions) (blocks_lie (start_items m.second p.main), tt)

@@ -139,4 +139,4 @@ same_blocks (xs ∷ bs) = (same xs, same_blocks bs)
 
 pub program_touched : (m : Memory) (p : Placed) → FunctionsTouched (program_touches m p) (program_items m p)
 program_touched m p =
-    functions_append (functions_touches m p 0 p.functions) (map touches (start_items p.main) ∷ []) (functions_from m p 0 p.functions) (start_items p.main ∷ []) (functions_touched m p 0 p.functions) (same_blocks (start_items p.main), tt)
+    functions_append (functions_touches m p 0 p.functions) (map touches (start_items m.second p.main) ∷ []) (functions_from m p 0 p.functions) (start_items m.second p.main ∷ []) (functions_touched m p 0 p.functions) (same_blocks (start_items m.second p.main), tt)

@@ -79,4 +79,4 @@ functions_touches m p f (fn ∷ fns) = function_touches m p f ∷ functions_touc
 
 -- of all functions, and of the start code
 abbrev pub program_touches : Memory → Placed → List (List (List Touch))
-program_touches m p = functions_touches m p 0 p.functions ++ map touches (start_items p.main) ∷ []
+program_touches m p = functions_touches m p 0 p.functions ++ map touches (start_items m.second p.main) ∷ []

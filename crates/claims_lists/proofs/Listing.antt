@@ -51,7 +51,7 @@ under_is : (ks : List Loop) (b : ℕ) (bs : List PlacedBlock) → loops_under ks
 under_is ks b [] = refl
 under_is ks b (x ∷ bs) = ap (λ l. loops_at b ks ++ l) (under_is ks (suc b) bs)
 
-items_count : (m : Memory) (p : Placed) (f : ℕ) (fns : List PlacedFunction) → length (functions_from m p f fns ++ start_items p.main ∷ []) ≡ suc (length fns)
+items_count : (m : Memory) (p : Placed) (f : ℕ) (fns : List PlacedFunction) → length (functions_from m p f fns ++ start_items m.second p.main ∷ []) ≡ suc (length fns)
 items_count m p f [] = refl
 items_count m p f (fn ∷ fns) = ap suc (items_count m p (suc f) fns)
 

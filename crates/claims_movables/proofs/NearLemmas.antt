@@ -1,4 +1,4 @@
--- The code over places has as many arrays near x3 as that over virtual registers.
+-- The code over places has as many arrays near x3 or beside x7 as that over virtual registers.
 use Rattle.std.proofs.Common.{◌≡◌, ℕ, zero, suc, ◌+◌, List, [], ◌∷◌, length, refl, ap, ◌∙◌}
 use Rattle.std.specs.Prelude.{slice_index_or}
 use Rattle.low_ir.specs.declared.places.Place.{Place}

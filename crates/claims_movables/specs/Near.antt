@@ -1,11 +1,11 @@
--- The arrays near x3 in the code over virtual registers: how often one instruction reaches them.
+-- The arrays near x3 or beside x7 in the code over virtual registers: how often one instruction reaches them.
 use Rattle.std.specs.Prelude.{ℕ, ◌+◌, ◌%◌, ◌^◌, List, [], ◌∷◌, if◌then◌else◌}
 use Rattle.low_ir.specs.Code.{Base, Fixed, Through, Point, Load, Store, Instr, Do, Block, Note}
 use Rattle.asm_program.specs.Frames.{Memory, object_at}
-use Rattle.asm_program.specs.Numbers.{is_near}
+use Rattle.asm_program.specs.Numbers.{is_reached}
 
 abbrev pub base_near : Memory → Base ℕ → ℕ → ℕ
-base_near m (Fixed o) n = if is_near ((object_at m o + n) % 2 ^ 32) then 1 else 0
+base_near m (Fixed o) n = if is_reached m.second ((object_at m o + n) % 2 ^ 32) then 1 else 0
 base_near m (Through r claim) n = 0
 
 abbrev pub instr_near : Memory → Instr ℕ Note → ℕ

@@ -1,7 +1,7 @@
 //! Makes the list of what may be moved into the scratchpad: the functions of a laid program, and its arrays that aren't
 //! local.
 //!
-//! `near` counts the accesses of arrays near x3, `sizes` the bytes of code, `alone` has the accesses that touch one array
+//! `near` counts the accesses of arrays near x3 or beside x7, `sizes` the bytes of code, `alone` has the accesses that touch one array
 //! alone, `functions` and `arrays` make the items, and `item` is what stands in the list.
 //!
 //! Proved: [`items`] makes the functions and then the arrays, each as `claims_items` defines it of each laid program that

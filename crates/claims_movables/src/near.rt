@@ -1,11 +1,11 @@
-// The accesses of arrays near x3.
+// The accesses of arrays near x3 or beside x7.
 ghost use Rattle.std.specs.Prelude.{◌≡◌, map, IfOk};
 ghost use Rattle.low_ir.specs.View.{base_of, block_of, instr_of};
 ghost use Rattle.claims_movables.specs.Near.{base_near, blocks_near, code_near, instr_near};
 
 use super::numbers::add;
 use asm_data::Data;
-use asm_emission::is_near;
+use asm_emission::is_reached;
 use low_ir::{Base, Block, Instr};
 use wcc_base::Memory;
 
@@ -16,7 +16,11 @@ fn base_near(memory: &Data, base: Base, displacement: u32) -> u32
     match base {
         Base::Object(object) => {
             let at = u64::from(memory.object_at(object)) + u64::from(displacement);
-            if is_near(at % 0x1_0000_0000) { 1 } else { 0 }
+            if is_reached(memory.second(), at % 0x1_0000_0000) {
+                1
+            } else {
+                0
+            }
         }
         Base::Pointer { .. } => 0,
     }

@@ -78,9 +78,9 @@ module _ (m : Memory) (p : Placed) where
         ∙ each_functions 0 0 (map function_of xs)
 
   -- the start code comes last
-  pub program_made : (all new : List (List (List names.Touch))) (start : List (List names.Touch)) → of_program all ≡ functions_touches m p 0 p.functions → new ≡ all ++ start ∷ [] → start ≡ map item_names (start_items p.main) → of_program new ≡ program_touches m p
+  pub program_made : (all new : List (List (List names.Touch))) (start : List (List names.Touch)) → of_program all ≡ functions_touches m p 0 p.functions → new ≡ all ++ start ∷ [] → start ≡ map item_names (start_items m.second p.main) → of_program new ≡ program_touches m p
   program_made all new start e more is =
       ap of_program more
       ∙ map-append of_function all (start ∷ [])
       ∙ ap (λ z. z ++ of_function start ∷ []) e
-      ∙ ap (λ z. functions_touches m p 0 p.functions ++ z ∷ []) (ap of_function is ∙ blocks_are p.claims (start_items p.main))
+      ∙ ap (λ z. functions_touches m p 0 p.functions ++ z ∷ []) (ap of_function is ∙ blocks_are p.claims (start_items m.second p.main))

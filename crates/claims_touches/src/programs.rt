@@ -57,10 +57,10 @@ fn touches_of_blocks(alloc: Global, blocks: &[Items<Item>]) -> Result<Items<Item
 }
 
 /// What the start code touches.
-fn start_touches(alloc: Global, main: u32) -> Result<Items<Items<Touch>>, Memory>
-    ensures { IfOk result (λ all. all ≡ map item_names (start_items main)) }
+fn start_touches(alloc: Global, second: u32, main: u32) -> Result<Items<Items<Touch>>, Memory>
+    ensures { IfOk result (λ all. all ≡ map item_names (start_items second main)) }
 {
-    let blocks = start_items(alloc, main)?;
+    let blocks = start_items(alloc, second, main)?;
     touches_of_blocks(alloc, blocks.as_slice())
 }
 
@@ -73,6 +73,6 @@ pub fn touches_of(
     ensures { IfOk result (λ all. AreTouches code.now memory.now all.items) }
 {
     let mut all = all_functions(alloc, code, memory)?;
-    all.push(start_touches(alloc, code.low.main)?)?;
+    all.push(start_touches(alloc, memory.second(), code.low.main)?)?;
     Ok(all)
 }

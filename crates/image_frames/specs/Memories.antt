@@ -6,7 +6,7 @@ use Rattle.low_ir.specs.Code.{Object}
 use Rattle.low_ir.specs.Places.{Placed}
 use Rattle.asm_program.specs.Frames.{Memory}
 use Rattle.image_rows.specs.Rows.{Spot, spots, addresses, row_of}
-use Rattle.image_segments.specs.Starts.{starts_behind, region_of, FitRegions}
+use Rattle.image_segments.specs.Starts.{starts_behind, second_of, region_of, FitRegions}
 use Rattle.image_frames.specs.Frames.{frames_of, frames_end}
 
 -- by function and by array, whether it lies in the scratchpad
@@ -26,7 +26,7 @@ module _ (pl : Placement) (p : Placed) where
   starts_of = starts_behind (frames_end p) spots_of
 
   abbrev pub memory_of : Memory
-  memory_of = record { frames = frames_of p; objects = addresses starts_of spots_of }
+  memory_of = record { frames = frames_of p; objects = addresses starts_of spots_of; second = second_of spots_of }
 
   abbrev pub regions_of : ℕ → Region
   regions_of o = region_by (slice_index_or pl.objects o false) (slice_get p.objects o)

@@ -12,7 +12,7 @@ use asm_code::items_of;
 use asm_data::Data;
 use asm_forms::{Layout, Regions, form};
 use asm_rows::row;
-use image_memory::{Placement, array_addresses, frames};
+use image_memory::{Placement, array_addresses, frames, second};
 use image_segments::{Code, Data as Segments, image, placed_end};
 use low_ir::LowReg;
 use rv_core::Image;
@@ -141,6 +141,7 @@ pub fn assemble(alloc: Global, code: &LowReg, placement: &Placement) -> Result<A
         objects: &code.low.objects,
     };
     let objects = array_addresses(alloc, frames.end, code, placement)?;
-    let memory = Data::new(alloc, frames.frames, objects);
+    let second = second(frames.end, code, placement);
+    let memory = Data::new(alloc, frames.frames, objects, second);
     assembled(alloc, code, placement, memory, segments)
 }

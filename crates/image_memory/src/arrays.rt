@@ -9,7 +9,7 @@ ghost use Rattle.image_saving.specs.Walks.{HaveSpots};
 use super::walks::frames;
 use asm_data::Data;
 use image_rows::addresses;
-use image_segments::starts;
+use image_segments::{Data as Segments, second_base, starts};
 use low_ir::LowReg;
 use std::alloc::Global;
 use std::marker::Model;
@@ -45,6 +45,19 @@ pub fn array_addresses(
     addresses(alloc, starts, &placement.objects, &code.low.objects)
 }
 
+/// What the second base of a program holds, if its frames end here.
+pub fn second(end: u32, code: &LowReg, placement: &Placement) -> u32
+    requires frames { end ≡ frames_end (placed_of code.now) }
+    requires fit { FitsMemory placement.now (placed_of code.now) }
+    ensures { result ≡ (memory_of placement.now (placed_of code.now)).second }
+{
+    second_base(Segments {
+        frames_end: end,
+        placed: &placement.objects,
+        objects: &code.low.objects,
+    })
+}
+
 /// Where the frames and arrays of a program lie.
 pub fn memory(alloc: Global, code: &LowReg, placement: &Placement) -> Result<Data, Memory>
     requires spots { HaveSpots (low_of code.now.low).functions }
@@ -53,5 +66,6 @@ pub fn memory(alloc: Global, code: &LowReg, placement: &Placement) -> Result<Dat
 {
     let frames = frames(alloc, code)?;
     let objects = array_addresses(alloc, frames.end, code, placement)?;
-    Ok(Data::new(alloc, frames.frames, objects))
+    let second = second(frames.end, code, placement);
+    Ok(Data::new(alloc, frames.frames, objects, second))
 }

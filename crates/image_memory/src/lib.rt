@@ -5,7 +5,8 @@
 //! time is linear in the code, and in the calls and functions for each register.
 //!
 //! Proved: [`memory`] gives what `image_frames` defines of the program over its places, wherever that has room in its
-//! regions and no function has 2^64 instructions; so do [`frames`] and [`array_addresses`], its parts. `Memory` is free.
+//! regions and no function has 2^64 instructions; so do [`frames`],
+//! [`array_addresses`] and [`second`], its parts. `Memory` is free.
 //!
 //! The crate knows no instruction.
 #![tactic(auto)]
@@ -13,5 +14,5 @@
 mod arrays;
 mod walks;
 
-pub use arrays::{Placement, array_addresses, memory};
+pub use arrays::{Placement, array_addresses, memory, second};
 pub use walks::{FrameRow, frames};

@@ -1,6 +1,6 @@
 -- Where the rows of arrays begin: constants at the end of flash, what is placed at the beginning of the scratchpad, and the others in
 -- RAM behind the frames of functions.
-use Rattle.std.specs.Prelude.{ℕ, ◌+◌, ◌≤◌, List, [], ◌∷◌}
+use Rattle.std.specs.Prelude.{ℕ, ◌+◌, ◌^◌, ◌≤◌, nat_lt, if◌then◌else◌, List, [], ◌∷◌}
 use Rattle.rv_core.specs.declared.regions.Region.{Region}
 use Rattle.rv_core.specs.declared.regions.Region.TheVariants.{Flash, Spm, Ram}
 use Rattle.rv_core.specs.Regions.{region_start, region_size}
@@ -15,6 +15,12 @@ constants_start = 0x7C_0000
 abbrev pub starts_behind : ℕ → List Spot → List ℕ
 starts_behind frames ss =
     constants_start ∷ region_start Spm ∷ frames ∷ (frames + row_room 2 ss) ∷ (frames + row_room 2 ss + row_room 3 ss) ∷ (frames + row_room 2 ss + row_room 3 ss + row_room 4 ss) ∷ []
+
+-- the second base: in the middle of the first 4096 bytes of what is placed, else of the constants, where there are such
+abbrev pub second_of : List Spot → ℕ
+second_of ss =
+    if nat_lt 0 (row_room 1 ss) then region_start Spm + 2 ^ 11
+    else (if nat_lt 0 (row_room 0 ss) then constants_start + 2 ^ 11 else 0)
 
 -- where what is placed ends, and everything in RAM
 abbrev pub placed_end : List Spot → ℕ

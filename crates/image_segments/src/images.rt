@@ -1,7 +1,7 @@
 // Images of code and data.
 ghost use Rattle.std.specs.Prelude.{◌≡◌, ◌≤◌, ◌<◌, ◌^◌, ◌∷◌, ◌++◌, [], true, length, slice_index, IfOk, OnOk};
 ghost use Rattle.image_rows.specs.Rows.{row_number, row_room, HaveSizes};
-ghost use Rattle.image_segments.specs.Starts.{starts_behind, placed_end, FitRegions};
+ghost use Rattle.image_segments.specs.Starts.{starts_behind, second_of, placed_end, FitRegions};
 ghost use Rattle.image_segments.specs.Segments.{present, code_segment, data_segment, spots_in, row_segment, values_in, low_segments, ram_segments, segments_of, FitSegments};
 ghost use Rattle.image_segments.specs.Views.{data_of};
 
@@ -53,6 +53,22 @@ pub fn placed_end(memory: Data<'_>) -> u32
     ensures { result ≡ placed_end (spots_in (data_of memory.entry)) }
 {
     0x1000_0000 + room(memory, Row::Scratchpad)
+}
+
+/// What the second base holds: the middle of the first 4096 bytes of what is placed, else of the constants; 0 where there
+/// is neither.
+pub fn second_base(memory: Data<'_>) -> u32
+    requires sizes { HaveSizes (data_of memory).objects }
+    requires fit { FitRegions memory.frames_end (spots_in (data_of memory)) }
+    ensures { result ≡ second_of (spots_in (data_of memory.entry)) }
+{
+    if room(memory, Row::Scratchpad) > 0 {
+        return 0x1000_0800;
+    }
+    if room(memory, Row::Constants) > 0 {
+        return 0x7c_0800;
+    }
+    0
 }
 
 fn put(segments: &mut Vec<Segment>, segment: Segment) -> Result<(), Memory>

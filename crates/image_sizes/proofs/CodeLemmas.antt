@@ -12,7 +12,7 @@ use Rattle.image_sizes.specs.Sizes.{code_size, sizes_placed}
 
 module _ (m : Memory) (p : Placed) (most : (f : ℕ) → blocks_size (blocks_longest (function_items m p f)) ≤ code_size p f) (placed : List Bool) (main : ℕ) where
   abbrev row : ℕ → List PlacedFunction → ℕ
-  row k fns = row_size (λ f. slice_index_or placed f false) k (functions_longest (functions_from m p k fns ++ start_items main ∷ []))
+  row k fns = row_size (λ f. slice_index_or placed f false) k (functions_longest (functions_from m p k fns ++ start_items m.second main ∷ []))
 
   abbrev sizes : ℕ → ℕ → ℕ → ℕ
   sizes k from n = sizes_placed placed k (map (code_size p) (range_with_len from n))
@@ -24,7 +24,7 @@ module _ (m : Memory) (p : Placed) (most : (f : ℕ) → blocks_size (blocks_lon
       own : (n : ℕ) → n ≡ n + 0
       own n = omega arith
 
-      last : (b : Bool) → b ≡ false → (if b then blocks_size (blocks_longest (start_items main)) else 0) + 0 ≤ 0
+      last : (b : Bool) → b ≡ false → (if b then blocks_size (blocks_longest (start_items m.second main)) else 0) + 0 ≤ 0
       last false e = omega arith
       last true e = cc
   placed_few k (fn ∷ fns) start =

@@ -84,7 +84,7 @@ module _ (p : Placed) where
 
   -- a function takes no more than its size, wherever a placement puts arrays
   size_most : (pl : Placement) (f : ℕ) → blocks_size (blocks_longest (function_items (memory_of pl p) p f)) ≤ code_size p f
-  size_most pl f = let same = sizes_kept (frames_of p) (memory_of pl p).objects [] p f in omega (arith, same)
+  size_most pl f = let same = sizes_kept (memory_of pl p) (record { frames = frames_of p; objects = []; second = 0 }) p f refl in omega (arith, same)
 
   pub fits : (pl : Placement) → IsProgram p → HasWords p → HasSizes pl p → FitsImage pl p
   fits pl formed words sizes =

@@ -28,7 +28,7 @@ abbrev pub array_sizes : Placed → List ℕ
 array_sizes p = map array_size p.objects
 
 abbrev pub code_size : Placed → ℕ → ℕ
-code_size p f = function_size (record { frames = frames_of p; objects = [] }) p f
+code_size p f = function_size (record { frames = frames_of p; objects = []; second = 0 }) p f
 
 abbrev pub function_sizes : Placed → List ℕ
 function_sizes p = map (code_size p) (range_with_len 0 (length p.functions))

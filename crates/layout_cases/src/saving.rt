@@ -149,7 +149,7 @@ pub fn frames_over_registers(alloc: Global) -> Result<String, Memory> {
     told
 }
 
-/// Where the last slots of two functions and the frame of a third one lie, and then arrays, by their numbers.
+/// Where the last slots of two functions and the frame of a third one lie, then arrays, by their numbers, and the second base.
 fn memory_lines(alloc: Global, memory: &Data) -> Result<String, Memory> {
     let (first, second) = (memory.frame(0).slot_at(1), memory.frame(1).slot_at(2));
     let none = memory.frame(2).at();
@@ -158,6 +158,8 @@ fn memory_lines(alloc: Global, memory: &Data) -> Result<String, Memory> {
         let at = memory.object_at(object);
         lines.push_str(format!(in alloc; "array {object} {at:08x}\n")?.as_str())?;
     }
+    let base = memory.second();
+    lines.push_str(format!(in alloc; "second base {base:08x}\n")?.as_str())?;
     Ok(lines)
 }
 
@@ -170,7 +172,7 @@ fn memory_in(alloc: Global, code: &LowReg) -> Result<String, Memory> {
 }
 
 /// Frames and arrays over slots. A frame has the return address and a word for each register, 2 of `square` and 3 of main, which
-/// begins at 0x2000000c. Arrays lie behind them, and constants in flash; what isn't there is at 0.
+/// begins at 0x2000000c. Arrays lie behind them, and constants in flash, where the second base is; what isn't there is at 0.
 pub fn memory_over_slots(alloc: Global) -> Result<String, Memory> {
     let arrays = objects(alloc, &ARRAYS)?;
     let code = all_slots(alloc, sum_of_squares(alloc, arrays)?)?;

@@ -11,7 +11,7 @@ use Rattle.low_ir.specs.Places.{Placed}
 use Rattle.asm_room.specs.Functions.{function_size}
 use Rattle.asm_room.proofs.FunctionLemmas.{sizes_kept}
 use Rattle.image_frames.specs.Frames.{frames_of}
-use Rattle.image_frames.specs.Memories.{Placement, memory_of}
+use Rattle.image_frames.specs.Memories.{Placement}
 use Rattle.image_sizes.specs.Sizes.{code_size}
 use Rattle.claims_definition.specs.Listed.{Laid}
 use Rattle.claims_image.specs.Images.{laid_of}
@@ -26,7 +26,7 @@ module _ (pl : Placement) (p : Placed) where
   functions = map (function_item l) (range_with_len 0 (length p.functions))
 
   size_same : (f : ℕ) → function_size l.memory p f ≡ code_size p f
-  size_same f = sizes_kept (frames_of p) (memory_of pl p).objects [] p f
+  size_same f = sizes_kept l.memory (record { frames = frames_of p; objects = []; second = 0 }) p f refl
 
   functions_same : (f n : ℕ) → map sized (map (function_item l) (range_with_len f n)) ≡ map (λ g. (g, code_size p g)) (range_with_len f n)
   functions_same f zero = refl

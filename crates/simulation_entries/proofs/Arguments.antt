@@ -17,7 +17,7 @@ use Rattle.low_ir.specs.declared.run.Value.{Value}
 use Rattle.low_ir.specs.Code.{Operand, Register, Constant}
 use Rattle.low_ir.specs.Runs.{operand_value}
 use Rattle.low_ir.specs.Places.{File, read_place, with_registers, places}
-use Rattle.asm_program.specs.Numbers.{base, first_free, second_free, machine_register}
+use Rattle.asm_program.specs.Numbers.{base, second_base, first_free, second_free, machine_register}
 use Rattle.asm_program.specs.Frames.{slot_at}
 use Rattle.asm_program.specs.Operands.{operand_register, operand_code, store_code}
 use Rattle.asm_program.specs.Emission.{reads_register, store_argument}
@@ -74,6 +74,7 @@ module _ (g : Given) where
       record {
         there = r.there;
         based = w.others base (λ e. (value_is q less).base_not (sym e)) ∙ r.based;
+        second = w.others second_base (λ e. (value_is q less).second_not (sym e)) ∙ r.second;
         room =
             record {
               registers = length-set t.registers q None ∙ r.room.registers;

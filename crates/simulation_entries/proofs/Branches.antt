@@ -59,10 +59,10 @@ branches_to imm true s = refl
 branches_to imm false s = refl
 
 module _ (g : Given) where
-  -- the machine goes on behind a branch; x7 may have been written
+  -- the machine goes on behind a branch; x5 may have been written
   pub record Passed (k : Course) (n m : ℕ) (xs : List Noted) : Type 0 where
     pub at : At g k m xs
-    pub registers : (q : ℕ) → q ≢ 7 → reg g m q ≡ reg g n q
+    pub registers : (q : ℕ) → q ≢ 5 → reg g m q ≡ reg g n q
     pub world : (state g m).world ≡ (state g n).world
 
   not_exit : (a : ℕ) (b : Bool) → g.layout.code.exit a ≡ b → (g.layout.code.fetch a ≡ Some ecall → ⊥) → b ≡ false

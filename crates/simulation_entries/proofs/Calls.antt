@@ -25,7 +25,7 @@ use Rattle.simulation_entries.proofs.Standing.{op_of, Stood, step_to, step_linke
 use Rattle.simulation_entries.proofs.Jumps.{behind_is, no_more}
 
 -- a far call links to x1
-far_calls : (resolved : Bool) (imm : ℤ) → linkage_of_register resolved (instruction Jalr 1 7 0 imm) ≡ Calls
+far_calls : (resolved : Bool) (imm : ℤ) → linkage_of_register resolved (instruction Jalr 1 5 0 imm) ≡ Calls
 far_calls resolved imm = refl
 
 -- a jump through x1 that nothing resolves is a return
@@ -36,14 +36,14 @@ same_test : (a : ℕ) → (a == a) ≡ true
 same_test a = grind (arith, nat_tests)
 
 module _ (g : Given) where
-  -- the machine has come to an address with a return place; x1 has it, and x7 may have been written
+  -- the machine has come to an address with a return place; x1 has it, and x5 may have been written
   pub record Called (n m to back : ℕ) (trace : List Began) (returns : List ℕ) : Type 0 where
     pub stood : Stood g m to trace (back ∷ returns)
     pub link : reg g m 1 ≡ back
-    pub registers : (q : ℕ) → q ≢ 1 → q ≢ 7 → reg g m q ≡ reg g n q
+    pub registers : (q : ℕ) → q ≢ 1 → q ≢ 5 → reg g m q ≡ reg g n q
     pub world : (state g m).world ≡ (state g n).world
 
-  not_exit : (a : ℕ) (imm : ℤ) → g.layout.code.fetch a ≡ Some (instruction Jalr 1 7 0 imm) → (b : Bool) → g.layout.code.exit a ≡ b → b ≡ false
+  not_exit : (a : ℕ) (imm : ℤ) → g.layout.code.fetch a ≡ Some (instruction Jalr 1 5 0 imm) → (b : Bool) → g.layout.code.exit a ≡ b → b ≡ false
   not_exit a imm fetched false e = refl
   not_exit a imm fetched true e = absurd (let same : Jalr ≡ Ecall = ap op_of (sym fetched ∙ g.laid.exits a e) in cc)
 
@@ -63,7 +63,7 @@ module _ (g : Given) where
       (record {
         stood = subst (λ x. Stood g m to (trace ++ g.layout.begins a) (x ∷ returns)) next w.stood;
         link = ap (λ r. register_of r 1) w.registers_are ∙ register-written s.registers 1 back (omega arith) (omega arith);
-        registers = λ q one seven. ap (λ r. register_of r q) w.registers_are ∙ register-other s.registers 1 back q one;
+        registers = λ q one five. ap (λ r. register_of r q) w.registers_are ∙ register-other s.registers 1 back q one;
         world = w.world;
       }))
   call_runs P n a to back trace returns true h from target ends room words_are exit quiet go =
@@ -71,20 +71,20 @@ module _ (g : Given) where
       let count = h.count in
       let low = from.low in
       let u = displaced a (upper_part a to) in
-      step_to g P n a trace returns (instruction Auipc 7 0 0 (upper_part a to)) (a + 4) (with_register s.registers 7 u) h words_are.0 exit refl refl
-      (ap (λ x. GoesTo (behind x) (with_register s.registers 7 (displaced x (upper_part a to))) s.world) h.here ∙ ap (λ x. GoesTo x (with_register s.registers 7 u) s.world) (behind_is a low))
-      (length-written s.registers 7 u ∙ count)
+      step_to g P n a trace returns (instruction Auipc 5 0 0 (upper_part a to)) (a + 4) (with_register s.registers 5 u) h words_are.0 exit refl refl
+      (ap (λ x. GoesTo (behind x) (with_register s.registers 5 (displaced x (upper_part a to))) s.world) h.here ∙ ap (λ x. GoesTo x (with_register s.registers 5 u) s.world) (behind_is a low))
+      (length-written s.registers 5 u ∙ count)
       (λ m w.
       let t = state g m in
-      let i = instruction Jalr 1 7 0 (lower_part a to) in
-      let seven : reg g m 7 ≡ u = ap (λ r. register_of r 7) w.registers_are ∙ register-written s.registers 7 u (omega arith) (omega arith) in
+      let i = instruction Jalr 1 5 0 (lower_part a to) in
+      let five : reg g m 5 ≡ u = ap (λ r. register_of r 5) w.registers_are ∙ register-written s.registers 5 u (omega arith) (omega arith) in
       let later_count = w.stood.count in
       let done = trace ++ g.layout.begins a in
       let here = w.stood.here in
       let next : behind (a + 4) ≡ back = omega arith in
       step_linked g P m (a + 4) done returns i to (with_register t.registers 1 back) Calls w.stood words_are.1.0 (not_exit (a + 4) (lower_part a to) words_are.1.0 (g.layout.code.exit (a + 4)) refl) refl
-      (far_calls (sets_upper (instruction_before t.world.memory t.pc) 7) (lower_part a to)) refl
-      (ap (λ x. GoesTo (displaced x (lower_part a to) / 2 * 2) (with_register t.registers 1 (behind t.pc)) t.world) seven
+      (far_calls (sets_upper (instruction_before t.world.memory t.pc) 5) (lower_part a to)) refl
+      (ap (λ x. GoesTo (displaced x (lower_part a to) / 2 * 2) (with_register t.registers 1 (behind t.pc)) t.world) five
       ∙ ap (λ x. GoesTo x (with_register t.registers 1 (behind t.pc)) t.world) (displaced-parts a to from target)
       ∙ ap (λ x. GoesTo to (with_register t.registers 1 (behind x)) t.world) here
       ∙ ap (λ x. GoesTo to (with_register t.registers 1 x) t.world) next)
@@ -93,7 +93,7 @@ module _ (g : Given) where
       (record {
         stood = subst (λ x. Stood g j to done (x ∷ returns)) next (subst (λ x. Stood g j to x (behind (a + 4) ∷ returns)) (no_more done (g.layout.begins (a + 4)) (quiet refl)) z.stood);
         link = ap (λ r. register_of r 1) z.registers_are ∙ register-written t.registers 1 back (omega arith) (omega arith);
-        registers = λ q one seven_not. ap (λ r. register_of r q) z.registers_are ∙ register-other t.registers 1 back q one ∙ ap (λ r. register_of r q) w.registers_are ∙ register-other s.registers 7 u q seven_not;
+        registers = λ q one five_not. ap (λ r. register_of r q) z.registers_are ∙ register-other t.registers 1 back q one ∙ ap (λ r. register_of r q) w.registers_are ∙ register-other s.registers 5 u q five_not;
         world = z.world ∙ w.world;
       })))
 

@@ -21,8 +21,8 @@ use Rattle.simulation_steps.proofs.Given.{Given, run_of, state, reg, At}
 use Rattle.simulation_steps.proofs.Stepping.{code_from}
 use Rattle.simulation_entries.proofs.Standing.{op_of, Stood, step_to, stands_there}
 
--- a jump through x7 to which nothing links
-far_stays : (resolved : Bool) (imm : ℤ) → linkage_of_register resolved (instruction Jalr 0 7 0 imm) ≡ Stays
+-- a jump through x5 to which nothing links
+far_stays : (resolved : Bool) (imm : ℤ) → linkage_of_register resolved (instruction Jalr 0 5 0 imm) ≡ Stays
 far_stays true imm = refl
 far_stays false imm = refl
 
@@ -33,13 +33,13 @@ pub no_more : (trace : List Began) (b : List Began) → b ≡ [] → trace ++ b 
 no_more trace b e = ap (λ x. trace ++ x) e ∙ append-nil trace
 
 module _ (g : Given) where
-  -- the machine has come to an address; x7 may have been written
+  -- the machine has come to an address; x5 may have been written
   pub record Came (n m to : ℕ) (trace : List Began) (returns : List ℕ) : Type 0 where
     pub stood : Stood g m to trace returns
-    pub registers : (q : ℕ) → q ≢ 7 → reg g m q ≡ reg g n q
+    pub registers : (q : ℕ) → q ≢ 5 → reg g m q ≡ reg g n q
     pub world : (state g m).world ≡ (state g n).world
 
-  not_exit : (a : ℕ) (imm : ℤ) → g.layout.code.fetch a ≡ Some (instruction Jalr 0 7 0 imm) → (b : Bool) → g.layout.code.exit a ≡ b → b ≡ false
+  not_exit : (a : ℕ) (imm : ℤ) → g.layout.code.fetch a ≡ Some (instruction Jalr 0 5 0 imm) → (b : Bool) → g.layout.code.exit a ≡ b → b ≡ false
   not_exit a imm fetched false e = refl
   not_exit a imm fetched true e = absurd (let same : Jalr ≡ Ecall = ap op_of (sym fetched ∙ g.laid.exits a e) in cc)
 
@@ -57,23 +57,23 @@ module _ (g : Given) where
       let count = h.count in
       let low = from.low in
       let u = displaced a (upper_part a to) in
-      step_to g P n a trace returns (instruction Auipc 7 0 0 (upper_part a to)) (a + 4) (with_register s.registers 7 u) h words_are.0 exit refl refl
-      (ap (λ x. GoesTo (behind x) (with_register s.registers 7 (displaced x (upper_part a to))) s.world) h.here ∙ ap (λ x. GoesTo x (with_register s.registers 7 u) s.world) (behind_is a low))
-      (length-written s.registers 7 u ∙ count)
+      step_to g P n a trace returns (instruction Auipc 5 0 0 (upper_part a to)) (a + 4) (with_register s.registers 5 u) h words_are.0 exit refl refl
+      (ap (λ x. GoesTo (behind x) (with_register s.registers 5 (displaced x (upper_part a to))) s.world) h.here ∙ ap (λ x. GoesTo x (with_register s.registers 5 u) s.world) (behind_is a low))
+      (length-written s.registers 5 u ∙ count)
       (λ m w.
       let t = state g m in
-      let i = instruction Jalr 0 7 0 (lower_part a to) in
-      let seven : reg g m 7 ≡ u = ap (λ r. register_of r 7) w.registers_are ∙ register-written s.registers 7 u (omega arith) (omega arith) in
+      let i = instruction Jalr 0 5 0 (lower_part a to) in
+      let five : reg g m 5 ≡ u = ap (λ r. register_of r 5) w.registers_are ∙ register-written s.registers 5 u (omega arith) (omega arith) in
       let later_count = w.stood.count in
       let done = trace ++ g.layout.begins a in
       step_to g P m (a + 4) done returns i to t.registers w.stood words_are.1.0 (not_exit (a + 4) (lower_part a to) words_are.1.0 (g.layout.code.exit (a + 4)) refl) refl
-      (far_stays (sets_upper (instruction_before t.world.memory t.pc) 7) (lower_part a to))
-      (ap (λ x. GoesTo (displaced x (lower_part a to) / 2 * 2) t.registers t.world) seven ∙ ap (λ x. GoesTo x t.registers t.world) (displaced-parts a to from target))
+      (far_stays (sets_upper (instruction_before t.world.memory t.pc) 5) (lower_part a to))
+      (ap (λ x. GoesTo (displaced x (lower_part a to) / 2 * 2) t.registers t.world) five ∙ ap (λ x. GoesTo x t.registers t.world) (displaced-parts a to from target))
       later_count
       (λ j z. go j
       (record {
         stood = subst (λ x. Stood g j to x returns) (no_more done (g.layout.begins (a + 4)) (quiet refl)) z.stood;
-        registers = λ q other. ap (λ r. register_of r q) z.registers_are ∙ ap (λ r. register_of r q) w.registers_are ∙ register-other s.registers 7 u q other;
+        registers = λ q other. ap (λ r. register_of r q) z.registers_are ∙ ap (λ r. register_of r q) w.registers_are ∙ register-other s.registers 5 u q other;
         world = z.world ∙ w.world;
       })))
 

@@ -22,7 +22,7 @@ use Rattle.low_ir.specs.Code.{Operand, Address, Point, Load, Store, Put, Instr, 
 use Rattle.low_ir.specs.Effects.{World, Contents, Did, address_reads, there, with_one, word, gives, changes, put, with_objects, resolved, loaded, can_store, stored}
 use Rattle.low_ir.specs.Runs.{operand_value, values_cons, values, goes_on, finish}
 use Rattle.low_ir.specs.Places.{write_place, places}
-use Rattle.asm_program.specs.Numbers.{base, machine_register}
+use Rattle.asm_program.specs.Numbers.{base, second_base, machine_register}
 use Rattle.asm_program.specs.Frames.{Memory, object_at}
 use Rattle.claims_accesses.specs.Touches.{OfArrays, named}
 use Rattle.simulation_relation.specs.Noted.{Noted}
@@ -55,7 +55,8 @@ module _ (g : Given) where
       let v2 = view_of (state g m) in
       let head = head_of_words g.layout f v v2 (words f inside) in
       record {
-        based = registers base (record { five = λ z. omega (arith, z); six = λ z. omega (arith, z); seven = λ z. omega (arith, z); ten = λ z. omega (arith, z); seventeen = λ z. omega (arith, z) }) ∙ h.based;
+        based = registers base (record { five = λ z. omega (arith, z); six = λ z. omega (arith, z); ten = λ z. omega (arith, z); seventeen = λ z. omega (arith, z) }) ∙ h.based;
+        second = registers second_base (record { five = λ z. omega (arith, z); six = λ z. omega (arith, z); ten = λ z. omega (arith, z); seventeen = λ z. omega (arith, z) }) ∙ h.second;
         room = h.room;
         shows = shows;
         arrays = arrays;
@@ -77,7 +78,7 @@ module _ (g : Given) where
           slot_kept g.layout r.top.func j (view_of (state g n)) (view_of (state g m)) (words r.top.func inside) (omega arith) ∙ h.shows (Slot j) x e
 
       linked : (leaf : Bool) (at : ℕ) → SameHead g.layout r.top.func (view_of (state g n)) (view_of (state g m)) → IsLinked leaf (frame g r.top.func) (view_of (state g n)) at → IsLinked leaf (frame g r.top.func) (view_of (state g m)) at
-      linked true at head e = registers 1 (record { five = λ z. omega (arith, z); six = λ z. omega (arith, z); seven = λ z. omega (arith, z); ten = λ z. omega (arith, z); seventeen = λ z. omega (arith, z) }) ∙ e
+      linked true at head e = registers 1 (record { five = λ z. omega (arith, z); six = λ z. omega (arith, z); ten = λ z. omega (arith, z); seventeen = λ z. omega (arith, z) }) ∙ e
       linked false at head e = return_kept g.layout r.top.func (view_of (state g n)) (view_of (state g m)) head ∙ e
 
   abbrev objects : List Object

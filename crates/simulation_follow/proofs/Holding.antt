@@ -17,7 +17,7 @@ use Rattle.low_ir.specs.Code.{Instr, End, Object}
 use Rattle.low_ir.specs.Effects.{World, is_member}
 use Rattle.low_ir.specs.Runs.{set_in}
 use Rattle.low_ir.specs.Places.{File, Placed, read_place, write_place, with_registers, with_slots}
-use Rattle.asm_program.specs.Numbers.{base, machine_register}
+use Rattle.asm_program.specs.Numbers.{base, second_base, machine_register}
 use Rattle.asm_program.specs.Frames.{slot_at, object_at}
 use Rattle.asm_program.specs.Functions.{PlacedBlock, function_in, is_leaf}
 use Rattle.simulation_relation.specs.Plans.{writes_of, block_writes, function_writes, frame_size}
@@ -167,7 +167,7 @@ module _ (g : Given) where
   no_value f (Slot j) inside r never = tt
 
   linked_kept : (n m f : ℕ) (d : Place) (leaf : Bool) (at : ℕ) → IsThere g f d → Keeps n m f d → IsLinked leaf (frame g f) (view_of (state g n)) at → IsLinked leaf (frame g f) (view_of (state g m)) at
-  linked_kept n m f d true at inside k h = k.registers 1 (record { five = λ e. omega (arith, e); six = λ e. omega (arith, e); seven = λ e. omega (arith, e); ten = λ e. omega (arith, e); seventeen = λ e. omega (arith, e) }) (no_value f d inside 1 (λ q less e. (value_is q less).link_not e)) ∙ h
+  linked_kept n m f d true at inside k h = k.registers 1 (record { five = λ e. omega (arith, e); six = λ e. omega (arith, e); ten = λ e. omega (arith, e); seventeen = λ e. omega (arith, e) }) (no_value f d inside 1 (λ q less e. (value_is q less).link_not e)) ∙ h
   linked_kept n m f d false at inside k h = return_kept g.layout f (view_of (state g n)) (view_of (state g m)) (same_head n m f d k) ∙ h
 
   -- a register that others need and the function doesn't save is not written by it
@@ -227,7 +227,8 @@ module _ (g : Given) where
       let v = view_of (state g n) in
       let v2 = view_of (state g m) in
       record {
-        based = k.registers base (record { five = λ z. omega (arith, z); six = λ z. omega (arith, z); seven = λ z. omega (arith, z); ten = λ z. omega (arith, z); seventeen = λ z. omega (arith, z) }) (no_value f d inside base (λ q less z. (value_is q less).base_not z)) ∙ h.based;
+        based = k.registers base (record { five = λ z. omega (arith, z); six = λ z. omega (arith, z); ten = λ z. omega (arith, z); seventeen = λ z. omega (arith, z) }) (no_value f d inside base (λ q less z. (value_is q less).base_not z)) ∙ h.based;
+        second = k.registers second_base (record { five = λ z. omega (arith, z); six = λ z. omega (arith, z); ten = λ z. omega (arith, z); seventeen = λ z. omega (arith, z) }) (no_value f d inside second_base (λ q less z. (value_is q less).second_not z)) ∙ h.second;
         room = room_kept f r.top.store u d x w small h.room;
         shows = shows_kept n m f r.top.store u d x w h.room k located h.shows;
         arrays = subst (λ cs. HasArrays g.layout.memory g.layout.program.objects cs v2) (sym objects) (arrays_kept g.layout r.world.objects v v2 (same_object n m f d there inside k) h.arrays);

@@ -55,7 +55,7 @@ module _ (g : Given) where
   Going_at r n = Goes g.layout (run_of g) r n
 
   pub ready_of : (r : PlacedRunning) (n : ℕ) → Going_at r n → Ready g r.top.func r.top.store n
-  ready_of r n h = record { there = h.inside.there; based = h.holds.based; room = h.holds.room; shows = h.holds.shows }
+  ready_of r n h = record { there = h.inside.there; based = h.holds.based; second = h.holds.second; room = h.holds.room; shows = h.holds.shows }
 
   abbrev pub body : PlacedRunning → ℕ → List (Instr Place (List ℕ)) → List Noted
   body r b is = noted_body g.layout.memory g.layout.program r.top.func b is r.top.end

@@ -181,9 +181,9 @@ some_within [] n x e = cc
 some_within (y ∷ xs) zero x e = omega arith
 some_within (y ∷ xs) (suc n) x e = let h = some_within xs n x e in omega (arith, h)
 
-start_touch : (main b : ℕ) → slice_index_or (map touches (start_items main)) b [] ≡ touches (slice_index_or (start_items main) b [])
-start_touch main zero = refl
-start_touch main (suc b) = refl
+start_touch : (second main b : ℕ) → slice_index_or (map touches (start_items second main)) b [] ≡ touches (slice_index_or (start_items second main) b [])
+start_touch second main zero = refl
+start_touch second main (suc b) = refl
 
 module _ (m : Memory) (p : Placed) where
   functions_length : (k : ℕ) (fns : List PlacedFunction) → length (functions_touches m p k fns) ≡ length fns
@@ -199,13 +199,13 @@ module _ (m : Memory) (p : Placed) where
   of_function f h =
       let n = functions_length 0 p.functions in
       let number : 0 + f ≡ f = omega arith in
-      get_or_append_left (functions_touches m p 0 p.functions) (map touches (start_items p.main) ∷ []) [] f (omega (arith, h, n)) ∙ function_at_number 0 p.functions f h ∙ ap (function_touches m p) number
+      get_or_append_left (functions_touches m p 0 p.functions) (map touches (start_items m.second p.main) ∷ []) [] f (omega (arith, h, n)) ∙ function_at_number 0 p.functions f h ∙ ap (function_touches m p) number
 
-  of_start : slice_index_or (program_touches m p) (length p.functions) [] ≡ map touches (start_items p.main)
+  of_start : slice_index_or (program_touches m p) (length p.functions) [] ≡ map touches (start_items m.second p.main)
   of_start =
       let n = functions_length 0 p.functions in
       let number : length p.functions ≡ length (functions_touches m p 0 p.functions) + 0 = omega (arith, n) in
-      ap (λ k. slice_index_or (program_touches m p) k []) number ∙ get_or-append-add (functions_touches m p 0 p.functions) (map touches (start_items p.main) ∷ []) 0 []
+      ap (λ k. slice_index_or (program_touches m p) k []) number ∙ get_or-append-add (functions_touches m p 0 p.functions) (map touches (start_items m.second p.main) ∷ []) 0 []
 
   -- what the items of a block touch
   abbrev pub touches_in : ℕ → ℕ → List Touch
@@ -243,7 +243,7 @@ module _ (m : Memory) (p : Placed) where
       ∙ get_or-append-add (blocks_from m p f 0 (blocks_of f)) (leaving_blocks m p f once) j []))
 
   of_home : (b : ℕ) → touches_in (length p.functions) b ≡ touches (items_at m p (length p.functions) b)
-  of_home b = ap (λ ts. slice_index_or ts b []) of_start ∙ start_touch p.main b ∙ ap touches (sym (ap (λ bs. slice_index_or bs b []) (items_of_start m p)))
+  of_home b = ap (λ ts. slice_index_or ts b []) of_start ∙ start_touch m.second p.main b ∙ ap touches (sym (ap (λ bs. slice_index_or bs b []) (items_of_start m p)))
 
   -- the start code has no block of the program
   no_block : (f b : ℕ) (block : PlacedBlock) → length p.functions ≤ f → slice_get (blocks_of f) b ≡ Some block → ⊥

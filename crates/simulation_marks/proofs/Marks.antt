@@ -37,7 +37,7 @@ all_laid l =
     let p = l.program in
     let same = functions_long (program_items l.memory p) (functions_of l) (formed_like l.rows (program_items l.memory p)) in
     let many = functions_many l.memory p 0 p.functions in
-    let both = length-append (functions_from l.memory p 0 p.functions) (start_items p.main ∷ []) in
+    let both = length-append (functions_from l.memory p 0 p.functions) (start_items l.memory.second p.main ∷ []) in
     omega (arith, same, many, both)
 
 joined : (x y : ℤ) (a b : ℕ) → x ≡ pos a → y ≡ pos b → (x +ℤ y) ≡ pos (a + b)

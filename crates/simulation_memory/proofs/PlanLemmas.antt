@@ -1,9 +1,9 @@
 -- The memory of a program is a plan for it.
-use Rattle.std.proofs.Common.{◌≡◌, ◌≢◌, inl, inr, ℕ, ◌+◌, ◌%◌, ◌<◌, ◌≤◌, Bool, true, false, List, ◌++◌, length, refl, sym, ap, ◌∙◌, subst, ⊎_elim, arith}
-use Rattle.std.specs.Prelude.{Option, ◌&&◌, ◌||◌, not, Contains}
+use Rattle.std.proofs.Common.{◌≡◌, ◌≢◌, inl, inr, ℕ, ◌+◌, ◌%◌, ◌^◌, ◌<◌, ◌≤◌, Bool, true, false, List, ◌++◌, length, refl, sym, ap, ◌∙◌, subst, ⊎_elim, arith}
+use Rattle.std.specs.Prelude.{Option, ◌&&◌, ◌||◌, not, nat_lt, if◌then◌else◌, Contains}
 use Rattle.std.proofs.lemmas.Bool.{cases_lt, false≢true}
 use Rattle.std.proofs.lemmas.List.{length-map}
-use Rattle.rv_core.specs.declared.regions.Region.TheVariants.{Ram}
+use Rattle.rv_core.specs.declared.regions.Region.TheVariants.{Spm, Ram}
 use Rattle.rv_core.specs.Regions.{region_start}
 use Rattle.low_ir.specs.declared.places.Place.{Place}
 use Rattle.low_ir.specs.Code.{Operand, Call}
@@ -21,7 +21,8 @@ use Rattle.image_frames.specs.Needs.{parameters_of, Site, sites_homes, Outline, 
 use Rattle.image_frames.specs.Frames.{frames_end}
 use Rattle.image_frames.proofs.TableLemmas.{member_of, table_holds, table_misses, in_chosen, from_chosen}
 use Rattle.image_frames.proofs.NeedsLemmas.{HasSite, AreBelow, site_below, needing_asks}
-use Rattle.image_segments.specs.Starts.{ram_end}
+use Rattle.image_rows.specs.Rows.{row_room}
+use Rattle.image_segments.specs.Starts.{constants_start, ram_end}
 use Rattle.image_frames.specs.Memories.{Placement, spots_of, memory_of, regions_of, FitsMemory}
 use Rattle.simulation_memory.specs.Laws.{KeepsRegisters}
 use Rattle.image_frames.proofs.FrameLemmas.{IsFrame, is_frame, frames_ascend, ends, frames_end_even}
@@ -48,6 +49,12 @@ both_true false b e f = absurd (false≢true e)
 right_true : (a b : Bool) → (a && b) ≡ true → b ≡ true
 right_true true b e = e
 right_true false b e = absurd (false≢true e)
+
+-- the second base is in the scratchpad or in flash
+second_small : (placed constant : Bool) → (if placed then region_start Spm + 2 ^ 11 else (if constant then constants_start + 2 ^ 11 else 0)) < 2 ^ 32
+second_small true constant = omega arith
+second_small false true = omega arith
+second_small false false = omega arith
 
 module _ (pl : Placement) (p : Placed) (formed : IsProgram p) (sound : InProgram p) (keeps : KeepsRegisters p) (fits : FitsMemory pl p) where
   frame : (f : ℕ) → f < length p.functions → IsFrame p ram 0 p.functions f
@@ -169,5 +176,6 @@ module _ (pl : Placement) (p : Placed) (formed : IsProgram p) (sound : InProgram
         let from = r.from in
         let to = r.to in
         beside_frames pl p fits low even o x (frame_of (memory_of pl p) f).at (frame_size (frame_of (memory_of pl p) f)) e from (omega (arith, to));
+    second = second_small (nat_lt 0 (row_room 1 (spots_of pl p))) (nat_lt 0 (row_room 0 (spots_of pl p)));
     stored = λ o x e r. only_constants pl p o x e r;
   }

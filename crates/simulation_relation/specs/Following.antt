@@ -7,7 +7,7 @@ use Rattle.low_ir.specs.declared.places.Place.{Place}
 use Rattle.low_ir.specs.Effects.{World}
 use Rattle.low_ir.specs.Runs.{Running, Run, Going, Done, Bad}
 use Rattle.low_ir.specs.Places.{File}
-use Rattle.asm_program.specs.Numbers.{base, base_address}
+use Rattle.asm_program.specs.Numbers.{base, second_base, base_address}
 use Rattle.asm_program.specs.Frames.{frame_of}
 use Rattle.asm_program.specs.Functions.{function_in, is_leaf}
 use Rattle.simulation_relation.specs.Noted.{noted_body}
@@ -25,6 +25,7 @@ PlacedRun = Run Place (List ℕ) File
 -- what a machine shows of a run: the activation on top, those that wait for it, and the arrays
 pub record Holds (l : Layout) (r : PlacedRunning) (v : View) (returns : List ℕ) : Type 0 where
   pub based : v.register base ≡ base_address
+  pub second : v.register second_base ≡ l.memory.second
   pub room : HasRoom l.memory (frame_of l.memory r.top.func) r.top.store
   pub shows : Shows l.memory (frame_of l.memory r.top.func) r.top.store v
   pub arrays : HasArrays l.memory l.program.objects r.world.objects v

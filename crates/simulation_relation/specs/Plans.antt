@@ -1,5 +1,5 @@
 -- Where frames and arrays lie, and which registers a function saves: what a layout decides before it emits code.
-use Rattle.std.specs.Prelude.{◌≡◌, ◌≢◌, ◌⊎◌, ℕ, ◌+◌, ◌*◌, ◌%◌, ◌<◌, ◌≤◌, true, false, List, ◌++◌, length, Option, Some, Contains, slice_get}
+use Rattle.std.specs.Prelude.{◌≡◌, ◌≢◌, ◌⊎◌, ℕ, ◌+◌, ◌*◌, ◌%◌, ◌^◌, ◌<◌, ◌≤◌, true, false, List, ◌++◌, length, Option, Some, Contains, slice_get}
 use Rattle.std.specs.List.{flat_map}
 use Rattle.std.specs.Option.{option_to_list}
 use Rattle.rv_core.specs.declared.regions.Region.{Region}
@@ -74,5 +74,7 @@ pub record IsPlan (p : Placed) (m : Memory) (needs : Needs) (regions : ℕ → R
   pub aligned : (o : ℕ) (x : Object) → slice_get p.objects o ≡ Some x → object_at m o % 4 ≡ 0
   pub objects_apart : (o n : ℕ) (x y : Object) → o ≢ n → slice_get p.objects o ≡ Some x → slice_get p.objects n ≡ Some y → AreApart (object_at m o) (bytes_of x) (object_at m n) (bytes_of y)
   pub beside_frames : (o f : ℕ) (x : Object) → slice_get p.objects o ≡ Some x → f < length p.functions → AreApart (object_at m o) (bytes_of x) (frame_of m f).at (frame_size (frame_of m f))
+  -- the second base is a word
+  pub second : m.second < 2 ^ 32
   -- only constants lie where nothing can be stored
   pub stored : (o : ℕ) (x : Object) → slice_get p.objects o ≡ Some x → regions o ≡ Flash → x.storage ≡ Fixed'

@@ -16,7 +16,7 @@ use Rattle.low_ir.specs.Code.{Operand, Instr, Call}
 use Rattle.low_ir.specs.Effects.{is_member}
 use Rattle.low_ir.specs.Runs.{values, write_all}
 use Rattle.low_ir.specs.Places.{File, places}
-use Rattle.asm_program.specs.Numbers.{base, base_address, link, machine_register}
+use Rattle.asm_program.specs.Numbers.{base, second_base, base_address, link, machine_register}
 use Rattle.asm_program.specs.Frames.{home_at, slot_at}
 use Rattle.asm_program.specs.Emission.{registers_among, kept_among, home_code, pass_code, late_code, before_call, behind_call}
 use Rattle.asm_program.specs.Functions.{PlacedBlock, function_in, opening_items}
@@ -49,6 +49,7 @@ module _ (g : Given) where
   pub record Begins (n m f c back : ℕ) (note : List ℕ) (t u : File) : Type 0 where
     pub link_is : reg g m link ≡ back
     pub based : reg g m base ≡ base_address
+    pub second : reg g m second_base ≡ g.layout.memory.second
     pub registers : (q : ℕ) → is_member (registers_among (params c)) q ≡ false → reg g m (machine_register q) ≡ reg g n (machine_register q)
     pub homes : (q : ℕ) → is_member (kept_among (params c) note) q ≡ true → read g m Whole (home_at (frame g f) q) ≡ Some (reg g n (machine_register q) % 2 ^ 32)
     pub beside : (y : Width) (a : ℕ) → IsOutside g c a (byte_count y) → NoHome g f a (byte_count y) → read g m y a ≡ read g n y a
@@ -76,6 +77,7 @@ module _ (g : Given) where
       record {
         there = ready.there;
         based = a.registers base (λ e. omega (arith, e)) ∙ ready.based;
+        second = a.registers second_base (λ e. omega (arith, e)) ∙ ready.second;
         room = ready.room;
         shows = shows;
       }
@@ -91,6 +93,9 @@ module _ (g : Given) where
   base_apart : (q : ℕ) → q < 24 → base ≢ machine_register q
   base_apart q less e = (value_is q less).base_not (sym e)
 
+  second_apart : (q : ℕ) → q < 24 → second_base ≢ machine_register q
+  second_apart q less e = (value_is q less).second_not (sym e)
+
   -- the arguments in the places of the callee, once the late ones are loaded
   shows_loaded : (k : Course) (j i c : ℕ) (late : List ℕ) (u : File) (ys : List Noted) → Awaits g j c late u → Unhomed g k j i c late ys → Shows g.layout.memory (frame g c) u (view_of (state g i))
   shows_loaded k j i c late u ys awaits d (Slot s) x e = ap (λ (z : machine.World). read_from (λ b. b.read) Whole z.memory (slot_at (frame g c) s)) d.world ∙ awaits.slots s x e
@@ -100,9 +105,9 @@ module _ (g : Given) where
       by_late true l z = d.loads q (code g x) z (inl l)
       by_late false l z = d.others (machine_register q) (λ p own s. let same : q ≡ p = machine_register-same q p s in let both : true ≡ false = sym own ∙ ap (is_member late) (sym same) ∙ l in cc) ∙ z
 
-  shows_after : (i m c : ℕ) (u : File) → ((q : ℕ) → q ≢ 1 → q ≢ 7 → reg g m q ≡ reg g i q) → (state g m).world ≡ (state g i).world → Shows g.layout.memory (frame g c) u (view_of (state g i)) → Shows g.layout.memory (frame g c) u (view_of (state g m))
+  shows_after : (i m c : ℕ) (u : File) → ((q : ℕ) → q ≢ 1 → q ≢ 5 → reg g m q ≡ reg g i q) → (state g m).world ≡ (state g i).world → Shows g.layout.memory (frame g c) u (view_of (state g i)) → Shows g.layout.memory (frame g c) u (view_of (state g m))
   shows_after i m c u registers world shows (Slot s) x e = ap (λ (z : machine.World). read_from (λ b. b.read) Whole z.memory (slot_at (frame g c) s)) world ∙ shows (Slot s) x e
-  shows_after i m c u registers world shows (InRegister q) x e = registers (machine_register q) (link_apart q) (steady_is q).seven ∙ shows (InRegister q) x e
+  shows_after i m c u registers world shows (InRegister q) x e = registers (machine_register q) (link_apart q) (steady_is q).five ∙ shows (InRegister q) x e
 
   -- from the call on to where the callee begins
   begins : (k : Course) (n m j i v y f c back : ℕ) (note : List ℕ) (t u : File) (late : List ℕ) (ws xs ys zs : List Noted) (trace : List Began) (kc : Course) → f < length g.layout.program.functions → Between g f c late → ((q : ℕ) → is_member late q ≡ true → is_member (registers_among (params c)) q ≡ true)
@@ -111,8 +116,9 @@ module _ (g : Given) where
   begins k n m j i v y f c back note t u late ws xs ys zs trace kc there between among homes ready a b d called entered =
       record {
         link_is = entered.registers link ∙ called.link;
-        based = still base (λ e. omega (arith, e)) (λ e. omega (arith, e)) (λ e. omega (arith, e)) (λ e. omega (arith, e)) (λ q own. base_apart q (b.inside q own)) ∙ ready.based;
-        registers = λ q outside. still (machine_register q) (link_apart q) (steady_is q).five (steady_is q).six (steady_is q).seven (λ p own. apart_from (params c) q p outside own);
+        based = still base (λ e. omega (arith, e)) (λ e. omega (arith, e)) (λ e. omega (arith, e)) (λ q own. base_apart q (b.inside q own)) ∙ ready.based;
+        second = still second_base (λ e. omega (arith, e)) (λ e. omega (arith, e)) (λ e. omega (arith, e)) (λ q own. second_apart q (b.inside q own)) ∙ ready.second;
+        registers = λ q outside. still (machine_register q) (link_apart q) (steady_is q).five (steady_is q).six (λ p own. apart_from (params c) q p outside own);
         homes = λ q own.
             let word = home_word g f q there (homes q own) in
             let from = word.from in
@@ -122,7 +128,7 @@ module _ (g : Given) where
         input = ap (λ (z : machine.World). z.input) world ∙ b.input ∙ a.input;
         output = ap (λ (z : machine.World). z.output) world ∙ b.output ∙ a.output;
         room = b.room;
-        shows = shows_after i y c u (λ q one seven. entered.registers q ∙ called.registers q one seven) (entered.world ∙ called.world) (shows_loaded k j i c late u ys b.awaits d);
+        shows = shows_after i y c u (λ q one five. entered.registers q ∙ called.registers q one five) (entered.world ∙ called.world) (shows_loaded k j i c late u ys b.awaits d);
         inside = b.inside;
       }
     where
@@ -132,8 +138,8 @@ module _ (g : Given) where
       later : (w : Width) (x : ℕ) → read g y w x ≡ read g j w x
       later w x = ap (λ (z : machine.World). read_from (λ s. s.read) w z.memory x) world
 
-      still : (r : ℕ) → r ≢ 1 → r ≢ 5 → r ≢ 6 → r ≢ 7 → ((q : ℕ) → is_member (registers_among (params c)) q ≡ true → r ≢ machine_register q) → reg g y r ≡ reg g n r
-      still r one five six seven others = entered.registers r ∙ called.registers r one seven ∙ d.others r (λ q own. others q (among q own)) ∙ b.registers r five six others ∙ a.registers r five
+      still : (r : ℕ) → r ≢ 1 → r ≢ 5 → r ≢ 6 → ((q : ℕ) → is_member (registers_among (params c)) q ≡ true → r ≢ machine_register q) → reg g y r ≡ reg g n r
+      still r one five six others = entered.registers r ∙ called.registers r one five ∙ d.others r (λ q own. others q (among q own)) ∙ b.registers r five six others ∙ a.registers r five
 
   -- the arguments are passed and the callee is entered
   pub call_runs : (r : PlacedRunning) (P : ℕ → Type 0) (n c : ℕ) (d : Option Place) (args : List (Operand Place)) (note : List ℕ) (is : List (Instr Place (List ℕ))) (block : PlacedBlock) (vs : List Value) (u : File) (h : Going_at g r n) → r.top.code ≡ Call d c args note ∷ is

@@ -71,7 +71,7 @@ module _ (g : Given) where
         block = suc t;
         inside = record { there = h.inside.there; block = block; has = e; before = []; code = refl; ends = refl };
         returns = h.returns;
-        holds = record { based = held.based; room = held.room; shows = held.shows; arrays = held.arrays; linked = held.linked; after = held.after; keeps = held.keeps; waits = held.waits };
+        holds = record { based = held.based; second = held.second; room = held.room; shows = held.shows; arrays = held.arrays; linked = held.linked; after = held.after; keeps = held.keeps; waits = held.waits };
         exchanges =
             record {
               input = ap (λ (x : machine.World). x.input) same ∙ h.exchanges.input;
@@ -124,7 +124,7 @@ module _ (g : Given) where
   jump_by r n m t h false is some at registers world =
       let goal = Runs g (went_to g.layout.program r t) in
       jump_lays g (course_in g r r.world h.block h.returns) goal m t true [] at
-      (λ j c. enters_any r n j t h some (block_in (slice_get g.layout.program.functions r.top.func) t) refl (λ there. c.stood) (λ q s. c.registers q s.seven ∙ registers q s) (c.world ∙ world))
+      (λ j c. enters_any r n j t h some (block_in (slice_get g.layout.program.functions r.top.func) t) refl (λ there. c.stood) (λ q s. c.registers q s.five ∙ registers q s) (c.world ∙ world))
 
   leads_on : (r : PlacedRunning) (n t : ℕ) (h : Going_at g r n) → Contains ((graph_of g.layout.memory g.layout.program).follows r.top.func h.block) t → t ≡ zero → ⊥
   leads_on r n t h c same = not_first r.top.func h.block (subst (λ x. Contains ((graph_of g.layout.memory g.layout.program).follows r.top.func h.block) x) same c)
@@ -149,10 +149,10 @@ module _ (g : Given) where
       branch_lays g (course_in g r r.world h.block h.returns) (Runs g (branches l.program r (Some (if b then taken else other)))) m other Far (opposite c) x y u v [] (not b) at left right (opposite_holds c u v b refl)
       (λ failing i z.
       subst (λ w. Later (Runs g (branches l.program r (Some (if w then taken else other)))) i) (sym (not_not b true failing))
-      (enters_any r n i other h some_other (block_in (slice_get l.program.functions f) other) refl (λ there. z.stood) (λ q s. z.registers q s.seven ∙ registers q s) (z.world ∙ world)))
+      (enters_any r n i other h some_other (block_in (slice_get l.program.functions f) other) refl (λ there. z.stood) (λ q s. z.registers q s.five ∙ registers q s) (z.world ∙ world)))
       (λ holding i z.
       subst (λ w. Later (Runs g (branches l.program r (Some (if w then taken else other)))) i) (sym (not_not b false holding))
-      (jump_by r n i taken h true is some z.at (λ q s. z.registers q s.seven ∙ registers q s) (z.world ∙ world)))
+      (jump_by r n i taken h true is some z.at (λ q s. z.registers q s.five ∙ registers q s) (z.world ∙ world)))
   two_ways r n m c x y u v taken other h false is some some_other at left right registers world =
       let l = g.layout in
       let f = r.top.func in
@@ -160,10 +160,10 @@ module _ (g : Given) where
       branch_lays g (course_in g r r.world h.block h.returns) (Runs g (branches l.program r (Some (if b then taken else other)))) m taken Far c x y u v (map noted (jump_items l.memory l.program f (other == suc h.block) other)) b at left right refl
       (λ holding i z.
       subst (λ w. Later (Runs g (branches l.program r (Some (if w then taken else other)))) i) (sym holding)
-      (enters_any r n i taken h some (block_in (slice_get l.program.functions f) taken) refl (λ there. z.stood) (λ q s. z.registers q s.seven ∙ registers q s) (z.world ∙ world)))
+      (enters_any r n i taken h some (block_in (slice_get l.program.functions f) taken) refl (λ there. z.stood) (λ q s. z.registers q s.five ∙ registers q s) (z.world ∙ world)))
       (λ failing i z.
       subst (λ w. Later (Runs g (branches l.program r (Some (if w then taken else other)))) i) (sym failing)
-      (jump_by r n i other h (other == suc h.block) refl some_other z.at (λ q s. z.registers q s.seven ∙ registers q s) (z.world ∙ world)))
+      (jump_by r n i other h (other == suc h.block) refl some_other z.at (λ q s. z.registers q s.five ∙ registers q s) (z.world ∙ world)))
 
   pub jump_follows : (r : PlacedRunning) (n t : ℕ) (h : Going_at g r n) → r.top.code ≡ [] → r.top.end ≡ Jump t → Later (Runs g (went_to g.layout.program r t)) n
   jump_follows r n t h code_is end_is =

@@ -18,7 +18,7 @@ use Rattle.low_ir.specs.Code.{Operand, Instr, Call, Jump, Object}
 use Rattle.low_ir.specs.Effects.{is_member, began}
 use Rattle.low_ir.specs.Runs.{values, write_all, enter, begin, only_where, waiting, call, at_instr}
 use Rattle.low_ir.specs.Places.{File, places}
-use Rattle.asm_program.specs.Numbers.{base, machine_register}
+use Rattle.asm_program.specs.Numbers.{base, second_base, machine_register}
 use Rattle.asm_program.specs.Frames.{saved_at, home_at, slot_at, return_at, object_at}
 use Rattle.asm_program.specs.Emission.{registers_among}
 use Rattle.asm_program.specs.Functions.{PlacedBlock, PlacedFunction, no_function, function_in, is_leaf, entry_code}
@@ -168,6 +168,7 @@ module _ (g : Given) where
         let low = h.below in
         record {
           based = opened.registers base (λ e. omega (arith, e)) ∙ b.based;
+          second = opened.registers second_base (λ e. omega (arith, e)) ∙ b.second;
           room = b.room;
           shows = shows_opened;
           arrays = arrays_kept l r.world.objects (view_of (state g n)) (view_of (state g o))

@@ -1,5 +1,5 @@
 -- A block that returns.
-use Rattle.std.proofs.Common.{◌≡◌, ◌≢◌, ◌⊎◌, ⊎_elim, ℕ, suc, ◌+◌, ◌%◌, ◌^◌, ◌<◌, ◌≤◌, Bool, true, false, List, [], ◌∷◌, ◌++◌, length, map, Option, Some, None, refl, sym, ap, ◌∙◌, subst, arith}
+use Rattle.std.proofs.Common.{◌≡◌, ◌≢◌, ⊎_elim, ℕ, suc, ◌+◌, ◌%◌, ◌^◌, ◌<◌, ◌≤◌, Bool, true, false, List, [], ◌∷◌, ◌++◌, length, map, Option, Some, None, refl, sym, ap, ◌∙◌, subst, arith}
 use Rattle.std.specs.Prelude.{◌==◌, if◌then◌else◌, slice_index, slice_index_or}
 use Rattle.std.proofs.lemmas.Bool.{cases_eq}
 use Rattle.std.proofs.lemmas.Bool.Decides.{nat_tests}
@@ -168,7 +168,7 @@ module _ (g : Given) where
       let last = length (function_in l.program f).blocks in
       jump_lays g (course_in g r r.world h.block h.returns) (Runs g (come_back places r.world r.below v)) m last true [] at
       (λ j c. leaves_with r j v (record { function = f; stop = l.stops f last; trace = r.world.trace; returns = h.returns }) h.returns h.inside.there small
-      (still_holds r m j h.returns holds h.inside.there (λ q s. c.registers q s.seven) c.world) (still_exchanges r m j exchanges c.world) (c.registers result (λ e. omega (arith, e)) ∙ value) refl refl
+      (still_holds r m j h.returns holds h.inside.there (λ q s. c.registers q s.five) c.world) (still_exchanges r m j exchanges c.world) (c.registers result (λ e. omega (arith, e)) ∙ value) refl refl
       (leaving_at j f r.world.trace h.returns h.inside.there once c.stood))
 
   -- a block that returns a value

@@ -15,7 +15,7 @@ use Rattle.low_ir.specs.Code.{Operand}
 use Rattle.low_ir.specs.Effects.{is_member}
 use Rattle.low_ir.specs.Runs.{operand_value, values_cons, values, write_all}
 use Rattle.low_ir.specs.Places.{File, read_place, write_place, places}
-use Rattle.asm_program.specs.Numbers.{base, first_free, second_free, machine_register}
+use Rattle.asm_program.specs.Numbers.{base, second_base, first_free, second_free, machine_register}
 use Rattle.asm_program.specs.Frames.{position, home_at, slot_at}
 use Rattle.asm_program.specs.Operands.{into_code}
 use Rattle.asm_program.specs.Emission.{reads_register, registers_among, is_once, is_direct, store_argument, pass_code}
@@ -158,6 +158,7 @@ module _ (g : Given) where
       record {
         there = ready.there;
         based = put.registers base (λ e. omega (arith, e)) (λ e. omega (arith, e)) ∙ ready.based;
+        second = put.registers second_base (λ e. omega (arith, e)) (λ e. omega (arith, e)) ∙ ready.second;
         room = ready.room;
         shows = shows;
       }

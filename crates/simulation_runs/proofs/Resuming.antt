@@ -1,5 +1,5 @@
 -- An activation that waited goes on.
-use Rattle.std.proofs.Common.{◌≡◌, inl, ℕ, ◌+◌, ◌^◌, ◌<◌, Bool, true, false, List, ◌∷◌, ◌++◌, length, Contains, Option, Some, None, refl, sym, ap, ◌∙◌, subst, arith}
+use Rattle.std.proofs.Common.{◌≡◌, inl, ℕ, ◌^◌, ◌<◌, Bool, true, false, List, ◌∷◌, ◌++◌, length, Contains, Option, Some, None, refl, sym, ap, ◌∙◌, subst, arith}
 use Rattle.std.specs.Prelude.{slice_index}
 use Rattle.std.specs.Option.{option_to_list}
 use Rattle.rv_core.specs.declared.row.Width.{Width}
@@ -15,7 +15,7 @@ use Rattle.low_ir.specs.Code.{Operand, Call}
 use Rattle.low_ir.specs.Effects.{is_member}
 use Rattle.low_ir.specs.Runs.{goes_on, write_to}
 use Rattle.low_ir.specs.Places.{File, places}
-use Rattle.asm_program.specs.Numbers.{base, base_address, result, machine_register}
+use Rattle.asm_program.specs.Numbers.{base, second_base, base_address, result, machine_register}
 use Rattle.asm_program.specs.Frames.{slot_at, saved_at, home_at, return_at}
 use Rattle.asm_program.specs.Emission.{registers_among, kept_among, return_code, value_code, behind_call}
 use Rattle.asm_program.specs.Functions.{PlacedBlock, function_in, is_leaf}
@@ -161,6 +161,7 @@ module _ (g : Given) where
       let at_call = saves_at w f seen_at h.after at rests in
       let promise = promised r n m at ats (at ∷ ats) h left in
       let based_m : reg g m base ≡ base_address = left.others base (λ z. omega (arith, z)) (λ z. omega (arith, z)) (λ q s z. (value_is q ((g.laid.plan.frames f there).saved q s)).base_not (sym z)) ∙ h.based in
+      let second_m : reg g m second_base ≡ l.memory.second = left.others second_base (λ z. omega (arith, z)) (λ z. omega (arith, z)) (λ q s z. (value_is q ((g.laid.plan.frames f there).saved q s)).second_not (sym z)) ∙ h.second in
       let start = to_run g k m at (singles (behind_call (frame g e) w.into ps rests.note) ++ body) left.stood rests.rest.code rests.rest.quiet in
       unhomes_run g k goal m e qs (singles (value_code (frame g e) w.into) ++ body) inside.there based_m (λ q c. (at_call.homes q c, rests.parameters q (kept_parameter ps rests.note q c)))
       (in_parts g k m (return_code (frame g e) qs) (value_code (frame g e) w.into) body start)
@@ -169,6 +170,7 @@ module _ (g : Given) where
       let reads : (y : Width) (x : ℕ) → read g j y x ≡ read g n y x = λ y x. ap (λ (z : machine.World). read_from (λ b. b.read) y z.memory x) world in
       let holds : Holds l (resumed r w ws) (view_of (state g j)) ats = record {
         based = a.others base (λ q c z. (value_is q (rests.parameters q (kept_parameter ps rests.note q c))).base_not (sym z)) ∙ based_m;
+        second = a.others second_base (λ q c z. (value_is q (rests.parameters q (kept_parameter ps rests.note q c))).second_not (sym z)) ∙ second_m;
         room = rests.room;
         shows = shown w f n m j h.after at k (singles (value_code (frame g e) w.into) ++ body) rests a left.world promise;
         arrays = arrays_kept l r.world.objects seen_at (view_of (state g j)) (λ o x found y b from to. reads y b) h.arrays;

@@ -21,11 +21,12 @@ use Rattle.low_ir.specs.Code.{Jump}
 use Rattle.low_ir.specs.Effects.{World, contents, start, began}
 use Rattle.low_ir.specs.Runs.{Bank, Done, Bad, write_all, enter, begin, first_in, first, run}
 use Rattle.low_ir.specs.Places.{Placed, machine_registers, read_place, places}
-use Rattle.asm_program.specs.Numbers.{link, base, base_address, service, machine_register, load_upper, lower_of}
+use Rattle.asm_program.specs.Numbers.{link, base, second_base, base_address, service, machine_register, upper_of, lower_of}
 use Rattle.asm_program.specs.Frames.{object_at}
 use Rattle.asm_program.specs.Functions.{PlacedBlock, PlacedFunction, no_function, function_in, is_leaf, entry_code, at_once, block_count, opening_items}
+use Rattle.asm_program.specs.Functions as plain
 use Rattle.asm_program.proofs.ItemLemmas.{of_start}
-use Rattle.simulation_relation.specs.Noted.{Noted, noted, single, noted_body, noted_by, noted_at}
+use Rattle.simulation_relation.specs.Noted.{Noted, noted, single, singles, noted_body, noted_by, noted_at}
 use Rattle.simulation_relation.specs.Plans.{frame_size}
 use Rattle.simulation_relation.specs.Layouts.{HasCode, started_in, started}
 use Rattle.simulation_relation.specs.Positions.{Touches, Course}
@@ -33,10 +34,11 @@ use Rattle.simulation_relation.specs.Views.{view_of, HasArrays}
 use Rattle.simulation_relation.specs.Waiting.{IsHome}
 use Rattle.simulation_relation.specs.Following.{PlacedRunning}
 use Rattle.simulation_steps.proofs.Given.{Given, state, reg, At}
-use Rattle.simulation_steps.proofs.Words.{parts-joined}
+use Rattle.simulation_steps.proofs.Words.{parts-joined, test-zero}
 use Rattle.simulation_steps.proofs.Places.{steady_is}
-use Rattle.simulation_steps.proofs.Moving.{add_immediate, upper}
-use Rattle.simulation_steps.proofs.Noting.{noted_singles}
+use Rattle.simulation_steps.proofs.Moving.{wrote_again, add_immediate, upper}
+use Rattle.simulation_steps.proofs.Stepping.{Wrote}
+use Rattle.simulation_steps.proofs.Noting.{noted_code, noted_singles}
 use Rattle.simulation_steps.proofs.Operands.{frame}
 use Rattle.simulation_follow.proofs.Apart.{arrays_kept}
 use Rattle.simulation_follow.proofs.Plains.{Runs, Going_at}
@@ -82,8 +84,11 @@ module _ (g : Given) where
   abbrev calling : List Noted
   calling = noted (items.Call true p.main) ∷ ending
 
+  abbrev second_address : ℕ
+  second_address = g.layout.memory.second
+
   abbrev opening : List Noted
-  opening = single (load_upper base base_address) ∷ single (addi base base (lower_of base_address)) ∷ calling
+  opening = singles (plain.bases_code second_address) ++ calling
 
   one_block : 0 < block_count g.layout.memory p home
   one_block = subst (λ (b : Bool). 0 < (if b then 1 else (length (function_in p home).blocks + (if at_once g.layout.memory p home then 0 else 1)))) (sym (same_test home)) (omega arith)
@@ -96,7 +101,10 @@ module _ (g : Given) where
   at_first =
       let l = g.layout in
       let entry = g.laid.entry in
-      let is : noted_at l.memory p home 0 ≡ opening = ap (noted_by l.memory p home 0) (ap (λ (fn : PlacedFunction). slice_get fn.blocks 0) (behind_all p.functions)) ∙ ap (λ bs. map noted (slice_index_or bs 0 [])) (of_start l.memory p) in
+      let is : noted_at l.memory p home 0 ≡ opening =
+      ap (noted_by l.memory p home 0) (ap (λ (fn : PlacedFunction). slice_get fn.blocks 0) (behind_all p.functions))
+      ∙ ap (λ bs. map noted (slice_index_or bs 0 [])) (of_start l.memory p)
+      ∙ noted_code (plain.bases_code second_address) (plain.main_items p.main) in
       let code = subst (λ xs. HasCode l home (l.stops home 0) (l.starts home 0) xs) is (g.laid.blocks home 0 (omega arith) one_block) in
       record {
         running = refl;
@@ -116,19 +124,36 @@ module _ (g : Given) where
     stood : Stood g m (g.layout.starts p.main 0) [] (back ∷ [])
     link_is : reg g m link ≡ back
     based : reg g m base ≡ base_address
+    second_is : reg g m second_base ≡ second_address
     world : (state g m).world ≡ (state g 0).world
+
+  -- an address comes into a base
+  based_runs : (P : ℕ → Type 0) (n r a : ℕ) (xs : List Noted) → 0 < r → r < 32 → a < 2 ^ 32 → At g first_course n (singles (plain.based r a) ++ xs) → ((m : ℕ) → Wrote g first_course n m r a xs → Later P m) → Later P n
+  based_runs P n r a xs some less small h go =
+      let rest = single (addi r r (lower_of a)) ∷ xs in
+      upper g first_course P n rest r a some less h
+      (λ m b. add_immediate g first_course P m xs r r (lower_of a) some less b.at
+      (λ j c. go j (wrote_again g first_course n m j r (upper_of a) a rest xs b
+      (record { at = c.at; world = c.world; value = c.value ∙ ap (λ x. (x + word (lower_of a)) % 2 ^ 32) b.value ∙ parts-joined a small; others = c.others }))))
+
+  -- x7 has 0 already, where nothing is reached from it
+  second_by : (P : ℕ → Type 0) (n : ℕ) (xs : List Noted) (unused : Bool) → (second_address == 0) ≡ unused → reg g n second_base ≡ 0 → At g first_course n (singles (if unused then [] else plain.based second_base second_address) ++ xs) → ((m : ℕ) → Wrote g first_course n m second_base second_address xs → Later P m) → Later P n
+  second_by P n xs true is none h go = go n (record { at = h; world = refl; value = none ∙ sym (test-zero second_address is); others = λ q o. refl })
+  second_by P n xs false is none h go = based_runs P n second_base second_address xs (omega arith) (omega arith) g.laid.plan.second h go
 
   calls_main : (P : ℕ → Type 0) → ((back m : ℕ) → Called back m → Later P m) → Later P 0
   calls_main P go =
-      upper g first_course P 0 (single (addi base base (lower_of base_address)) ∷ calling) base base_address (omega arith) (omega arith) at_first
-      (λ n a. add_immediate g first_course P n calling base base (lower_of base_address) (omega arith) (omega arith) a.at
+      let none : reg g 0 second_base ≡ 0 = refl in
+      based_runs P 0 base base_address (singles (plain.second_code second_address) ++ calling) (omega arith) (omega arith) (omega arith) at_first
+      (λ n a. second_by P n calling (second_address == 0) refl (a.others second_base (λ e. omega (arith, e)) ∙ none) a.at
       (λ m b. call_lays g first_course P m p.main true ending b.at
       (λ back j rest c. go back j
       (record {
         home_is = rest;
         stood = c.stood;
         link_is = c.link;
-        based = c.registers base (λ e. omega (arith, e)) (λ e. omega (arith, e)) ∙ b.value ∙ ap (λ x. (x + word (lower_of base_address)) % 2 ^ 32) a.value ∙ parts-joined base_address (omega arith);
+        based = c.registers base (λ e. omega (arith, e)) (λ e. omega (arith, e)) ∙ b.others base (λ e. omega (arith, e)) ∙ a.value;
+        second_is = c.registers second_base (λ e. omega (arith, e)) (λ e. omega (arith, e)) ∙ b.value;
         world = c.world ∙ b.world ∙ a.world;
       }))))
 
@@ -160,6 +185,7 @@ module _ (g : Given) where
           holds =
               record {
                 based = o.registers base (λ e. omega (arith, e)) ∙ a.registers base ∙ c.based;
+                second = o.registers second_base (λ e. omega (arith, e)) ∙ a.registers second_base ∙ c.second_is;
                 room = record { registers = refl; slots = omega (arith, slots_are, most); words = λ q x e. absurd (none_read size q x e) };
                 shows = λ q x e. absurd (none_read size q x e);
                 arrays =

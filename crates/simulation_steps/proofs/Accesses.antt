@@ -21,7 +21,7 @@ use Rattle.low_ir.specs.Kinds.{width_of, has_sign}
 use Rattle.low_ir.specs.Code.{Operand, Register, Base, Fixed, Through}
 use Rattle.low_ir.specs.Runs.{operand_value}
 use Rattle.low_ir.specs.Places.{File, read_place, places}
-use Rattle.asm_program.specs.Numbers.{base, base_address, first_free, second_free, machine_register, is_near, is_short, upper_of, lower_of, load_upper, reach_code, reach_register, reach_offset}
+use Rattle.asm_program.specs.Numbers.{base, second_base, base_address, first_free, second_free, machine_register, is_near, is_beside, is_short, upper_of, lower_of, load_upper, reach_code, reach_register, reach_offset, object_code, object_register, object_offset}
 use Rattle.asm_program.specs.Frames.{Memory, object_at, slot_at}
 use Rattle.asm_program.specs.Operands.{place_register, operand_register, operand_code, fetch_code, result_code, offset_code, offset_register, far_code, far_register, code_to, register_to, offset_to}
 use Rattle.asm_program.specs.Emission.{load_op, store_op}
@@ -31,7 +31,7 @@ use Rattle.simulation_relation.specs.Layouts.{IsOpen}
 use Rattle.simulation_relation.specs.Positions.{Course}
 use Rattle.simulation_relation.specs.Views.{view_of, Shows}
 use Rattle.simulation_steps.proofs.Given.{Given, state, reg, read, At}
-use Rattle.simulation_steps.proofs.Words.{parts-joined, short-joined, near-joined, test-zero}
+use Rattle.simulation_steps.proofs.Words.{parts-joined, short-joined, distance-joined, near-joined, test-zero}
 use Rattle.simulation_steps.proofs.Places.{IsSteady, value_is}
 use Rattle.simulation_steps.proofs.Touching.{Allows}
 use Rattle.simulation_steps.proofs.Stepping.{Wrote, set_one}
@@ -105,6 +105,7 @@ module _ (g : Given) where
       record {
         there = r.there;
         based = others base (λ e. omega (arith, e)) (λ e. omega (arith, e)) ∙ r.based;
+        second = others second_base (λ e. omega (arith, e)) (λ e. omega (arith, e)) ∙ r.second;
         room = r.room;
         shows = kept;
       }
@@ -142,13 +143,25 @@ module _ (g : Given) where
   nears : (k : Course) (P : ℕ → Type 0) (n a : ℕ) (xs : List Noted) → a < 2 ^ 32 → reg g n base ≡ base_address → At g k n (singles (reach_code first_free a) ++ xs) → ((m : ℕ) → Nears k n m (reach_register first_free a) a (reach_offset a) xs → Later P m) → Later P n
   nears k P n a xs small based h go = nears_by k P n a xs (is_near a) small based h go
 
+  abbrev mem : Memory
+  mem = g.layout.memory
+
+  object_nears_by : (k : Course) (P : ℕ → Type 0) (n a : ℕ) (xs : List Noted) (beside : Bool) → a < 2 ^ 32 → reg g n base ≡ base_address → reg g n second_base ≡ mem.second → At g k n (singles (if beside then [] else reach_code first_free a) ++ xs)
+      → ((m : ℕ) → Nears k n m (if beside then second_base else reach_register first_free a) a (if beside then pos a -ℤ pos mem.second else reach_offset a) xs → Later P m) → Later P n
+  object_nears_by k P n a xs true small based second h go =
+      let low = g.laid.plan.second in
+      go n (record { at = h; world = refl; number = mem.second; value = second; small = low; lands = distance-joined mem.second a low small; others = λ q o. refl; apart = λ e. omega (arith, e) })
+  object_nears_by k P n a xs false small based second h go = nears k P n a xs small based h go
+
+  -- what leads to an address of an array
+  object_nears : (k : Course) (P : ℕ → Type 0) (n a : ℕ) (xs : List Noted) → a < 2 ^ 32 → reg g n base ≡ base_address → reg g n second_base ≡ mem.second → At g k n (singles (object_code mem.second first_free a) ++ xs)
+      → ((m : ℕ) → Nears k n m (object_register mem.second first_free a) a (object_offset mem.second a) xs → Later P m) → Later P n
+  object_nears k P n a xs small based second h go = object_nears_by k P n a xs (is_beside mem.second a) small based second h go
+
   -- the number that an offset adds
   abbrev pub IsOffset : File → Option Place → ℕ → Type 0
   IsOffset file None w = w ≡ 0
   IsOffset file (Some p) w = read_place file p ≡ Some (Word w)
-
-  abbrev mem : Memory
-  mem = g.layout.memory
 
   offsets : (k : Course) (P : ℕ → Type 0) (n f r u w : ℕ) (file : File) (xs : List Noted) (o : Option Place) → Ready g f file n → r ≢ second_free → u < 2 ^ 32 → reg g n r ≡ u → IsOffset file o w
       → At g k n (singles (offset_code (frame g f) mem r o) ++ xs) → ((m : ℕ) → Leads k n m (offset_register (frame g f) mem r o) ((u + w) % 2 ^ 32) xs → Later P m) → Later P n
@@ -203,16 +216,17 @@ module _ (g : Given) where
       → At g k n (singles (code_to (frame g f) mem y o d) ++ xs) → ((m : ℕ) → Reaches k n m (register_to (frame g f) mem y o d) ((object_at mem q + (b + w + d) % 2 ^ 32) % 2 ^ 32) (offset_to (frame g f) mem y d) xs → Later P m) → Later P n
   address_runs k P n f q b w d file xs (Fixed p) o ready is e h go =
       let a = (object_at mem p + d) % 2 ^ 32 in
-      let r = reach_register first_free a in
-      nears k P n a (singles (offset_code (frame g f) mem r o) ++ xs) (omega arith) ready.based (in_parts g k n (reach_code first_free a) (offset_code (frame g f) mem r o) xs h)
+      let r = object_register mem.second first_free a in
+      let imm = object_offset mem.second a in
+      object_nears k P n a (singles (offset_code (frame g f) mem r o) ++ xs) (omega arith) ready.based ready.second (in_parts g k n (object_code mem.second first_free a) (offset_code (frame g f) mem r o) xs h)
       (λ m c. offsets k P m f r c.number w file xs o (ready_kept g f n m first_free file first_is_free ready c.world c.others) c.apart c.small c.value e c.at
       (λ j z. go j
       (record {
         at = z.at;
         world = z.world ∙ c.world;
         lands =
-            ap (λ x. displaced x (reach_offset a)) z.value
-            ∙ sum-behind c.number (word (reach_offset a)) a w c.lands
+            ap (λ x. displaced x imm) z.value
+            ∙ sum-behind c.number (word imm) a w c.lands
             ∙ fixed-sum (object_at mem p) d w
             ∙ ap (λ x. (object_at mem x + (0 + w + d) % 2 ^ 32) % 2 ^ 32) (sym is.0)
             ∙ ap (λ x. (object_at mem q + (x + w + d) % 2 ^ 32) % 2 ^ 32) (sym is.1);

@@ -16,7 +16,7 @@ use Rattle.low_ir.specs.declared.run.Value.TheVariants.{Word}
 use Rattle.low_ir.specs.Code.{Operand, Register, Constant}
 use Rattle.low_ir.specs.Runs.{operand_value}
 use Rattle.low_ir.specs.Places.{File, read_place, places}
-use Rattle.asm_program.specs.Numbers.{base, base_address, first_free, second_free, machine_register, constant_code}
+use Rattle.asm_program.specs.Numbers.{base, second_base, base_address, first_free, second_free, machine_register, constant_code}
 use Rattle.asm_program.specs.Frames.{Frame, frame_of, slot_at}
 use Rattle.asm_program.specs.Operands.{place_register, operand_register, operand_code, into_code, result_code, put_code, store_code}
 use Rattle.simulation_relation.specs.Noted.{Noted, single, singles}
@@ -39,13 +39,14 @@ pub record IsFree (t : ℕ) : Type 0 where
   pub some : 0 < t
   pub less : t < 32
   pub base_not : base ≢ t
+  pub second_not : second_base ≢ t
   pub steady_not : (r : ℕ) → IsSteady r → r ≢ t
 
 pub first_is_free : IsFree first_free
-first_is_free = record { some = omega arith; less = omega arith; base_not = λ e. omega (arith, e); steady_not = λ r s. s.five }
+first_is_free = record { some = omega arith; less = omega arith; base_not = λ e. omega (arith, e); second_not = λ e. omega (arith, e); steady_not = λ r s. s.five }
 
 pub second_is_free : IsFree second_free
-second_is_free = record { some = omega arith; less = omega arith; base_not = λ e. omega (arith, e); steady_not = λ r s. s.six }
+second_is_free = record { some = omega arith; less = omega arith; base_not = λ e. omega (arith, e); second_not = λ e. omega (arith, e); steady_not = λ r s. s.six }
 
 pub some_word : (w : ℕ) (v : Value) → Some (Word w) ≡ Some v → Word w ≡ v
 some_word w v e = cc
@@ -62,6 +63,7 @@ module _ (g : Given) where
   pub record Ready (f : ℕ) (file : File) (n : ℕ) : Type 0 where
     pub there : f < length g.layout.program.functions
     pub based : reg g n base ≡ base_address
+    pub second : reg g n second_base ≡ g.layout.memory.second
     pub room : HasRoom g.layout.memory (frame g f) file
     pub shows : Shows g.layout.memory (frame g f) file (view_of (state g n))
 
@@ -84,6 +86,7 @@ module _ (g : Given) where
       record {
         there = r.there;
         based = others base free.base_not ∙ r.based;
+        second = others second_base free.second_not ∙ r.second;
         room = r.room;
         shows = kept;
       }

@@ -13,11 +13,10 @@ use Rattle.simulation_relation.specs.Plans.{frame_size}
 use Rattle.simulation_relation.specs.Layouts.{Layout, AreOpen, IsOpen, IsLaid}
 use Rattle.simulation_steps.proofs.Touching.{region_of-part}
 
--- a register that only a value is written to: none of x5 to x7, x10 and x17
+-- a register that only a value is written to: none of x5, x6, x10 and x17
 pub record IsSteady (r : ℕ) : Type 0 where
   pub five : r ≢ 5
   pub six : r ≢ 6
-  pub seven : r ≢ 7
   pub ten : r ≢ 10
   pub seventeen : r ≢ 17
 
@@ -27,6 +26,7 @@ pub record IsValue (r : ℕ) : Type 0 where
   pub less : r < 32
   pub link_not : r ≢ 1
   pub base_not : r ≢ 3
+  pub second_not : r ≢ 7
   pub steady : IsSteady r
 
 pub lt_or : (a b : ℕ) → (a < b) ⊎ (b ≤ a)
@@ -53,19 +53,19 @@ cases_of q =
     (lt_or q 2)
 
 value_by : (q r : ℕ) → q < 24 → Cases q r → IsValue r
-value_by q r h (inl (a, e)) = record { some = omega arith; less = omega arith; link_not = λ x. omega (arith, x); base_not = λ x. omega (arith, x); steady = record { five = λ x. omega (arith, x); six = λ x. omega (arith, x); seven = λ x. omega (arith, x); ten = λ x. omega (arith, x); seventeen = λ x. omega (arith, x) } }
-value_by q r h (inr (inl (a, b, e))) = record { some = omega arith; less = omega arith; link_not = λ x. omega (arith, x); base_not = λ x. omega (arith, x); steady = record { five = λ x. omega (arith, x); six = λ x. omega (arith, x); seven = λ x. omega (arith, x); ten = λ x. omega (arith, x); seventeen = λ x. omega (arith, x) } }
-value_by q r h (inr (inr (inl (a, b, e)))) = record { some = omega arith; less = omega arith; link_not = λ x. omega (arith, x); base_not = λ x. omega (arith, x); steady = record { five = λ x. omega (arith, x); six = λ x. omega (arith, x); seven = λ x. omega (arith, x); ten = λ x. omega (arith, x); seventeen = λ x. omega (arith, x) } }
-value_by q r h (inr (inr (inr (a, e)))) = record { some = omega arith; less = omega arith; link_not = λ x. omega (arith, x); base_not = λ x. omega (arith, x); steady = record { five = λ x. omega (arith, x); six = λ x. omega (arith, x); seven = λ x. omega (arith, x); ten = λ x. omega (arith, x); seventeen = λ x. omega (arith, x) } }
+value_by q r h (inl (a, e)) = record { some = omega arith; less = omega arith; link_not = λ x. omega (arith, x); base_not = λ x. omega (arith, x); second_not = λ x. omega (arith, x); steady = record { five = λ x. omega (arith, x); six = λ x. omega (arith, x); ten = λ x. omega (arith, x); seventeen = λ x. omega (arith, x) } }
+value_by q r h (inr (inl (a, b, e))) = record { some = omega arith; less = omega arith; link_not = λ x. omega (arith, x); base_not = λ x. omega (arith, x); second_not = λ x. omega (arith, x); steady = record { five = λ x. omega (arith, x); six = λ x. omega (arith, x); ten = λ x. omega (arith, x); seventeen = λ x. omega (arith, x) } }
+value_by q r h (inr (inr (inl (a, b, e)))) = record { some = omega arith; less = omega arith; link_not = λ x. omega (arith, x); base_not = λ x. omega (arith, x); second_not = λ x. omega (arith, x); steady = record { five = λ x. omega (arith, x); six = λ x. omega (arith, x); ten = λ x. omega (arith, x); seventeen = λ x. omega (arith, x) } }
+value_by q r h (inr (inr (inr (a, e)))) = record { some = omega arith; less = omega arith; link_not = λ x. omega (arith, x); base_not = λ x. omega (arith, x); second_not = λ x. omega (arith, x); steady = record { five = λ x. omega (arith, x); six = λ x. omega (arith, x); ten = λ x. omega (arith, x); seventeen = λ x. omega (arith, x) } }
 
 pub value_is : (q : ℕ) → q < 24 → IsValue (machine_register q)
 value_is q h = value_by q (machine_register q) h (cases_of q)
 
 steady_by : (q r : ℕ) → Cases q r → IsSteady r
-steady_by q r (inl (a, e)) = record { five = λ x. omega (arith, x); six = λ x. omega (arith, x); seven = λ x. omega (arith, x); ten = λ x. omega (arith, x); seventeen = λ x. omega (arith, x) }
-steady_by q r (inr (inl (a, b, e))) = record { five = λ x. omega (arith, x); six = λ x. omega (arith, x); seven = λ x. omega (arith, x); ten = λ x. omega (arith, x); seventeen = λ x. omega (arith, x) }
-steady_by q r (inr (inr (inl (a, b, e)))) = record { five = λ x. omega (arith, x); six = λ x. omega (arith, x); seven = λ x. omega (arith, x); ten = λ x. omega (arith, x); seventeen = λ x. omega (arith, x) }
-steady_by q r (inr (inr (inr (a, e)))) = record { five = λ x. omega (arith, x); six = λ x. omega (arith, x); seven = λ x. omega (arith, x); ten = λ x. omega (arith, x); seventeen = λ x. omega (arith, x) }
+steady_by q r (inl (a, e)) = record { five = λ x. omega (arith, x); six = λ x. omega (arith, x); ten = λ x. omega (arith, x); seventeen = λ x. omega (arith, x) }
+steady_by q r (inr (inl (a, b, e))) = record { five = λ x. omega (arith, x); six = λ x. omega (arith, x); ten = λ x. omega (arith, x); seventeen = λ x. omega (arith, x) }
+steady_by q r (inr (inr (inl (a, b, e)))) = record { five = λ x. omega (arith, x); six = λ x. omega (arith, x); ten = λ x. omega (arith, x); seventeen = λ x. omega (arith, x) }
+steady_by q r (inr (inr (inr (a, e)))) = record { five = λ x. omega (arith, x); six = λ x. omega (arith, x); ten = λ x. omega (arith, x); seventeen = λ x. omega (arith, x) }
 
 -- each register that could hold a value is steady
 pub steady_is : (q : ℕ) → IsSteady (machine_register q)

@@ -33,9 +33,13 @@ short-joined w h e = ap (λ u. (u + word (lower_of w)) % 2 ^ 32) (sym e) ∙ par
 pub upper-even : (w : ℕ) → w < 2 ^ 32 → w % 2 ^ 12 ≡ 0 → upper_of w ≡ w
 upper-even w h e = omega arith
 
+-- an address by its distance from another one
+pub distance-joined : (from a : ℕ) → from < 2 ^ 32 → a < 2 ^ 32 → displaced from (pos a -ℤ pos from) ≡ a
+distance-joined from a low h = ap (λ x. (from + x) % 2 ^ 32) (word-difference a from h low) ∙ omega arith
+
 -- an address near the base
 pub near-joined : (a : ℕ) → a < 2 ^ 32 → displaced base_address (pos a -ℤ pos base_address) ≡ a
-near-joined a h = ap (λ x. (base_address + x) % 2 ^ 32) (word-difference a base_address h (omega arith)) ∙ omega arith
+near-joined a h = distance-joined base_address a (omega arith) h
 
 pub word-plus-none : (w : ℕ) → w < 2 ^ 32 → (w + word (pos 0)) % 2 ^ 32 ≡ w
 word-plus-none w h = omega arith

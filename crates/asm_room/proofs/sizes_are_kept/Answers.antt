@@ -2,4 +2,4 @@ use Rattle.asm_room.proofs.FunctionLemmas.{sizes_kept}
 use Rattle.asm_room.proofs.sizes_are_kept.Goals as goal
 
 pub returns : goal.returns
-returns c = λ frames here there p f. sizes_kept frames here there p f
+returns c = sizes_kept
