@@ -8,8 +8,9 @@ use Rattle.std.proofs.lemmas.List.Sums.{sum_by-cons}
 use Rattle.low_ir.specs.Code.{Operand, Base, Fixed, Through, Plain, Set, Operate, Point, Load, Store, Put, Get, Instr, Do, Call, End, Jump, Branch, Return, Block, Loop, Function, Low, Note}
 use Rattle.low_ir.specs.Room.{address_room, block_room, called, end_room, function_room, instr_room, marks_once, plain_room, reaches, repeated, repeated_in, times, weight, weights}
 use Rattle.low_copied.specs.Renaming.{renamed_base, renamed_end, renamed_instr, renamed_operand, renamed_plain}
-use Rattle.low_copied.specs.Copies.{BlockCopied, Carries, Code, Follows, FunctionCopied, IsCopied, LeavesOut, Standing}
+use Rattle.low_copied.specs.Copies.{Beginnings, Carries, Code, Follows, FunctionCopied, IsCopied, LeavesOut, Standing}
 use Rattle.low_copied.specs.Laws.{CostsNoMore}
+use Rattle.low_copied.proofs.Blocks.{SomeCopied, copied_blocks}
 
 module _ (name : ℕ → ℕ) where
   address_same : (base : Base ℕ) (offset : Option ℕ) (n : ℕ) → address_room (renamed_base name base) (option_map name offset) n ≡ address_room base offset n
@@ -56,7 +57,7 @@ called_eq f g eq (Call d h args note) = ap (λ n. n + 0) (eq h)
 set_calls : (f : ℕ → ℕ) (i : Instr ℕ Note) (is : Code) (d : ℕ) (x : Operand ℕ) → i ≡ Do (Set d x) → called f (i ∷ is) ≡ called f is
 set_calls f i is d x e = ap (λ j. called f (j ∷ is)) e
 
-module _ (size : ℕ) (out : Standing) (end end2 : End ℕ) where
+module _ (size : ℕ) (out : Beginnings) (end end2 : End ℕ) where
   -- the room of a block's rest
   code_room : (is : Code) (at : Standing) (js : Code) → Follows size out end end2 is at js → sum_by instr_room js + end_room end2 ≤ sum_by instr_room is + end_room end
   code_room [] at js h =
@@ -108,13 +109,13 @@ module _ (size : ℕ) (out : Standing) (end end2 : End ℕ) where
       code_called_same f g eq is c.now js c.goes_on ∙ sym (set_calls g i is c.into c.value c.is))
       h
 
-blocks_room : (size : ℕ) (out : Standing) (bs cs : List (Block ℕ Note)) → AllZip (BlockCopied size out) bs cs → sum_by block_room cs ≤ sum_by block_room bs
+blocks_room : (size : ℕ) (out : Beginnings) (bs cs : List (Block ℕ Note)) → AllZip (SomeCopied size out) bs cs → sum_by block_room cs ≤ sum_by block_room bs
 blocks_room size out [] [] h = omega arith
 blocks_room size out [] (c ∷ cs) h = absurd h
 blocks_room size out (b ∷ bs) [] h = absurd h
 blocks_room size out (b ∷ bs) (c ∷ cs) h =
     let k = blocks_room size out bs cs h.1 in
-    let l = code_room size out b.end c.end b.code out c.code h.0.code in
+    let l = code_room size out b.end c.end b.code (out h.0.number) c.code h.0.copied.code in
     let e = sum_by-cons block_room b bs in
     let f = sum_by-cons block_room c cs in
     omega arith
@@ -125,7 +126,7 @@ functions_room [] (g ∷ gs) h = absurd h
 functions_room (f ∷ fs) [] h = absurd h
 functions_room (f ∷ fs) (g ∷ gs) h =
     let k = functions_room fs gs h.1 in
-    let l = blocks_room f.size h.0.out f.blocks g.blocks h.0.blocks in
+    let l = blocks_room f.size h.0.out f.blocks g.blocks (copied_blocks f g h.0) in
     let e = sum_by-cons function_room f fs in
     let i = sum_by-cons function_room g gs in
     omega arith
@@ -134,8 +135,8 @@ mul_le : (k a b : ℕ) → a ≤ b → k * a ≤ k * b
 mul_le k a b h = mul-le-mul_left k h
 
 -- blocks as often as they may start, where each is worth no more
-module _ (f g : Block ℕ Note → ℕ) (le : (size : ℕ) (out : Standing) (b c : Block ℕ Note) → BlockCopied size out b c → f c ≤ g b) where
-  repeated_le : (size : ℕ) (out : Standing) (loops : List Loop) (k : ℕ) (bs cs : List (Block ℕ Note)) → AllZip (BlockCopied size out) bs cs → repeated f loops k cs ≤ repeated g loops k bs
+module _ (f g : Block ℕ Note → ℕ) (le : (size : ℕ) (out : Beginnings) (b c : Block ℕ Note) → SomeCopied size out b c → f c ≤ g b) where
+  repeated_le : (size : ℕ) (out : Beginnings) (loops : List Loop) (k : ℕ) (bs cs : List (Block ℕ Note)) → AllZip (SomeCopied size out) bs cs → repeated f loops k cs ≤ repeated g loops k bs
   repeated_le size out loops k [] [] h = omega arith
   repeated_le size out loops k [] (c ∷ cs) h = absurd h
   repeated_le size out loops k (b ∷ bs) [] h = absurd h
@@ -148,12 +149,12 @@ module _ (f g : Block ℕ Note → ℕ) (le : (size : ℕ) (out : Standing) (b c
   function_le [] [] h n = omega arith
   function_le [] (y ∷ gs) h n = absurd h
   function_le (x ∷ fs) [] h n = absurd h
-  function_le (x ∷ fs) (y ∷ gs) h zero = subst (λ ls. repeated f ls 0 y.blocks ≤ repeated g x.loops 0 x.blocks) (sym h.0.loops) (repeated_le x.size h.0.out x.loops 0 x.blocks y.blocks h.0.blocks)
+  function_le (x ∷ fs) (y ∷ gs) h zero = subst (λ ls. repeated f ls 0 y.blocks ≤ repeated g x.loops 0 x.blocks) (sym h.0.loops) (repeated_le x.size h.0.out x.loops 0 x.blocks y.blocks (copied_blocks x y h.0))
   function_le (x ∷ fs) (y ∷ gs) h (suc n) = function_le fs gs h.1 n
 
 -- and where each is worth the same
-module _ (f g : Block ℕ Note → ℕ) (eq : (size : ℕ) (out : Standing) (b c : Block ℕ Note) → BlockCopied size out b c → f c ≡ g b) where
-  repeated_eq : (size : ℕ) (out : Standing) (loops : List Loop) (k : ℕ) (bs cs : List (Block ℕ Note)) → AllZip (BlockCopied size out) bs cs → repeated f loops k cs ≡ repeated g loops k bs
+module _ (f g : Block ℕ Note → ℕ) (eq : (size : ℕ) (out : Beginnings) (b c : Block ℕ Note) → SomeCopied size out b c → f c ≡ g b) where
+  repeated_eq : (size : ℕ) (out : Beginnings) (loops : List Loop) (k : ℕ) (bs cs : List (Block ℕ Note)) → AllZip (SomeCopied size out) bs cs → repeated f loops k cs ≡ repeated g loops k bs
   repeated_eq size out loops k [] [] h = refl
   repeated_eq size out loops k [] (c ∷ cs) h = absurd h
   repeated_eq size out loops k (b ∷ bs) [] h = absurd h
@@ -165,7 +166,7 @@ module _ (f g : Block ℕ Note → ℕ) (eq : (size : ℕ) (out : Standing) (b c
   function_eq [] [] h n = refl
   function_eq [] (y ∷ gs) h n = absurd h
   function_eq (x ∷ fs) [] h n = absurd h
-  function_eq (x ∷ fs) (y ∷ gs) h zero = ap (λ ls. repeated f ls 0 y.blocks) h.0.loops ∙ repeated_eq x.size h.0.out x.loops 0 x.blocks y.blocks h.0.blocks
+  function_eq (x ∷ fs) (y ∷ gs) h zero = ap (λ ls. repeated f ls 0 y.blocks) h.0.loops ∙ repeated_eq x.size h.0.out x.loops 0 x.blocks y.blocks (copied_blocks x y h.0)
   function_eq (x ∷ fs) (y ∷ gs) h (suc n) = function_eq fs gs h.1 n
 
 module _ (fs gs : List (Function ℕ Note)) (h : AllZip FunctionCopied fs gs) where
@@ -177,8 +178,8 @@ module _ (fs gs : List (Function ℕ Note)) (h : AllZip FunctionCopied fs gs) wh
       let k =
       function_le (λ b. block_room b + called w b.code) (λ b. block_room b + called v b.code)
       (λ size out b c r.
-      let one = code_room size out b.end c.end b.code out c.code r.code in
-      let more = code_called size out b.end c.end w v (weights_le n) b.code out c.code r.code in
+      let one = code_room size out b.end c.end b.code (out r.number) c.code r.copied.code in
+      let more = code_called size out b.end c.end w v (weights_le n) b.code (out r.number) c.code r.copied.code in
       omega arith)
       fs gs h f in
       omega arith
@@ -190,8 +191,8 @@ module _ (fs gs : List (Function ℕ Note)) (h : AllZip FunctionCopied fs gs) wh
       let v = reaches fs mark n in
       function_eq (λ b. marks_once b.mark mark + called w b.code) (λ b. marks_once b.mark mark + called v b.code)
       (λ size out b c r.
-      ap (λ m. marks_once m mark + called w c.code) r.mark
-      ∙ ap (λ m. marks_once b.mark mark + m) (code_called_same size out b.end c.end w v (reaches_same mark n) b.code out c.code r.code))
+      ap (λ m. marks_once m mark + called w c.code) r.copied.mark
+      ∙ ap (λ m. marks_once b.mark mark + m) (code_called_same size out b.end c.end w v (reaches_same mark n) b.code (out r.number) c.code r.copied.code))
       fs gs h f
 
 pub costs : (p q : Low) → IsCopied p q → CostsNoMore p q

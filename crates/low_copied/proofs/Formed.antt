@@ -8,8 +8,9 @@ use Rattle.low_ir.specs.Formed.{AreNested, CallsBelow, HasMarkBelow, IsFunction,
 use Rattle.low_ir.specs.Runs.{block_in}
 use Rattle.low_ir.specs.Turns.{mark_in}
 use Rattle.low_copied.specs.Renaming.{renamed_address, renamed_base, renamed_end, renamed_instr, renamed_into, renamed_operand}
-use Rattle.low_copied.specs.Copies.{Becomes, BlockCopied, Carries, Code, Copied, Finds, Follows, FunctionCopied, IsCopied, KeepsBases, LeavesOut, Stands, Standing, operands}
-use Rattle.low_copied.proofs.Lists.{as_long, before, found}
+use Rattle.low_copied.specs.Copies.{Becomes, Beginnings, BlockCopied, Carries, Code, Copied, Finds, Follows, FunctionCopied, IsCopied, KeepsBases, LeavesOut, Stands, Standing, operands}
+use Rattle.low_copied.proofs.Blocks.{SomeCopied, copied_blocks, found_block}
+use Rattle.low_copied.proofs.Lists.{as_long, before}
 use Rattle.low_copied.proofs.Renamed.{dest_renamed, reads_renamed}
 
 -- what holds of each in one list holds of each in the other
@@ -21,7 +22,7 @@ all_beside R P Q f (x ∷ xs) (y ∷ ys) h all = All-cons Q y ys (f x y h.0 (All
 
 -- what each instruction keeps that is carried, a block's code keeps
 module _ (P Q : Instr ℕ Note → Type 0) (keeps : (name : ℕ → ℕ) (into : ℕ) (i : Instr ℕ Note) → KeepsBases name (addresses i) → P i → Q (renamed_instr name into i)) where
-  pub code_keeps : (size : ℕ) (out : Standing) (end end2 : End ℕ) (is : Code) (at : Standing) (js : Code) → Follows size out end end2 is at js → All P is → All Q js
+  pub code_keeps : (size : ℕ) (out : Beginnings) (end end2 : End ℕ) (is : Code) (at : Standing) (js : Code) → Follows size out end end2 is at js → All P is → All Q js
   code_keeps size out end end2 [] at js h all = subst (All Q) (sym h.done) (All-nil Q)
   code_keeps size out end end2 (i ∷ is) at js h all =
       ⊎_elim
@@ -30,22 +31,22 @@ module _ (P Q : Instr ℕ Note → Type 0) (keeps : (name : ℕ → ℕ) (into :
       (λ (c : LeavesOut (Follows size out end end2 is) i at js). code_keeps size out end end2 is c.now js c.goes_on (All-tail P i is all))
       h
 
-  pub blocks_keep : (size : ℕ) (out : Standing) (bs cs : List (Block ℕ Note)) → AllZip (BlockCopied size out) bs cs → All (λ (b : Block ℕ Note). All P b.code) bs → All (λ (c : Block ℕ Note). All Q c.code) cs
+  pub blocks_keep : (size : ℕ) (out : Beginnings) (bs cs : List (Block ℕ Note)) → AllZip (SomeCopied size out) bs cs → All (λ (b : Block ℕ Note). All P b.code) bs → All (λ (c : Block ℕ Note). All Q c.code) cs
   blocks_keep size out bs cs h all =
-      all_beside (BlockCopied size out) (λ b. All P b.code) (λ c. All Q c.code) (λ b c r k. code_keeps size out b.end c.end b.code out c.code r.code k) bs cs h all
+      all_beside (SomeCopied size out) (λ b. All P b.code) (λ c. All Q c.code) (λ b c r k. code_keeps size out b.end c.end b.code (out r.number) c.code r.copied.code k) bs cs h all
 
-marks_same : (size : ℕ) (out : Standing) (bs cs : List (Block ℕ Note)) (b : ℕ) → AllZip (BlockCopied size out) bs cs → mark_in (slice_get cs b) ≡ mark_in (slice_get bs b)
+marks_same : (size : ℕ) (out : Beginnings) (bs cs : List (Block ℕ Note)) (b : ℕ) → AllZip (SomeCopied size out) bs cs → mark_in (slice_get cs b) ≡ mark_in (slice_get bs b)
 marks_same size out [] [] b h = refl
 marks_same size out [] (y ∷ cs) b h = absurd h
 marks_same size out (x ∷ bs) [] b h = absurd h
-marks_same size out (x ∷ bs) (y ∷ cs) zero h = h.0.mark
+marks_same size out (x ∷ bs) (y ∷ cs) zero h = h.0.copied.mark
 marks_same size out (x ∷ bs) (y ∷ cs) (suc b) h = marks_same size out bs cs b h.1
 
 function_marks : (fs gs : List (Function ℕ Note)) (f b : ℕ) → AllZip FunctionCopied fs gs → mark_in (block_in (slice_get gs f) b) ≡ mark_in (block_in (slice_get fs f) b)
 function_marks [] [] f b h = refl
 function_marks [] (y ∷ gs) f b h = absurd h
 function_marks (x ∷ fs) [] f b h = absurd h
-function_marks (x ∷ fs) (y ∷ gs) zero b h = marks_same x.size h.0.out x.blocks y.blocks b h.0.blocks
+function_marks (x ∷ fs) (y ∷ gs) zero b h = marks_same x.size h.0.out x.blocks y.blocks b (copied_blocks x y h.0)
 function_marks (x ∷ fs) (y ∷ gs) (suc f) b h = function_marks fs gs f b h.1
 
 -- each block has its mark
@@ -53,7 +54,7 @@ pub mark_same : (p q : Low) → IsCopied p q → (f b : ℕ) → mark_of q f b �
 mark_same p q h f b = function_marks p.functions q.functions f b h.functions
 
 pub opening_same : (fn gn : Function ℕ Note) → FunctionCopied fn gn → opening gn ≡ opening fn
-opening_same fn gn h = marks_same fn.size h.out fn.blocks gn.blocks 0 h.blocks
+opening_same fn gn h = marks_same fn.size h.out fn.blocks gn.blocks 0 (copied_blocks fn gn h)
 
 -- registers are those of the function
 abbrev InRange : ℕ → Standing → Type 0
@@ -106,7 +107,7 @@ end_in size at name (Jump b) range f all = All-nil (λ r. r < size)
 end_in size at name (Branch c x y taken other) range f all = found_in size at name range (x ∷ y ∷ []) f all
 end_in size at name (Return x) range f all = found_in size at name range (x ∷ []) f all
 
-code_in : (size : ℕ) (out : Standing) (end end2 : End ℕ) (is : Code) (at : Standing) (js : Code) → InRange size at → Follows size out end end2 is at js → All (RegistersWithin size) is → All (λ r. r < size) (end_reads end) → All (RegistersWithin size) js × All (λ r. r < size) (end_reads end2)
+code_in : (size : ℕ) (out : Beginnings) (end end2 : End ℕ) (is : Code) (at : Standing) (js : Code) → InRange size at → Follows size out end end2 is at js → All (RegistersWithin size) is → All (λ r. r < size) (end_reads end) → All (RegistersWithin size) js × All (λ r. r < size) (end_reads end2)
 code_in size out end end2 [] at js range h all last =
     (subst (All (RegistersWithin size)) (sym h.done) (All-nil (RegistersWithin size)), subst (λ e. All (λ r. r < size) (end_reads e)) (sym h.is) (end_in size at h.name end range h.finds last))
 code_in size out end end2 (i ∷ is) at js range h all last =
@@ -123,9 +124,9 @@ code_in size out end end2 (i ∷ is) at js range h all last =
     code_in size out end end2 is c.now js (range_copied size i c.into c.value at c.now c.is one range c.copied) c.goes_on rest last)
     h
 
-block_in_range : (size : ℕ) (out : Standing) (b c : Block ℕ Note) → ((v w : ℕ) → out v ≡ Some w → w ≡ v) → BlockCopied size out b c → UsesRegisters size b → UsesRegisters size c
+block_in_range : (size : ℕ) (out : Beginnings) (b c : Block ℕ Note) → ((n v w : ℕ) → out n v ≡ Some w → w ≡ v) → SomeCopied size out b c → UsesRegisters size b → UsesRegisters size c
 block_in_range size out b c own h uses =
-    code_in size out b.end c.end b.code out c.code (λ v w q lt. subst (λ n. n < size) (sym (own v w q)) lt) h.code uses.0 uses.1
+    code_in size out b.end c.end b.code (out h.number) c.code (λ v w q lt. subst (λ n. n < size) (sym (own h.number v w q)) lt) h.copied.code uses.0 uses.1
 
 -- addresses name the same objects and claims
 base_there : (p q : Low) (name : ℕ → ℕ) (a : Address ℕ) → q.objects ≡ p.objects → q.claims ≡ p.claims → IsThere p a → IsThere q (renamed_address name a)
@@ -163,7 +164,7 @@ leads_renamed name (Jump b) n h = h
 leads_renamed name (Branch c x y taken other) n h = h
 leads_renamed name (Return x) n h = h
 
-end_leads : (size : ℕ) (out : Standing) (end end2 : End ℕ) (is : Code) (at : Standing) (js : Code) (n : ℕ) → Follows size out end end2 is at js → LeadsOn end2 n → LeadsOn end n
+end_leads : (size : ℕ) (out : Beginnings) (end end2 : End ℕ) (is : Code) (at : Standing) (js : Code) (n : ℕ) → Follows size out end end2 is at js → LeadsOn end2 n → LeadsOn end n
 end_leads size out end end2 [] at js n h leads = leads_renamed h.name end n (subst (λ e. LeadsOn e n) h.is leads)
 end_leads size out end end2 (i ∷ is) at js n h leads =
     ⊎_elim
@@ -171,27 +172,27 @@ end_leads size out end end2 (i ∷ is) at js n h leads =
     (λ (c : LeavesOut (Follows size out end end2 is) i at js). end_leads size out end end2 is c.now js n c.goes_on leads)
     h
 
-block_leads : (size : ℕ) (out : Standing) (bs cs : List (Block ℕ Note)) (b n : ℕ) → AllZip (BlockCopied size out) bs cs → LeadsTo_as (slice_get cs b) n → LeadsTo_as (slice_get bs b) n
+block_leads : (size : ℕ) (out : Beginnings) (bs cs : List (Block ℕ Note)) (b n : ℕ) → AllZip (SomeCopied size out) bs cs → LeadsTo_as (slice_get cs b) n → LeadsTo_as (slice_get bs b) n
 block_leads size out [] [] b n h leads = leads
 block_leads size out [] (y ∷ cs) b n h leads = absurd h
 block_leads size out (x ∷ bs) [] b n h leads = absurd h
-block_leads size out (x ∷ bs) (y ∷ cs) zero n h leads = end_leads size out x.end y.end x.code out y.code n h.0.code leads
+block_leads size out (x ∷ bs) (y ∷ cs) zero n h leads = end_leads size out x.end y.end x.code (out h.0.number) y.code n h.0.copied.code leads
 block_leads size out (x ∷ bs) (y ∷ cs) (suc b) n h leads = block_leads size out bs cs b n h.1 leads
 
 leads : (fn gn : Function ℕ Note) → FunctionCopied fn gn → (b n : ℕ) → LeadsTo gn b n → LeadsTo fn b n
-leads fn gn h b n to = block_leads fn.size h.out fn.blocks gn.blocks b n h.blocks to
+leads fn gn h b n to = block_leads fn.size h.out fn.blocks gn.blocks b n (copied_blocks fn gn h) to
 
 -- a block that only jumps does so still
-jump_kept : (size : ℕ) (out : Standing) (c : Block ℕ Note) (n : ℕ) → BlockCopied size out (only_jump n) c → c ≡ only_jump n
-jump_kept size out c n h =
+jump_kept : (size : ℕ) (out : Beginnings) (c : Block ℕ Note) (k n : ℕ) → BlockCopied size out k (only_jump n) c → c ≡ only_jump n
+jump_kept size out c k n h =
     ap (λ m. record { mark = m; code = c.code; end = c.end }) h.mark
     ∙ ap (λ is. record { mark = None; code = is; end = c.end }) h.code.done
     ∙ ap (λ e. record { mark = None; code = []; end = e }) h.code.is
 
 back_kept : (fn gn : Function ℕ Note) → FunctionCopied fn gn → (b n : ℕ) → slice_get fn.blocks b ≡ Some (only_jump n) → slice_get gn.blocks b ≡ Some (only_jump n)
 back_kept fn gn h b n e =
-    let k = found (BlockCopied fn.size h.out) fn.blocks gn.blocks b (only_jump n) h.blocks e in
-    k.there ∙ ap Some (jump_kept fn.size h.out k.it n k.related)
+    let k = found_block fn gn h b (only_jump n) e in
+    k.there ∙ ap Some (jump_kept fn.size h.out k.it b n k.copied)
 
 loop_kept : (fn gn : Function ℕ Note) → FunctionCopied fn gn → (l : Loop) → IsLoop fn l → IsLoop gn l
 loop_kept fn gn h l loop =
@@ -210,13 +211,13 @@ module _ (p q : Low) (copied : IsCopied p q) where
         opens = λ none. k.opens (sym opens ∙ none);
         alone = λ m g b e e2. k.alone m g b (sym opens ∙ e) (sym (mark_same p q copied g b) ∙ e2);
         marks = subst (λ n. All (HasMarkBelow n) gn.blocks) (sym copied.marks)
-            (all_beside (BlockCopied fn.size h.out) (HasMarkBelow p.marks) (HasMarkBelow p.marks) (λ b c r. subst (λ o. All (λ m. m < p.marks) (option_to_list o)) (sym r.mark)) fn.blocks gn.blocks h.blocks k.marks);
+            (all_beside (SomeCopied fn.size h.out) (HasMarkBelow p.marks) (HasMarkBelow p.marks) (λ b c r. subst (λ o. All (λ m. m < p.marks) (option_to_list o)) (sym r.copied.mark)) fn.blocks gn.blocks (copied_blocks fn gn h) k.marks);
         parameters = subst (λ n. All (λ r. r < n) gn.parameters) (sym h.size) (subst (All (λ r. r < fn.size)) (sym h.parameters) k.parameters);
         registers = subst (λ n. All (UsesRegisters n) gn.blocks) (sym h.size)
-            (all_beside (BlockCopied fn.size h.out) (UsesRegisters fn.size) (UsesRegisters fn.size) (λ b c r. block_in_range fn.size h.out b c h.own r) fn.blocks gn.blocks h.blocks k.registers);
-        names = blocks_keep (NamesThere p) (NamesThere q) (names_there p q copied.objects copied.claims) fn.size h.out fn.blocks gn.blocks h.blocks k.names;
-        calls = blocks_keep (CallsBelow f) (CallsBelow f) (calls_below f) fn.size h.out fn.blocks gn.blocks h.blocks k.calls;
-        stays = λ b n to. subst (λ m. n < m) (sym (as_long (BlockCopied fn.size h.out) fn.blocks gn.blocks h.blocks)) (k.stays b n (leads fn gn h b n to));
+            (all_beside (SomeCopied fn.size h.out) (UsesRegisters fn.size) (UsesRegisters fn.size) (λ b c r. block_in_range fn.size h.out b c h.own r) fn.blocks gn.blocks (copied_blocks fn gn h) k.registers);
+        names = blocks_keep (NamesThere p) (NamesThere q) (names_there p q copied.objects copied.claims) fn.size h.out fn.blocks gn.blocks (copied_blocks fn gn h) k.names;
+        calls = blocks_keep (CallsBelow f) (CallsBelow f) (calls_below f) fn.size h.out fn.blocks gn.blocks (copied_blocks fn gn h) k.calls;
+        stays = λ b n to. subst (λ m. n < m) (sym (as_long (SomeCopied fn.size h.out) fn.blocks gn.blocks (copied_blocks fn gn h))) (k.stays b n (leads fn gn h b n to));
         forward = λ b n to le. subst (λ ls. is_back ls b n ≡ true) (sym h.loops) (k.forward b n (leads fn gn h b n to) le);
         loops = subst (All (IsLoop gn)) (sym h.loops) (all_loops fn.loops k.loops);
         nested = subst (AllPairs AreNested) (sym h.loops) k.nested;

@@ -1,4 +1,5 @@
 pub mod Lists
+pub mod Blocks
 pub mod Stores
 pub mod Renamed
 pub mod Serving

@@ -1,5 +1,5 @@
 -- The run of a program without copies follows the run of the program, step by step; it waits at a copy.
-use Rattle.std.proofs.Common.{◌≡◌, ℕ, zero, suc, ◌+◌, Bool, true, false, List, [], ◌∷◌, length, Option, Some, None, refl, sym, ap, ◌∙◌, subst, ⊎_elim, arith}
+use Rattle.std.proofs.Common.{◌≡◌, ℕ, zero, suc, ◌+◌, Bool, true, false, List, [], ◌∷◌, length, Option, Some, None, refl, sym, ap, ◌∙◌, subst, ⊎_elim, inl, inr, arith}
 use Rattle.std.specs.Prelude.{All, if◌then◌else◌, map, nat_lt, slice_get, slice_index_or}
 use Rattle.std.proofs.lemmas.List.{length-replicate}
 use Rattle.rv_core.specs.declared.row.Condition.{Condition}
@@ -9,12 +9,13 @@ use Rattle.low_ir.specs.declared.run.Began.{Began}
 use Rattle.low_ir.specs.declared.run.Value.{Value}
 use Rattle.low_ir.specs.declared.run.Value.TheVariants.{Word, Pointer}
 use Rattle.low_ir.specs.Effects.{World, Did, start, reads, dest, effect_of}
-use Rattle.low_ir.specs.Formed.{end_operands}
+use Rattle.low_ir.specs.Formed.{LeadsOn, end_operands}
 use Rattle.low_ir.specs.Runs.{Waiting, Running, Run, Going, Done, Bad, Bank, operand_value, values, values_cons, write_to, goes_on, finish, enter, block_in, went_to, write_all, begin, only_where, waiting, call, at_instr, come_back, give_back, chosen, branches, at_end, at_code, step, run, first, first_in, lrun, virtual}
 use Rattle.low_ir.specs.Turns.{IsGood, KeepsLoop, KeepsLoops}
 use Rattle.low_copied.specs.Renaming.{renamed_end, renamed_into, renamed_operand, renamed_plain}
-use Rattle.low_copied.specs.Copies.{Becomes, BlockCopied, Carries, Code, Copied, Ends, Fewer, Finds, Follows, FunctionCopied, IsCopied, LeavesOut, Standing}
+use Rattle.low_copied.specs.Copies.{Becomes, Carries, Code, Copied, Ends, Fewer, Finds, Follows, FunctionCopied, IsCopied, LeavesOut, Standing}
 use Rattle.low_copied.specs.Laws.{RunsOn}
+use Rattle.low_copied.proofs.Blocks.{found_block}
 use Rattle.low_copied.proofs.Lists.{before, found}
 use Rattle.low_copied.proofs.Renamed.{dest_renamed, effects_renamed, reads_renamed}
 use Rattle.low_copied.proofs.Stores.{Shows, all_length, both_written, copy_written, finds_rest, value_found, values_found}
@@ -105,22 +106,22 @@ module _ (p q : Low) (copied : IsCopied p q) where
   at_once r s t e h = subst (λ x. Serves r x) (sym e) h
 
   -- a block is entered
-  enter_serves : (r : LowRunning) (code : Code) (end : End ℕ) (t : Bank) (ws : List LowWaiting) (b : ℕ) (w : Two r.top.func) → length t ≡ w.fn.size → Shows w.same.out r.top.store t → Waits r.below ws → (o : Option (Block ℕ Note)) → slice_get w.fn.blocks b ≡ o → Serves (enter r b o) (enter (running r code end t ws) b (slice_get w.gn.blocks b))
+  enter_serves : (r : LowRunning) (code : Code) (end : End ℕ) (t : Bank) (ws : List LowWaiting) (b : ℕ) (w : Two r.top.func) → length t ≡ w.fn.size → Shows (w.same.out b) r.top.store t → Waits r.below ws → (o : Option (Block ℕ Note)) → slice_get w.fn.blocks b ≡ o → Serves (enter r b o) (enter (running r code end t ws) b (slice_get w.gn.blocks b))
   enter_serves r code end t ws b w long shows waits None e = tt
   enter_serves r code end t ws b w long shows waits (Some bl) e =
-      let k = found (BlockCopied w.fn.size w.same.out) w.fn.blocks w.gn.blocks b bl w.same.blocks e in
+      let k = found_block w.fn w.gn w.same b bl e in
       record {
         code = k.it.code;
         end = k.it.end;
         store = t;
         below = ws;
         is = ap (enter (running r code end t ws) b) k.there;
-        top = record { two = w; at = w.same.out; long = long; shows = shows; follows = k.related.code };
+        top = record { two = w; at = w.same.out b; long = long; shows = shows; follows = k.copied.code };
         waits = waits;
       }
 
   -- a jump to a block from an end
-  jump_serves : (r : LowRunning) (code : Code) (end : End ℕ) (t : Bank) (ws : List LowWaiting) (b : ℕ) (w : Two r.top.func) → length t ≡ w.fn.size → Shows w.same.out r.top.store t → Waits r.below ws → Serves (went_to p r b) (went_to q (running r code end t ws) b)
+  jump_serves : (r : LowRunning) (code : Code) (end : End ℕ) (t : Bank) (ws : List LowWaiting) (b : ℕ) (w : Two r.top.func) → length t ≡ w.fn.size → Shows (w.same.out b) r.top.store t → Waits r.below ws → Serves (went_to p r b) (went_to q (running r code end t ws) b)
   jump_serves r code end t ws b w long shows waits =
       let s = running r code end t ws in
       subst (λ o. Serves (enter r b (block_in o b)) (went_to q s b)) (sym w.there)
@@ -138,7 +139,7 @@ module _ (p q : Low) (copied : IsCopied p q) where
       (ap (λ n. begin us u f w.gn (write_all virtual (Some (virtual.empty n)) w.gn.parameters xs)) w.same.size
       ∙ ap (λ rs. begin us u f w.gn (write_all virtual (Some (virtual.empty w.fn.size)) rs xs)) w.same.parameters
       ∙ ap (begin us u f w.gn) e)
-      (enter_serves r [] (Jump 0) s us 0 w long (λ v n h. ap (λ m. slice_index_or s m None) (sym (w.same.own v n h))) waits (slice_get w.fn.blocks 0) refl)
+      (enter_serves r [] (Jump 0) s us 0 w long (λ v n h. ap (λ m. slice_index_or s m None) (sym (w.same.own 0 v n h))) waits (slice_get w.fn.blocks 0) refl)
 
   -- an instruction that goes on behind itself
   do_serves : (r : LowRunning) (is : Code) (code : Code) (end : End ℕ) (t : Bank) (ws : List LowWaiting) (behind : Code) (w : Two r.top.func) (at now : Standing) (d : Option ℕ) (into : ℕ) → length t ≡ w.fn.size → Shows at r.top.store t → Becomes w.fn.size d into at now → Follows w.fn.size w.same.out r.top.end end is now behind → Waits r.below ws → (o : Option Did) → Serves (finish virtual r is d o) (finish virtual (running r code end t ws) behind (renamed_into into d) o)
@@ -252,13 +253,18 @@ module _ (p q : Low) (copied : IsCopied p q) where
           )
           (write_all virtual (Some (virtual.empty fn.size)) fn.parameters xs) refl
 
+  -- one of two blocks
+  either_shows : (func : ℕ) (w : Two func) (s t : Bank) (b1 b2 : ℕ) → Shows (w.same.out b1) s t → Shows (w.same.out b2) s t → (b : Bool) → Shows (w.same.out (if b then b1 else b2)) s t
+  either_shows func w s t b1 b2 one two true = one
+  either_shows func w s t b1 b2 one two false = two
+
   -- the end of a block
-  branch_serves : (r : LowRunning) (code : Code) (end2 : End ℕ) (t : Bank) (ws : List LowWaiting) (c : Condition) (b1 b2 : ℕ) (w : Two r.top.func) → length t ≡ w.fn.size → Shows w.same.out r.top.store t → Waits r.below ws → (o1 o2 : Option Value) → Serves (branches p r (chosen c b1 b2 o1 o2)) (branches q (running r code end2 t ws) (chosen c b1 b2 o1 o2))
-  branch_serves r code end2 t ws c b1 b2 w long shows waits None o2 = tt
-  branch_serves r code end2 t ws c b1 b2 w long shows waits (Some (Pointer o n)) o2 = tt
-  branch_serves r code end2 t ws c b1 b2 w long shows waits (Some (Word m)) None = tt
-  branch_serves r code end2 t ws c b1 b2 w long shows waits (Some (Word m)) (Some (Pointer o n)) = tt
-  branch_serves r code end2 t ws c b1 b2 w long shows waits (Some (Word m)) (Some (Word n)) = jump_serves r code end2 t ws (if holds c m n then b1 else b2) w long shows waits
+  branch_serves : (r : LowRunning) (code : Code) (end2 : End ℕ) (t : Bank) (ws : List LowWaiting) (c : Condition) (b1 b2 : ℕ) (w : Two r.top.func) → length t ≡ w.fn.size → Shows (w.same.out b1) r.top.store t → Shows (w.same.out b2) r.top.store t → Waits r.below ws → (o1 o2 : Option Value) → Serves (branches p r (chosen c b1 b2 o1 o2)) (branches q (running r code end2 t ws) (chosen c b1 b2 o1 o2))
+  branch_serves r code end2 t ws c b1 b2 w long shows other waits None o2 = tt
+  branch_serves r code end2 t ws c b1 b2 w long shows other waits (Some (Pointer o n)) o2 = tt
+  branch_serves r code end2 t ws c b1 b2 w long shows other waits (Some (Word m)) None = tt
+  branch_serves r code end2 t ws c b1 b2 w long shows other waits (Some (Word m)) (Some (Pointer o n)) = tt
+  branch_serves r code end2 t ws c b1 b2 w long shows other waits (Some (Word m)) (Some (Word n)) = jump_serves r code end2 t ws (if holds c m n then b1 else b2) w long (either_shows r.top.func w r.top.store t b1 b2 shows other (holds c m n)) waits
 
   return_serves : (r : LowRunning) (code : Code) (end2 : End ℕ) (t : Bank) (ws : List LowWaiting) → Waits r.below ws → (o : Option Value) → Serves (give_back virtual r o) (give_back virtual (running r code end2 t ws) o)
   return_serves r code end2 t ws waits None = tt
@@ -268,15 +274,15 @@ module _ (p q : Low) (copied : IsCopied p q) where
   fewer_shows : (at out : Standing) (s t : Bank) → Fewer at out → Shows at s t → Shows out s t
   fewer_shows at out s t fewer h v w e = h v w (fewer v w e)
 
-  end_serves : (r : LowRunning) (code : Code) (end2 : End ℕ) (t : Bank) (ws : List LowWaiting) (w : Two r.top.func) (at : Standing) (name : ℕ → ℕ) → length t ≡ w.fn.size → Shows at r.top.store t → Fewer at w.same.out → Waits r.below ws → (end : End ℕ) → Finds at name (end_operands end) → Serves (at_end virtual p r end) (at_end virtual q (running r code end2 t ws) (renamed_end name end))
-  end_serves r code end2 t ws w at name long shows fewer waits (Jump b) finds = jump_serves r code end2 t ws b w long (fewer_shows at w.same.out r.top.store t fewer shows) waits
-  end_serves r code end2 t ws w at name long shows fewer waits (Branch c x y b1 b2) finds =
+  end_serves : (r : LowRunning) (code : Code) (end2 : End ℕ) (t : Bank) (ws : List LowWaiting) (w : Two r.top.func) (at : Standing) (name : ℕ → ℕ) → length t ≡ w.fn.size → Shows at r.top.store t → Waits r.below ws → (end : End ℕ) → ((n : ℕ) → LeadsOn end n → Fewer at (w.same.out n)) → Finds at name (end_operands end) → Serves (at_end virtual p r end) (at_end virtual q (running r code end2 t ws) (renamed_end name end))
+  end_serves r code end2 t ws w at name long shows waits (Jump b) fewer finds = jump_serves r code end2 t ws b w long (fewer_shows at (w.same.out b) r.top.store t (fewer b refl) shows) waits
+  end_serves r code end2 t ws w at name long shows waits (Branch c x y b1 b2) fewer finds =
       let s = running r code end2 t ws in
       at_once (at_end virtual p r (Branch c x y b1 b2)) _ _
       (ap (λ o. branches q s (chosen c b1 b2 o (operand_value virtual t (renamed_operand name y)))) (value_found at name r.top.store t shows x (y ∷ []) finds)
       ∙ ap (λ o. branches q s (chosen c b1 b2 (operand_value virtual r.top.store x) o)) (value_found at name r.top.store t shows y [] (finds_rest at name x (y ∷ []) finds)))
-      (branch_serves r code end2 t ws c b1 b2 w long (fewer_shows at w.same.out r.top.store t fewer shows) waits (operand_value virtual r.top.store x) (operand_value virtual r.top.store y))
-  end_serves r code end2 t ws w at name long shows fewer waits (Return x) finds =
+      (branch_serves r code end2 t ws c b1 b2 w long (fewer_shows at (w.same.out b1) r.top.store t (fewer b1 (inl refl)) shows) (fewer_shows at (w.same.out b2) r.top.store t (fewer b2 (inr refl)) shows) waits (operand_value virtual r.top.store x) (operand_value virtual r.top.store y))
+  end_serves r code end2 t ws w at name long shows waits (Return x) fewer finds =
       at_once (at_end virtual p r (Return x)) _ _
       (ap (give_back virtual (running r code end2 t ws)) (value_found at name r.top.store t shows x [] finds))
       (return_serves r code end2 t ws waits (operand_value virtual r.top.store x))
@@ -285,7 +291,7 @@ module _ (p q : Low) (copied : IsCopied p q) where
   ends_serve r code end2 t ws w at long shows e waits =
       let s = running r code end2 t ws in
       at_once (at_end virtual p r r.top.end) _ _ (ap (at_code virtual q s) e.done ∙ ap (at_end virtual q s) e.is)
-      (end_serves r code end2 t ws w at e.name long shows e.stands waits r.top.end e.finds)
+      (end_serves r code end2 t ws w at e.name long shows waits r.top.end e.stands e.finds)
 
   one_step : (r s : LowRun) → Serves r (step virtual q s) → Later r s
   one_step r s h = record { steps = 1; serves = h }

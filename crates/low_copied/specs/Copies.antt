@@ -1,14 +1,18 @@
 -- Programs of which one leaves out copies that the other makes: within a block the value of a register may stand in another one.
-use Rattle.std.specs.Prelude.{◌≡◌, ◌≢◌, ◌⊎◌, ℕ, ◌<◌, List, [], ◌∷◌, Option, Some, None}
+use Rattle.std.specs.Prelude.{◌≡◌, ◌≢◌, ◌⊎◌, ℕ, suc, ◌<◌, List, [], ◌∷◌, Option, Some, None}
 use Rattle.std.specs.List.{AllZip}
 use Rattle.low_ir.specs.Code.{Operand, Register, Constant, Base, Fixed, Through, Address, Set, Instr, Do, Call, End, Block, Function, Note, Low}
 use Rattle.low_ir.specs.Effects.{reads}
-use Rattle.low_ir.specs.Formed.{addresses, end_operands, written_by}
+use Rattle.low_ir.specs.Formed.{LeadsOn, addresses, end_operands, written_by}
 use Rattle.low_copied.specs.Renaming.{renamed_end, renamed_instr}
 
 -- where the value of each register of the first program stands in the second, if it stands anywhere
 abbrev pub Standing : Type 0
 Standing = ℕ → Option ℕ
+
+-- by the number of a block, what stands at its beginning
+abbrev pub Beginnings : Type 0
+Beginnings = ℕ → Standing
 
 abbrev pub Code : Type 0
 Code = List (Instr ℕ Note)
@@ -75,31 +79,39 @@ pub record LeavesOut (rest : Standing → Code → Type 0) (i : Instr ℕ Note) 
   pub copied : Copied into value at now
   pub goes_on : rest now code
 
--- a block ends in the same way, and at its end stands what the next one may count on
-pub record Ends (out : Standing) (end new : End ℕ) (at : Standing) (code : Code) : Type 0 where
+-- a block ends in the same way, and at its end stands what each block counts on to which it leads
+pub record Ends (out : Beginnings) (end new : End ℕ) (at : Standing) (code : Code) : Type 0 where
   pub done : code ≡ []
   pub name : ℕ → ℕ
   pub is : new ≡ renamed_end name end
   pub finds : Finds at name (end_operands end)
-  pub stands : Fewer at out
+  pub stands : (n : ℕ) → LeadsOn end n → Fewer at (out n)
 
 -- the rest of a block, in the first program and in the second
-abbrev pub Follows : ℕ → Standing → End ℕ → End ℕ → Code → Standing → Code → Type 0
+abbrev pub Follows : ℕ → Beginnings → End ℕ → End ℕ → Code → Standing → Code → Type 0
 Follows size out end new [] at code = Ends out end new at code
 Follows size out end new (i ∷ is) at code = Carries size (Follows size out end new is) i at code ⊎ LeavesOut (Follows size out end new is) i at code
 
-pub record BlockCopied (size : ℕ) (out : Standing) (b c : Block ℕ Note) : Type 0 where
+-- the block of this number
+pub record BlockCopied (size : ℕ) (out : Beginnings) (n : ℕ) (b c : Block ℕ Note) : Type 0 where
   pub mark : c.mark ≡ b.mark
-  pub code : Follows size out b.end c.end b.code out c.code
+  pub code : Follows size out b.end c.end b.code (out n) c.code
 
--- between the blocks of a function registers stand in their own places, those that no block counts on perhaps nowhere
+-- blocks, of which the first one has this number
+abbrev pub BlocksCopied : ℕ → Beginnings → ℕ → List (Block ℕ Note) → List (Block ℕ Note) → Type 0
+BlocksCopied size out n [] [] = Unit {0}
+BlocksCopied size out n [] (c ∷ cs) = ⊥
+BlocksCopied size out n (b ∷ bs) [] = ⊥
+BlocksCopied size out n (b ∷ bs) (c ∷ cs) = BlockCopied size out n b c × BlocksCopied size out (suc n) bs cs
+
+-- at the beginning of a block registers stand in their own places, those that it doesn't count on perhaps nowhere
 pub record FunctionCopied (fn gn : Function ℕ Note) : Type 0 where
-  pub out : Standing
-  pub own : (v w : ℕ) → out v ≡ Some w → w ≡ v
+  pub out : Beginnings
+  pub own : (n v w : ℕ) → out n v ≡ Some w → w ≡ v
   pub parameters : gn.parameters ≡ fn.parameters
   pub size : gn.size ≡ fn.size
   pub loops : gn.loops ≡ fn.loops
-  pub blocks : AllZip (BlockCopied fn.size out) fn.blocks gn.blocks
+  pub blocks : BlocksCopied fn.size out 0 fn.blocks gn.blocks
 
 pub record IsCopied (p q : Low) : Type 0 where
   pub functions : AllZip FunctionCopied p.functions q.functions

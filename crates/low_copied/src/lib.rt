@@ -1,8 +1,8 @@
 //! The law on copies: what a program keeps whose copies are left out.
 //!
-//! Within a block the value of a register may stand in another one, so that a copy between the two isn't needed; between blocks
-//! registers stand where they are, those that no block counts on perhaps nowhere (`specs/Copies`). How a program is found that does
-//! without copies is no matter here.
+//! Within a block the value of a register may stand in another one, so that a copy between the two isn't needed; as a block begins
+//! registers stand in their own places, those on which it doesn't count perhaps nowhere (`specs/Copies`). How a program is found that
+//! does without copies is no matter here.
 //!
 //! Proved, each by a call with an empty body: [`copies_run`], that each good run is a good run of the other program with the same
 //! value and the same world; [`copies_are_formed`], that it keeps to the low form; [`copies_cost_no_more`].

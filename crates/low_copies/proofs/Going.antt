@@ -4,8 +4,8 @@ use Rattle.std.specs.Prelude.{slice_get, slice_index_or}
 use Rattle.std.proofs.lemmas.List.{append_assoc}
 use Rattle.low_ir.specs.Code.{Do, End, Instr, Note, Register, Set}
 use Rattle.low_ir.specs.Formed.{written_by}
-use Rattle.low_copied.specs.Copies.{Becomes, Code, Copied, Follows, Standing}
-use Rattle.low_copies.specs.Knowing.{Knowing, copied, delivered, lasts, stands}
+use Rattle.low_copied.specs.Copies.{Becomes, Beginnings, Code, Copied, Follows, Standing}
+use Rattle.low_copies.specs.Knowing.{Knowing, copied, delivered, stands}
 use Rattle.low_copies.specs.Making.{Continues, Goes, IsPut, IsRenamed, name_in}
 use Rattle.low_copies.proofs.Standing.{between, copy_delivered, copy_left, delivers, kept_becomes, known_copied, known_delivered}
 
@@ -25,10 +25,10 @@ drop_there (j ∷ code) (suc at) i e =
     drop_there code at i e ∙ ap (λ n. i ∷ drop n (j ∷ code)) next
 
 pub goes_on : (a b c : Code) (k l m : Knowing) (x y z : Code) → Goes a k x b l y → Goes b l y c m z → Goes a k x c m z
-goes_on a b c k l m x y z f g size lasting end whole made = g size lasting end whole (f size lasting end whole made)
+goes_on a b c k l m x y z f g size lasting out first end whole made = g size lasting out first end whole (f size lasting out first end whole made)
 
 -- an instruction that was put carries the old one
-carried : (size : ℕ) (out : Standing) (end new : End ℕ) (k : Knowing) (into : ℕ) (i j : Instr ℕ Note) (rest js : Code) (now : Standing) → IsRenamed k into i j → Becomes size (written_by i) into (stands k) now → Follows size out end new rest now js → Follows size out end new (i ∷ rest) (stands k) (j ∷ js)
+carried : (size : ℕ) (out : Beginnings) (end new : End ℕ) (k : Knowing) (into : ℕ) (i j : Instr ℕ Note) (rest js : Code) (now : Standing) → IsRenamed k into i j → Becomes size (written_by i) into (stands k) now → Follows size out end new rest now js → Follows size out end new (i ∷ rest) (stands k) (j ∷ js)
 carried size out end new k into i j rest js now h becomes follows =
     inl (record {
       name = name_in k;
@@ -42,7 +42,7 @@ carried size out end new k into i j rest js now h becomes follows =
       goes_on = follows;
     })
 
-left_out : (size : ℕ) (out : Standing) (end new : End ℕ) (at : Standing) (d x : ℕ) (rest js : Code) (now : Standing) → Copied d (Register x) at now → Follows size out end new rest now js → Follows size out end new (Do (Set d (Register x)) ∷ rest) at js
+left_out : (size : ℕ) (out : Beginnings) (end new : End ℕ) (at : Standing) (d x : ℕ) (rest js : Code) (now : Standing) → Copied d (Register x) at now → Follows size out end new rest now js → Follows size out end new (Do (Set d (Register x)) ∷ rest) at js
 left_out size out end new at d x rest js now copied follows = inr (record { into = d; value = Register x; is = refl; now = now; copied = copied; goes_on = follows })
 
 -- an instruction behind what was made
@@ -51,54 +51,54 @@ behind made more js j e = sym (append_assoc made (j ∷ []) js) ∙ sym (ap (λ 
 
 -- an instruction that writes nothing
 pub silent : (k : Knowing) (into : ℕ) (i : Instr ℕ Note) (rest made more : Code) → written_by i ≡ None → IsPut k into i made more → Goes (i ∷ rest) k made rest k more
-silent k into i rest made more none put size lasting end whole m =
+silent k into i rest made more none put size lasting out first end whole m =
     record {
       known = m.known;
       follows = λ new js h.
-          subst (Follows size (lasts lasting) end new whole (lasts lasting)) (behind made more js put.new put.is)
+          subst (Follows size out end new whole first) (behind made more js put.new put.is)
           (m.follows new (put.new ∷ js)
-          (carried size (lasts lasting) end new k into i put.new rest js (stands k) put.renamed
+          (carried size out end new k into i put.new rest js (stands k) put.renamed
           (subst (λ o. Becomes size o into (stands k) (stands k)) (sym none) (λ v w q. q)) h));
     }
 
 -- an instruction that writes its own register
 pub kept : (k : Knowing) (d : ℕ) (i : Instr ℕ Note) (rest made more : Code) → written_by i ≡ Some d → d < length k.written → IsPut k d i made more → Goes (i ∷ rest) k made rest (delivered k d d) more
-kept k d i rest made more writes few put size lasting end whole m =
+kept k d i rest made more writes few put size lasting out first end whole m =
     let inside : d < size = subst (λ n. d < n) m.known.written few in
     record {
       known = known_delivered size lasting k d d m.known;
       follows = λ new js h.
-          subst (Follows size (lasts lasting) end new whole (lasts lasting)) (behind made more js put.new put.is)
+          subst (Follows size out end new whole first) (behind made more js put.new put.is)
           (m.follows new (put.new ∷ js)
-          (carried size (lasts lasting) end new k d i put.new rest js (stands (delivered k d d)) put.renamed
+          (carried size out end new k d i put.new rest js (stands (delivered k d d)) put.renamed
           (subst (λ o. Becomes size o d (stands k) (stands (delivered k d d))) (sym writes) (inside, kept_becomes size lasting k d m.known inside)) h));
     }
 
 -- an instruction that delivers its value, and the copy behind it
 pub delivered_goes : (k : Knowing) (t x : ℕ) (i : Instr ℕ Note) (rest made more : Code) → written_by i ≡ Some t → x ≢ t → slice_index_or k.lasting t false ≡ false → x < length k.written → t < length k.places → IsPut k x i made more → Goes (i ∷ Do (Set x (Register t)) ∷ rest) k made rest (delivered k t x) more
-delivered_goes k t x i rest made more writes apart brief few own put size lasting end whole m =
+delivered_goes k t x i rest made more writes apart brief few own put size lasting out first end whole m =
     let inside : x < size = subst (λ n. x < n) m.known.written few in
     let source : t < size = subst (λ n. t < n) m.known.places own in
     let n = delivered k t x in
     record {
       known = known_delivered size lasting k t x m.known;
       follows = λ new js h.
-          subst (Follows size (lasts lasting) end new whole (lasts lasting)) (behind made more js put.new put.is)
+          subst (Follows size out end new whole first) (behind made more js put.new put.is)
           (m.follows new (put.new ∷ js)
-          (carried size (lasts lasting) end new k x i put.new (Do (Set x (Register t)) ∷ rest) js (between n t x) put.renamed
+          (carried size out end new k x i put.new (Do (Set x (Register t)) ∷ rest) js (between n t x) put.renamed
           (subst (λ o. Becomes size o x (stands k) (between n t x)) (sym writes) (inside, delivers size lasting k t x m.known inside source brief apart))
-          (left_out size (lasts lasting) end new (between n t x) x t rest js (stands n) (copy_delivered size lasting k t x m.known inside source brief apart) h)));
+          (left_out size out end new (between n t x) x t rest js (stands n) (copy_delivered size lasting k t x m.known inside source brief apart) h)));
     }
 
 -- a copy that is left out
 pub left_goes : (k : Knowing) (d x place : ℕ) (rest made : Code) → slice_index_or k.lasting d false ≡ false → d < length k.places → stands k x ≡ Some place → Goes (Do (Set d (Register x)) ∷ rest) k made rest (copied k d place) made
-left_goes k d x place rest made brief own found size lasting end whole m =
+left_goes k d x place rest made brief own found size lasting out first end whole m =
     let inside : d < size = subst (λ n. d < n) m.known.places own in
     record {
       known = known_copied size lasting k d place m.known;
       follows = λ new js h.
           m.follows new js
-          (left_out size (lasts lasting) end new (stands k) d x rest js (stands (copied k d place)) (copy_left size lasting k d x place m.known inside brief found) h);
+          (left_out size out end new (stands k) d x rest js (stands (copied k d place)) (copy_left size lasting k d x place m.known inside brief found) h);
     }
 
 -- one instruction is done, or two

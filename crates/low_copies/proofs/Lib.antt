@@ -2,4 +2,5 @@ pub mod Wider
 pub mod Finding
 pub mod Standing
 pub mod Going
+pub mod Begun
 pub mod Blocks

@@ -1,5 +1,5 @@
 -- What stands where, as values are written.
-use Rattle.std.proofs.Common.{◌≡◌, ◌≢◌, ◌⊎◌, ◌<◌, ◌≤◌, ℕ, zero, suc, Bool, true, false, List, [], ◌∷◌, Option, Some, None, refl, sym, ap, ◌∙◌, subst, ⊎_elim, inl, inr, arith, get_or-set_same, get_or-set_other, length-set}
+use Rattle.std.proofs.Common.{◌≡◌, ◌≢◌, ◌⊎◌, ◌<◌, ◌≤◌, ℕ, zero, suc, Bool, true, false, List, [], ◌∷◌, Option, Some, None, length, refl, sym, ap, ◌∙◌, subst, ⊎_elim, inl, inr, arith, get_or-set_same, get_or-set_other, length-set}
 use Rattle.std.specs.Prelude.{All, ◌==◌, ◌&&◌, if◌then◌else◌, nat_le, slice_index_or, slice_set}
 use Rattle.std.proofs.lemmas.Bool.{and_from, and_parts, cases_eq, eq-eqb, eqb-false, eqb-true, le-leb, leb-true, ne_eqb}
 use Rattle.std.proofs.lemmas.List.{length-replicate}
@@ -205,6 +205,29 @@ module _ (size : ℕ) (lasting : List Bool) (k : Knowing) (t x : ℕ) (known : I
       (cases_eq v t))
       (cases_eq v x)
 
+-- what isn't a copy stands where it stood
+pub others_copied : (k : Knowing) (d place v w : ℕ) → v ≢ d → stands (copied k d place) v ≡ Some w → stands k v ≡ Some w
+others_copied k d place v w other q = by_test (slice_index_or k.lasting v false) refl q
+  where
+    by_test : (b : Bool) → slice_index_or k.lasting v false ≡ b → stands_in (copied k d place) b v ≡ Some w → stands k v ≡ Some w
+    by_test true t q2 = ap (λ b. stands_in k b v) t ∙ q2
+    by_test false t q2 =
+        let n = copied k d place in
+        let p : slice_index_or n.places v 0 ≡ slice_index_or k.places v 0 = get_or-set_other k.places d v place 0 other in
+        let m : slice_index_or n.times v 0 ≡ slice_index_or k.times v 0 = get_or-set_other k.times d v k.clock 0 other in
+        ap (λ b. stands_in k b v) t ∙ sym (ap (λ y. if_still k y (slice_index_or n.times v 0)) p ∙ ap (λ y. if_still k (slice_index_or k.places v 0) y) m) ∙ q2
+
+-- a copy of itself stands in its own place
+pub own_copied : (k : Knowing) (d w : ℕ) → d < length k.places → stands (copied k d d) d ≡ Some w → w ≡ d
+own_copied k d w few q = by_test (slice_index_or k.lasting d false) refl q
+  where
+    by_test : (b : Bool) → slice_index_or k.lasting d false ≡ b → stands_in (copied k d d) b d ≡ Some w → w ≡ d
+    by_test true t q2 = cc
+    by_test false t q2 =
+        let n = copied k d d in
+        let s = still n (slice_index_or n.places d 0) (slice_index_or n.times d 0) w q2 in
+        s.is ∙ get_or-set_same k.places d d 0 few
+
 -- a copy that was left out
 pub copy_left : (size : ℕ) (lasting : List Bool) (k : Knowing) (d x place : ℕ) → IsKnown size lasting k → d < size → slice_index_or k.lasting d false ≡ false → stands k x ≡ Some place → Copied d (Register x) (stands k) (stands (copied k d place))
 copy_left size lasting k d x place known few brief found v w q =
@@ -217,13 +240,5 @@ copy_left size lasting k d x place known few brief found v w q =
     let long = known.places in
     let there = s.is ∙ get_or-set_same k.places d place 0 (omega arith) in
     inl (same, found ∙ ap Some (sym there)))
-    (λ (other : v ≢ d). inr (other, by_test (slice_index_or k.lasting v false) refl q other))
+    (λ (other : v ≢ d). inr (other, others_copied k d place v w other q))
     (cases_eq v d)
-  where
-    by_test : (b : Bool) → slice_index_or k.lasting v false ≡ b → stands_in (copied k d place) b v ≡ Some w → v ≢ d → stands k v ≡ Some w
-    by_test true t q2 other = ap (λ b. stands_in k b v) t ∙ q2
-    by_test false t q2 other =
-        let n = copied k d place in
-        let p : slice_index_or n.places v 0 ≡ slice_index_or k.places v 0 = get_or-set_other k.places d v place 0 other in
-        let m : slice_index_or n.times v 0 ≡ slice_index_or k.times v 0 = get_or-set_other k.times d v k.clock 0 other in
-        ap (λ b. stands_in k b v) t ∙ sym (ap (λ y. if_still k y (slice_index_or n.times v 0)) p ∙ ap (λ y. if_still k (slice_index_or k.places v 0) y) m) ∙ q2

@@ -2,7 +2,7 @@
 use Rattle.std.proofs.Common.{◌≡◌, ◌≢◌, ◌⊎◌, ℕ, List, [], ◌∷◌, Option, Some, None, ⊎_elim, inl, inr}
 use Rattle.low_ir.specs.Code.{Operand, Register, Constant, End}
 use Rattle.low_ir.specs.Formed.{end_operands, written_by}
-use Rattle.low_copied.specs.Copies.{Becomes, Carries, Code, Copied, Fewer, Finds, Follows, LeavesOut, Standing, Stands, operands}
+use Rattle.low_copied.specs.Copies.{Becomes, Beginnings, Carries, Code, Copied, Fewer, Finds, Follows, LeavesOut, Standing, Stands, operands}
 
 finds_more : (at more : Standing) (name : ℕ → ℕ) → Fewer more at → (xs : List (Operand ℕ)) → Finds at name xs → Finds more name xs
 finds_more at more name fewer [] f = f
@@ -28,9 +28,9 @@ copied_more d x at more now fewer c v w q = moved (c v w q)
     moved (inl new) = inl (new.0, stands_more at more x w fewer new.1)
     moved (inr old) = inr (old.0, fewer v w old.1)
 
-pub follows_more : (size : ℕ) (out : Standing) (end new : End ℕ) (is : Code) (at more : Standing) (js : Code) → Fewer more at → Follows size out end new is at js → Follows size out end new is more js
+pub follows_more : (size : ℕ) (out : Beginnings) (end new : End ℕ) (is : Code) (at more : Standing) (js : Code) → Fewer more at → Follows size out end new is at js → Follows size out end new is more js
 follows_more size out end new [] at more js fewer h =
-    record { done = h.done; name = h.name; is = h.is; finds = finds_more at more h.name fewer (end_operands end) h.finds; stands = λ v w q. fewer v w (h.stands v w q) }
+    record { done = h.done; name = h.name; is = h.is; finds = finds_more at more h.name fewer (end_operands end) h.finds; stands = λ n leads v w q. fewer v w (h.stands n leads v w q) }
 follows_more size out end new (i ∷ is) at more js fewer h =
     ⊎_elim
     (λ (c : Carries size (Follows size out end new is) i at js).

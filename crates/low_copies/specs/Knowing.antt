@@ -1,8 +1,10 @@
 -- What is known in a block of where values stand.
-use Rattle.std.specs.Prelude.{◌≡◌, ℕ, suc, ◌<◌, ◌&&◌, Bool, true, false, nat_le, if◌then◌else◌, List, length, Option, Some, None, All, replicate, slice_index_or, slice_set}
-use Rattle.low_copied.specs.Copies.{Standing}
+use Rattle.std.specs.Prelude.{◌≡◌, ℕ, suc, ◌<◌, ◌&&◌, Bool, true, false, nat_le, if◌then◌else◌, List, [], length, Option, Some, None, All, Vec, replicate, slice_index_or, slice_set}
+use Rattle.std.specs.Global.{Global}
+use Rattle.low_ir.specs.Effects.{is_member}
+use Rattle.low_copied.specs.Copies.{Beginnings, Standing}
 
--- by register: whether blocks may count on it at their beginning, and else in which register its value stands since when, and when it was
+-- by register: whether it lasts, so that all blocks may count on it at their beginning, and else in which register its value stands since when, and when it was
 -- written last; the time when the block began, and the time now
 pub record Knowing : Type 0 where
   pub lasting : List Bool
@@ -23,9 +25,20 @@ stands_in k false r = if_still k (slice_index_or k.places r 0) (slice_index_or k
 abbrev pub stands : Knowing → Standing
 stands k r = stands_in k (slice_index_or k.lasting r false) r
 
--- between blocks
+-- between blocks, what lasts
 abbrev pub lasts : List Bool → Standing
 lasts lasting r = if slice_index_or lasting r false then Some r else None
+
+-- at the beginning of a block that counts on the registers of a list too
+abbrev pub counted : List Bool → List ℕ → Standing
+counted lasting list r = if slice_index_or lasting r false then Some r else (if is_member list r then Some r else None)
+
+-- by block, each with its list
+abbrev pub counted_by : List Bool → List (List ℕ) → Beginnings
+counted_by lasting lists n = counted lasting (slice_index_or lists n [])
+
+abbrev pub list_of : Vec ℕ Global → List ℕ
+list_of list = list.items
 
 -- a block begins
 abbrev pub opened : Knowing → Knowing

@@ -1,12 +1,11 @@
 -- How the code of a block is made without its copies.
-use Rattle.std.specs.Prelude.{◌≡◌, ℕ, ◌<◌, ◌≤◌, Bool, List, [], ◌∷◌, ◌++◌, drop, length, map, Option, Some, None, option_map}
-use Rattle.std.specs.List.{AllZip}
+use Rattle.std.specs.Prelude.{◌≡◌, ℕ, ◌<◌, ◌≤◌, Bool, List, [], ◌∷◌, ◌++◌, drop, length, map, Option, Some, None, All, option_map, slice_index_or}
 use Rattle.low_ir.specs.Code.{Operand, Base, Address, Block, End, Instr, Note}
 use Rattle.low_ir.specs.Effects.{address_reads, base_reads, offset_reads}
-use Rattle.low_ir.specs.Formed.{addresses, end_operands}
-use Rattle.low_copied.specs.Copies.{BlockCopied, Code, Finds, Follows, KeepsBase, KeepsBases, operands}
+use Rattle.low_ir.specs.Formed.{LeadsOn, addresses, end_operands}
+use Rattle.low_copied.specs.Copies.{Beginnings, BlockCopied, BlocksCopied, Code, Fewer, Finds, Follows, KeepsBase, KeepsBases, Standing, operands}
 use Rattle.low_copied.specs.Renaming.{renamed_address, renamed_base, renamed_end, renamed_instr, renamed_operand}
-use Rattle.low_copies.specs.Knowing.{IsKnown, Knowing, lasts, stands}
+use Rattle.low_copies.specs.Knowing.{IsKnown, Knowing, counted, counted_by, stands}
 
 abbrev pub or_own : ℕ → Option ℕ → ℕ
 or_own r None = r
@@ -49,13 +48,13 @@ pub record IsEnd (k : Knowing) (end new : End ℕ) : Type 0 where
   pub finds : Finds (stands k) (name_in k) (end_operands end)
 
 -- a block's code that is made so far: with what follows for its rest it follows for all of it
-pub record IsMade (size : ℕ) (lasting : List Bool) (end : End ℕ) (whole rest : Code) (k : Knowing) (made : Code) : Type 0 where
+pub record IsMade (size : ℕ) (lasting : List Bool) (out : Beginnings) (first : Standing) (end : End ℕ) (whole rest : Code) (k : Knowing) (made : Code) : Type 0 where
   pub known : IsKnown size lasting k
-  pub follows : (new : End ℕ) (js : Code) → Follows size (lasts lasting) end new rest (stands k) js → Follows size (lasts lasting) end new whole (lasts lasting) (made ++ js)
+  pub follows : (new : End ℕ) (js : Code) → Follows size out end new rest (stands k) js → Follows size out end new whole first (made ++ js)
 
 -- instructions were done, and those behind them are left
 abbrev pub Goes : Code → Knowing → Code → Code → Knowing → Code → Type 0
-Goes before k made after now more = (size : ℕ) (lasting : List Bool) (end : End ℕ) (whole : Code) → IsMade size lasting end whole before k made → IsMade size lasting end whole after now more
+Goes before k made after now more = (size : ℕ) (lasting : List Bool) (out : Beginnings) (first : Standing) (end : End ℕ) (whole : Code) → IsMade size lasting out first end whole before k made → IsMade size lasting out first end whole after now more
 
 -- a renamed instruction behind others
 pub record IsPut (k : Knowing) (into : ℕ) (i : Instr ℕ Note) (before now : Code) : Type 0 where
@@ -69,17 +68,25 @@ pub record Continues (code : Code) (at : ℕ) (k : Knowing) (made : Code) (now :
   pub inside : next ≤ length code
   pub goes : Goes (drop at code) k made (drop next code) now more
 
--- a block without its copies
-pub record IsBlock (k now : Knowing) (b c : Block ℕ Note) : Type 0 where
-  pub by : (size : ℕ) (lasting : List Bool) → IsKnown size lasting k → BlockCopied size (lasts lasting) b c × IsKnown size lasting now
+-- a block begins, which counts on the registers of a list
+pub record Begins (list : List ℕ) (k now : Knowing) : Type 0 where
+  pub by : (size : ℕ) (lasting : List Bool) → IsKnown size lasting k → IsKnown size lasting now × Fewer (counted lasting list) (stands now)
 
-pub record AreBlocks (size : ℕ) (k : Knowing) (bs cs : List (Block ℕ Note)) : Type 0 where
-  pub by : (lasting : List Bool) → IsKnown size lasting k → AllZip (BlockCopied size (lasts lasting)) bs cs
+-- the registers of the lists of blocks to which an end leads stand in their own places
+pub record IsReady (lists : List (List ℕ)) (k : Knowing) (end : End ℕ) : Type 0 where
+  pub by : (n : ℕ) → LeadsOn end n → All (λ r. stands k r ≡ Some r) (slice_index_or lists n [])
+
+-- the block of a number without its copies
+pub record IsBlock (lists : List (List ℕ)) (n : ℕ) (k now : Knowing) (b c : Block ℕ Note) : Type 0 where
+  pub by : (size : ℕ) (lasting : List Bool) → IsKnown size lasting k → BlockCopied size (counted_by lasting lists) n b c × IsKnown size lasting now
+
+pub record AreBlocks (size : ℕ) (lists : List (List ℕ)) (k : Knowing) (bs cs : List (Block ℕ Note)) : Type 0 where
+  pub by : (lasting : List Bool) → IsKnown size lasting k → BlocksCopied size (counted_by lasting lists) 0 bs cs
 
 -- operands so far: with what is found for the rest, all are found
 pub record AreSoFar (k : Knowing) (rest whole done : List (Operand ℕ)) : Type 0 where
   pub by : (ys : List (Operand ℕ)) → AreOperands k rest ys → AreOperands k whole (done ++ ys)
 
 -- blocks so far
-pub record AreBlocksSoFar (size : ℕ) (k now : Knowing) (bs cs : List (Block ℕ Note)) : Type 0 where
-  pub by : (lasting : List Bool) → IsKnown size lasting k → AllZip (BlockCopied size (lasts lasting)) bs cs × IsKnown size lasting now
+pub record AreBlocksSoFar (size : ℕ) (lists : List (List ℕ)) (k now : Knowing) (bs cs : List (Block ℕ Note)) : Type 0 where
+  pub by : (lasting : List Bool) → IsKnown size lasting k → BlocksCopied size (counted_by lasting lists) 0 bs cs × IsKnown size lasting now

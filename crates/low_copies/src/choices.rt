@@ -3,7 +3,7 @@ use super::copy::{Copied, copy_at};
 use super::known::Known;
 use super::reading::{Reader, read_end, read_instr};
 use super::renaming::{writes, written};
-use low_ir::{Block, Instr};
+use low_ir::{Block, End, Instr};
 use std::alloc::Global;
 use wcc_base::Memory;
 
@@ -27,6 +27,8 @@ pub struct Behind {
     written: Vec<u64>,
     /// The first place of the block.
     first: u64,
+    /// A place behind its last one, where the blocks to which it leads read what they count on.
+    last: u64,
     /// The place.
     at: u64,
 }
@@ -39,7 +41,7 @@ fn place_of(places: &[u64], register: u32) -> u64 {
 }
 
 impl Reader for Behind {
-    fn read(&mut self, register: u32) {
+    fn read(&mut self, register: u32) -> Result<(), Memory> {
         let first = self.first;
         let at = self.at;
         if let Some(place) = self.read.get_mut(register as usize) {
@@ -47,6 +49,7 @@ impl Reader for Behind {
                 *place = at;
             }
         }
+        Ok(())
     }
 }
 
@@ -57,6 +60,7 @@ impl Behind {
             read: vec![in alloc; 0u64; registers as usize]?,
             written: vec![in alloc; 0u64; registers as usize]?,
             first: 1,
+            last: 1,
             at: 1,
         })
     }
@@ -71,17 +75,40 @@ impl Behind {
         }
     }
 
-    fn pass(&mut self, instr: &Instr) {
+    fn pass(&mut self, instr: &Instr) -> Result<(), Memory> {
         if let Some(register) = written(instr) {
             self.write(register);
         }
-        read_instr(self, instr);
+        read_instr(self, instr)
     }
 
-    /// Whether a register may stand in another one from here on: it isn't read any more when that is written.
+    /// What a block counts on to which this one leads is read.
+    fn lead_to(&mut self, lists: &[Vec<u32>], block: u32) -> Result<(), Memory> {
+        if let Some(list) = lists.get(block as usize) {
+            for register in list {
+                self.read(*register)?;
+            }
+        }
+        Ok(())
+    }
+
+    fn lead_on(&mut self, lists: &[Vec<u32>], end: End) -> Result<(), Memory> {
+        match end {
+            End::Jump { block } => self.lead_to(lists, block),
+            End::Branch { taken, other, .. } => {
+                self.lead_to(lists, taken)?;
+                self.lead_to(lists, other)
+            }
+            End::Return { .. } => Ok(()),
+        }
+    }
+
+    /// Whether a register may stand in another one from here on: no block behind counts on it, and it isn't read any more when the
+    /// other one is written.
     fn may_stand(&self, register: u32, place: u32) -> bool {
+        let read = place_of(&self.read, register);
         let next = place_of(&self.written, place);
-        next < self.first || place_of(&self.read, register) <= next
+        read != self.last && (next < self.first || read <= next)
     }
 
     /// What becomes of a copy that stands at this place of the code.
@@ -120,12 +147,16 @@ impl Behind {
         &mut self,
         alloc: Global,
         known: &Known,
+        lists: &[Vec<u32>],
         block: &Block,
     ) -> Result<Vec<Choice>, Memory> {
         let places = block.code.len();
         let mut choices = vec![in alloc; Choice::Stays; places]?;
-        self.at = self.first.wrapping_add(places as u64);
-        read_end(self, block.end);
+        self.last = self.first.wrapping_add(places as u64).wrapping_add(1);
+        self.at = self.last;
+        self.lead_on(lists, block.end)?;
+        self.at = self.at.wrapping_sub(1);
+        read_end(self, block.end)?;
         for at in (0..places).rev() {
             self.at = self.at.wrapping_sub(1);
             let new = self.choice_of(known, &block.code, at);
@@ -133,10 +164,10 @@ impl Behind {
                 *choice = new;
             }
             if let Some(instr) = block.code.get(at) {
-                self.pass(instr);
+                self.pass(instr)?;
             }
         }
-        self.first = self.first.wrapping_add(places as u64).wrapping_add(1);
+        self.first = self.last.wrapping_add(1);
         Ok(choices)
     }
 }

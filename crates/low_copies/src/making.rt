@@ -6,12 +6,14 @@ ghost use Rattle.low_ir.specs.Formed.{written_by};
 ghost use Rattle.low_ir.specs.Programs.{low_of};
 ghost use Rattle.low_ir.specs.View.{block_of, function_of, instr_of};
 ghost use Rattle.low_copied.specs.Copies.{Code, FunctionCopied, IsCopied, MayBeCopied};
+ghost use Rattle.low_copies.specs.Knowing.{list_of};
 ghost use Rattle.low_copies.specs.Making.{AreBlocks, Continues, Goes, IsBlock, IsPut};
 
+use super::beginning::{begin, is_own, leads_on, list_at};
 use super::choices::{Behind, Choice};
 use super::copy::copy_at;
+use super::counting::{Counted, counted_in};
 use super::known::Known;
-use super::lasting::lasting_in;
 use super::renaming::{renamed, renamed_end, writes, written};
 use low_ir::{Block, Function, Instr, Loop, Low};
 use std::alloc::Global;
@@ -176,6 +178,15 @@ fn leave_copy(known: &mut Known, code: &[Instr], at: usize) -> Option<usize>
     }
 }
 
+/// Whether the copy at a place is left out: as was chosen, if what it is a copy of stands in its own place; it may have been
+/// delivered elsewhere.
+fn leaves_out(known: &Known, code: &[Instr], choices: &[Choice], at: usize) -> bool {
+    match copy_at(code, at) {
+        None => false,
+        Some(copy) => is_left_out(choice_at(choices, at)) && is_own(known, copy.source),
+    }
+}
+
 /// The next instruction of a block, as was chosen; or it can't be done. Answers where the code goes on.
 fn put_next(
     alloc: Global,
@@ -190,7 +201,7 @@ fn put_next(
 {
     if is_delivered(choice_at(choices, at + 1)) {
         put_pair(alloc, known, code, at, made)
-    } else if is_left_out(choice_at(choices, at)) {
+    } else if leaves_out(known, code, choices, at) {
         Ok(leave_copy(known, code, at))
     } else {
         put_single(alloc, known, code, at, made)
@@ -222,15 +233,22 @@ fn block_of(
     alloc: Global,
     known: &mut Known,
     behind: &mut Behind,
+    lists: &[Vec<u32>],
+    number: usize,
     block: &Block,
 ) -> Result<Option<Block>, Memory>
-    ensures { IfOk result (λ o. IfSome o (λ b. IsBlock known.old known.new (block_of block.now) (block_of b))) }
+    ensures { IfOk result (λ o. IfSome o (λ b. IsBlock (map list_of lists.now) number known.old known.new (block_of block.now) (block_of b))) }
 {
-    let choices = behind.choices(alloc, known, block)?;
-    known.open();
+    let choices = behind.choices(alloc, known, lists, block)?;
+    if !begin(known, list_at(lists, number)) {
+        return Ok(None);
+    }
     let Some(code) = code_of(alloc, known, &block.code, &choices)? else {
         return Ok(None);
     };
+    if !leads_on(known, lists, block.end) {
+        return Ok(None);
+    }
     let Some(end) = renamed_end(known, block.end) else {
         return Ok(None);
     };
@@ -246,14 +264,15 @@ fn blocks_of(
     alloc: Global,
     known: &mut Known,
     registers: u32,
+    lists: &[Vec<u32>],
     blocks: &[Block],
 ) -> Result<Option<Vec<Block>>, Memory>
-    ensures { IfOk result (λ o. IfSome o (λ made. AreBlocks registers known.old (map block_of blocks.now) (map block_of made.items))) }
+    ensures { IfOk result (λ o. IfSome o (λ made. AreBlocks registers (map list_of lists.now) known.old (map block_of blocks.now) (map block_of made.items))) }
 {
     let mut behind = Behind::new(alloc, registers)?;
     let mut made = Vec::new(alloc);
-    for block in blocks {
-        let Some(new) = block_of(alloc, known, &mut behind, block)? else {
+    for (number, block) in blocks.iter().enumerate() {
+        let Some(new) = block_of(alloc, known, &mut behind, lists, number, block)? else {
             return Ok(None);
         };
         made.push(new)?;
@@ -286,8 +305,9 @@ fn function_of(alloc: Global, function: &Function) -> Result<Option<Function>, M
     ensures { IfOk result (λ o. IfSome o (λ g. FunctionCopied (function_of function.now) (function_of g))) }
 {
     let registers = function.registers;
-    let mut known = Known::new(alloc, lasting_in(alloc, function)?, registers)?;
-    let Some(blocks) = blocks_of(alloc, &mut known, registers, &function.blocks)? else {
+    let Counted { lasting, lists } = counted_in(alloc, function)?;
+    let mut known = Known::new(alloc, lasting, registers)?;
+    let Some(blocks) = blocks_of(alloc, &mut known, registers, &lists, &function.blocks)? else {
         return Ok(None);
     };
     Ok(Some(Function {

@@ -15,8 +15,9 @@ use Rattle.low_ir.specs.Turns.{mark_at, marks_passed}
 use Rattle.low_ir.proofs.InSlots.{slots_assigned}
 use Rattle.low_places.proofs.Follow.{carried}
 use Rattle.low_places.proofs.Ways.{all_safe}
-use Rattle.low_copied.specs.Copies.{BlockCopied, FunctionCopied, IsCopied, KeepsBase, KeepsBases, MayBeCopied}
+use Rattle.low_copied.specs.Copies.{FunctionCopied, IsCopied, KeepsBase, KeepsBases, MayBeCopied}
 use Rattle.low_copied.specs.Renaming.{renamed_address, renamed_base, renamed_instr}
+use Rattle.low_copied.proofs.Blocks.{SomeCopied, copied_blocks}
 use Rattle.low_copied.proofs.Costs.{costs}
 use Rattle.low_copied.proofs.Formed.{blocks_keep, formed, mark_same, opening_same}
 use Rattle.low_copied.proofs.Lists.{as_long, before}
@@ -48,7 +49,7 @@ blocks_same R mark (b ∷ bs) (c ∷ cs) h =
     ∙ sym (sum_by-cons marks_at b bs)
 
 marks_same : (fn gn : Function ℕ Note) → FunctionCopied fn gn → sum_by marks_at gn.blocks ≡ sum_by marks_at fn.blocks
-marks_same fn gn h = blocks_same (BlockCopied fn.size h.out) (λ b c r. r.mark) fn.blocks gn.blocks h.blocks
+marks_same fn gn h = blocks_same (SomeCopied fn.size h.out) (λ b c r. r.copied.mark) fn.blocks gn.blocks (copied_blocks fn gn h)
 
 module _ (p : high.Program) (q r : Low) (copied : IsCopied q r) where
   passed_same : (trace : List Began) → marks_passed r trace ≡ marks_passed q trace
@@ -102,7 +103,7 @@ module _ (p : high.Program) (q r : Low) (copied : IsCopied q r) where
     access_kept name into (Call d g args note) keeps all = none_there
 
     accesses_kept : All (AccessesOf p q f h fn) fn.blocks → All (AccessesOf p r f h gn) gn.blocks
-    accesses_kept all = blocks_keep Old New access_kept fn.size same.out fn.blocks gn.blocks same.blocks all
+    accesses_kept all = blocks_keep Old New access_kept fn.size same.out fn.blocks gn.blocks (copied_blocks fn gn same) all
 
   comes : (fn gn : Function ℕ Note) → FunctionCopied fn gn → ComesFrom p q fn → ComesFrom p r gn
   comes fn gn same k =

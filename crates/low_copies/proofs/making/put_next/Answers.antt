@@ -3,5 +3,5 @@ use Rattle.std.proofs.lemmas.Option.{IfSome_then}
 use Rattle.low_ir.specs.View.{instr_of}
 use Rattle.low_copies.proofs.making.put_next.Goals as goal
 
-pub returns-then-is_left_out : goal.returns-then-is_left_out
-returns-then-is_left_out c = IfSome_then c.leave_copy.result c.leave_copy.ensures (λ next h. h (map instr_of c.args.made.now.items))
+pub returns-then-leaves_out : goal.returns-then-leaves_out
+returns-then-leaves_out c = IfSome_then c.leave_copy.result c.leave_copy.ensures (λ next h. h (map instr_of c.args.made.now.items))
