@@ -5,16 +5,19 @@ use Rattle.low_ir.specs.Programs.{low_of}
 use Rattle.high_ir.specs.Programs.{program_of}
 use Rattle.low_registers.specs.Spills.{HaveFewSlots, SpillWhereCrowded}
 use Rattle.lower_law.specs.Programs.{KeepsProgram}
-use Rattle.lower_copied.proofs.Keeping.{keeps}
+use Rattle.lower_copied.proofs.Keeping.{keeps as keeps_copied}
+use Rattle.lower_reloaded.proofs.Keeping.{keeps as keeps_reloaded}
 use Rattle.compile_image.proofs.making.code_of.Goals as goal
 
 pub returns : goal.returns
 returns c =
     let code = c.in_ok-code.code in
     let same = sym c.in_ok-code.ensures.low in
-    let kept = keeps (program_of c.args.program.now) (low_of c.in_ok-plain.plain) (low_of c.in_ok-low.low) c.in_ok-plain.ensures.keeps c.in_ok-low.ensures in
+    let p = program_of c.args.program.now in
+    let loaded = keeps_reloaded p (low_of c.in_ok-plain.plain) (low_of c.in_ok-loaded.loaded) c.in_ok-plain.ensures.keeps c.in_ok-loaded.ensures in
+    let kept = keeps_copied p (low_of c.in_ok-loaded.loaded) (low_of c.in_ok-low.low) loaded c.in_ok-low.ensures in
     record {
-      keeps_program = subst (λ (l : Low). KeepsProgram (program_of c.args.program.now) (low_of l)) same kept;
+      keeps_program = subst (λ (l : Low). KeepsProgram p (low_of l)) same kept;
       spills = subst (λ (l : Low). SpillWhereCrowded (low_of l) (placings_of code)) same c.in_ok-code.ensures.spills;
       slots = subst (λ (l : Low). HaveFewSlots (low_of l) (placings_of code)) same c.in_ok-code.ensures.slots;
     }

@@ -1,0 +1,9 @@
+pub mod Lists
+pub mod Places
+pub mod Effects
+pub mod Words
+pub mod Small
+pub mod Truth
+pub mod Serving
+pub mod Costs
+pub mod Formed

@@ -1,0 +1,131 @@
+// What is known as a block goes on.
+ghost use Rattle.std.specs.Prelude.{◌≡◌, Some, map, slice_set, IfOk, IfSome};
+ghost use Rattle.low_ir.specs.View.{address_of, claim_of, instr_of};
+ghost use Rattle.low_reloaded.specs.Facts.{Keeps, Knows, KnowsNothing, Learns};
+ghost use Rattle.low_reloads.specs.Making.{Answers, AreKept, IsAdded, fact_of, known_of};
+
+use super::facts::{Fact, stays, taught};
+use super::tests::same_load;
+use low_ir::instruction::{Address, Instr};
+use low_ir::object::Kind;
+use std::alloc::Global;
+use std::marker::Model;
+use wcc_base::Memory;
+
+/// How many facts are known at once.
+const FACTS: usize = 16;
+
+/// The newest facts.
+#[derive(Drop)]
+pub struct Known {
+    facts: Vec<Option<Fact>>,
+    /// Where the next one goes, in place of the oldest one.
+    next: usize,
+}
+
+impl Model for Known {
+    ghost use Rattle.low_reloaded.specs.Facts.{Known};
+    ghost use Rattle.low_reloads.specs.Making.{known_of};
+
+    ghost Value = { Known };
+
+    ghost view = { λ k. known_of k.facts.items };
+}
+
+/// A fact behind an instruction, where it is as true as before.
+fn left(claims: &[Vec<u32>], instr: &Instr, slot: Option<Fact>) -> Option<Fact>
+    ensures { IfSome result (λ f. (slot ≡ Some f) × Keeps (map claim_of claims.now) (instr_of instr.now) (fact_of f)) }
+{
+    match slot {
+        None => None,
+        Some(fact) => {
+            if stays(claims, instr, fact) {
+                Some(fact)
+            } else {
+                None
+            }
+        }
+    }
+}
+
+/// The register of a fact, if that is of a load of this kind from this address.
+fn answer(slot: Option<Fact>, kind: Kind, address: Address) -> Option<u32>
+    ensures { IfSome result (Answers slot kind (address_of address)) }
+{
+    match slot {
+        None => None,
+        Some(fact) => {
+            if same_load(fact.kind, fact.address, kind, address) {
+                Some(fact.register)
+            } else {
+                None
+            }
+        }
+    }
+}
+
+/// The place of the next fact: behind the last one there are again the oldest.
+fn place(next: usize, places: usize) -> usize {
+    if next < places { next } else { 0 }
+}
+
+fn set_fact(facts: &mut Vec<Option<Fact>>, at: usize, new: Option<Fact>)
+    ensures { facts.new.items ≡ slice_set facts.old.items at new }
+{
+    if let Some(fact) = facts.get_mut(at) {
+        *fact = new;
+    }
+}
+
+/// Forgets what an instruction may change.
+fn forget(facts: &mut Vec<Option<Fact>>, claims: &[Vec<u32>], instr: &Instr)
+    ensures { AreKept (map claim_of claims.now) (instr_of instr.now) (known_of facts.old.items) (known_of facts.new.items) }
+{
+    for at in 0..facts.len() {
+        let slot = left(claims, instr, facts[at]);
+        set_fact(facts, at, slot);
+    }
+}
+
+impl Known {
+    /// Nothing is known.
+    pub fn new(alloc: Global) -> Result<Known, Memory>
+        ensures { IfOk result (λ k. KnowsNothing k) }
+    {
+        Ok(Known {
+            facts: vec![in alloc; None; FACTS]?,
+            next: 0,
+        })
+    }
+
+    /// The register that holds what a load would give, if one is known.
+    pub fn find(&self, kind: Kind, address: Address) -> Option<u32>
+        ensures { IfSome result (λ r. Knows self.now (record { kind = kind; address = address_of address; register = r })) }
+    {
+        for at in 0..self.facts.len() {
+            if let Some(register) = answer(self.facts[at], kind, address) {
+                return Some(register);
+            }
+        }
+        None
+    }
+
+    /// One fact more, in place of the oldest one.
+    fn add(&mut self, fact: Fact)
+        ensures { IsAdded (fact_of fact) self.old self.new }
+    {
+        let at = place(self.next, self.facts.len());
+        set_fact(&mut self.facts, at, Some(fact));
+        self.next = at.wrapping_add(1);
+    }
+
+    /// What is known behind an instruction.
+    pub fn pass(&mut self, claims: &[Vec<u32>], instr: &Instr)
+        ensures { Learns (map claim_of claims.now) self.old (instr_of instr.now) self.new }
+    {
+        forget(&mut self.facts, claims, instr);
+        if let Some(fact) = taught(instr) {
+            self.add(fact);
+        }
+    }
+}
