@@ -82,8 +82,8 @@ module _ (c : Code) where
   jump_quiet : (far : Bool) (link at to a : ℕ) (low : Bool) → HasWords c at (jump_words far link at to) → JumpWord far at a low → LoadsAt a → ⊥
   jump_quiet false link at to a false h w q = other a at (instruction Jal link 0 0 (offset at to)) w h.0 refl q
   jump_quiet false link at to a true h w q = absurd w
-  jump_quiet true link at to a false h w q = other a at (instruction Auipc 7 0 0 (upper_part at to)) w h.0 refl q
-  jump_quiet true link at to a true h w q = other a (at + 4) (instruction Jalr link 7 0 (lower_part at to)) w h.1.0 refl q
+  jump_quiet true link at to a false h w q = other a at (instruction Auipc 5 0 0 (upper_part at to)) w h.0 refl q
+  jump_quiet true link at to a true h w q = other a (at + 4) (instruction Jalr link 5 0 (lower_part at to)) w h.1.0 refl q
 
   condition_quiet : (k : Condition) → accesses (row_of (branch_op k)).class ≡ false
   condition_quiet Equal = refl

@@ -15,7 +15,7 @@ use Rattle.low_ir.specs.Code.{Object}
 use Rattle.low_ir.specs.Places.{Placed}
 use Rattle.asm_room.proofs.FunctionLemmas.{sizes_kept}
 use Rattle.image_frames.specs.Frames.{frames_of}
-use Rattle.image_frames.specs.Memories.{Placement, memory_of, region_by}
+use Rattle.image_frames.specs.Memories.{Placement, region_by}
 use Rattle.image_sizes.specs.Sizes.{code_size, sizes_placed}
 use Rattle.image_definition.specs.Images.{image_in}
 use Rattle.claims_accesses.specs.Lines.{same_region}
@@ -68,7 +68,7 @@ module _ (pl : Placement) (p : Placed) where
   functions_taken f zero = omega arith
   functions_taken f (suc n) =
       let one = one_taken (slice_index_or pl.functions f false) (function_item l f).region (function_item l f).size (code_outside f) in
-      let same = sizes_kept (frames_of p) (memory_of pl p).objects [] p f in
+      let same = sizes_kept l.memory (record { frames = frames_of p; objects = []; second = 0 }) p f refl in
       let next : f + 1 ≡ suc f = omega arith in
       let rest = subst (λ k. scratchpad_size (map (function_item l) (range_with_len (f + 1) n)) ≤ sizes_placed pl.functions k (map (code_size p) (range_with_len (f + 1) n))) next (functions_taken (f + 1) n) in
       let own = subst (λ m. (if same_region Spm (function_item l f).region then (function_item l f).size else 0) ≤ (if slice_index_or pl.functions f false then m else 0)) same one in
