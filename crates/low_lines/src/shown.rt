@@ -1,6 +1,6 @@
-// Functions, as lines have them.
+// Lines that have functions.
 use low_ir::instruction::{Address, Base};
-use low_ir::{Block, End, Function, Instr, Operand};
+use low_ir::{Block, End, Function, Instr, Loop, Operand};
 use std::alloc::Global;
 use wcc_base::Memory;
 
@@ -155,12 +155,27 @@ fn put_parameters(alloc: Global, shown: &mut String, parameters: &[u32]) -> Resu
     Ok(())
 }
 
+/// The latch of the loop of which a block is the header, if it is one.
+fn put_loop(alloc: Global, shown: &mut String, loops: &[Loop], header: u32) -> Result<(), Memory> {
+    for each in loops {
+        if each.header == header {
+            let part = format!(in alloc; "loop {}, ", each.latch)?;
+            shown.push_str(part.as_str())?;
+        }
+    }
+    Ok(())
+}
+
+/// The line of a function.
 pub fn function_shown(alloc: Global, function: &Function) -> Result<String, Memory> {
     let mut shown = format!(in alloc; "{};", function.registers)?;
     put_parameters(alloc, &mut shown, &function.parameters)?;
+    let mut header = 0u32;
     for block in &function.blocks {
         shown.push_str("; ")?;
+        put_loop(alloc, &mut shown, &function.loops, header)?;
         put_block(alloc, &mut shown, block)?;
+        header = header.wrapping_add(1);
     }
     Ok(shown)
 }
