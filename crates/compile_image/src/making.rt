@@ -21,6 +21,7 @@ use low_live::live;
 use low_make::lower;
 use low_registers::allocate;
 use low_reloads::without_reloads;
+use low_threads::threaded;
 use spm_placement::placement;
 use std::alloc::Global;
 use wcc_base::Memory;
@@ -33,13 +34,14 @@ pub fn planned(alloc: Global, source: &Source) -> Result<Carried, Memory>
     make(alloc, &source.typed, &source.facts)
 }
 
-/// A program in the low form without needless loads and copies, with machine registers for its registers, and slots where there are
-/// too few.
+/// A program in the low form, on short ways and without needless loads and copies, with machine registers for its registers, and slots
+/// where there are too few.
 fn code_of(alloc: Global, program: &High) -> Result<LowReg, Memory>
     ensures { IfOk result (IsLowered (program_of program.now)) }
 {
     let plain = lower(alloc, program)?;
-    let loaded = without_reloads(alloc, plain)?;
+    let short = threaded(alloc, plain)?;
+    let loaded = without_reloads(alloc, short)?;
     let low = without_copies(alloc, loaded)?;
     let live = live(alloc, &low)?;
     let code = allocate(alloc, low, &live)?;

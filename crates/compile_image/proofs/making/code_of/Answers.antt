@@ -7,6 +7,7 @@ use Rattle.low_registers.specs.Spills.{HaveFewSlots, SpillWhereCrowded}
 use Rattle.lower_law.specs.Programs.{KeepsProgram}
 use Rattle.lower_copied.proofs.Keeping.{keeps as keeps_copied}
 use Rattle.lower_reloaded.proofs.Keeping.{keeps as keeps_reloaded}
+use Rattle.lower_threaded.proofs.Keeping.{keeps as keeps_threaded}
 use Rattle.compile_image.proofs.making.code_of.Goals as goal
 
 pub returns : goal.returns
@@ -14,7 +15,8 @@ returns c =
     let code = c.in_ok-code.code in
     let same = sym c.in_ok-code.ensures.low in
     let p = program_of c.args.program.now in
-    let loaded = keeps_reloaded p (low_of c.in_ok-plain.plain) (low_of c.in_ok-loaded.loaded) c.in_ok-plain.ensures.keeps c.in_ok-loaded.ensures in
+    let short = keeps_threaded p (low_of c.in_ok-plain.plain) (low_of c.in_ok-short.short) c.in_ok-plain.ensures.keeps c.in_ok-short.ensures in
+    let loaded = keeps_reloaded p (low_of c.in_ok-short.short) (low_of c.in_ok-loaded.loaded) short c.in_ok-loaded.ensures in
     let kept = keeps_copied p (low_of c.in_ok-loaded.loaded) (low_of c.in_ok-low.low) loaded c.in_ok-low.ensures in
     record {
       keeps_program = subst (λ (l : Low). KeepsProgram p (low_of l)) same kept;
