@@ -42,7 +42,8 @@ fn code_of(alloc: Global, program: &High) -> Result<LowReg, Memory>
     let plain = lower(alloc, program)?;
     let short = threaded(alloc, plain)?;
     let loaded = without_reloads(alloc, short)?;
-    let low = without_copies(alloc, loaded)?;
+    let brief = without_copies(alloc, loaded)?;
+    let low = threaded(alloc, brief)?;
     let live = live(alloc, &low)?;
     let code = allocate(alloc, low, &live)?;
     Ok(code)

@@ -110,6 +110,7 @@ fn print_places(
     let low = threaded(rt.alloc(), low)?;
     let low = without_reloads(rt.alloc(), low)?;
     let low = without_copies(rt.alloc(), low)?;
+    let low = threaded(rt.alloc(), low)?;
     let code = with_places(rt.alloc(), low, places)?;
     let printed = print_both(rt, name, input, meant, &made.copies.marks, &code);
     drop(code);
@@ -159,6 +160,7 @@ fn lowered(alloc: Global, program: &High, places: Places) -> Result<LowReg, Memo
     let low = threaded(alloc, low)?;
     let low = without_reloads(alloc, low)?;
     let low = without_copies(alloc, low)?;
+    let low = threaded(alloc, low)?;
     with_places(alloc, low, places)
 }
 
