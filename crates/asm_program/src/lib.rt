@@ -4,8 +4,8 @@
 //! `specs/` is to be read in this order: which machine registers are used, and how words and addresses stand
 //! in immediates (`Numbers`); frames, one place in RAM for each function (`Frames`); how operands come into
 //! registers and results to their places (`Operands`); the code of instructions and calls (`Emission`); of
-//! blocks, functions and the start, and the graph that they keep to (`Functions`); what is taken from the
-//! form of the program (`Formed`).
+//! blocks, functions and the start, and the graph that they keep to (`Functions`); how many blocks have a mark
+//! (`Marked`); what is taken from the form of the program (`Formed`).
 //!
 //! A function saves, at its entry, the registers that it changes and others need, and loads them before it
 //! returns; a call saves those that it keeps and passes arguments in. An argument goes straight into the

@@ -14,6 +14,7 @@ use Rattle.asm_items.specs.Items.{total}
 use Rattle.asm_items.specs.Placings.{block_of, blocks_of, start_of}
 use Rattle.asm_forms.specs.Regions.{functions_size}
 use Rattle.asm_graphs.specs.Laid.{spans_from}
+use Rattle.asm_program.specs.Marked.{functions_marked}
 use Rattle.low_ir.specs.Code.{Function, Low, Note, Object}
 use Rattle.low_ir.specs.Effects.{World}
 use Rattle.low_ir.specs.Formed.{IsLow}
@@ -37,7 +38,6 @@ use Rattle.claims_items.specs.Movables.{array_item, movables_of}
 use Rattle.claims_bounds.specs.Flows.{KeepsBounds}
 use Rattle.claims_shapes.specs.Shapes.{AreShaped}
 use Rattle.claims_bounds.specs.Bounds.{CanTurn}
-use Rattle.simulation_marks.specs.Laws.{functions_marked}
 use Rattle.layout_sizes.specs.Segments.{AreFilled}
 use Rattle.layout_sizes.specs.Items.{HasElements, MovesItems, item_sizes, sized}
 use Rattle.layout_sizes.specs.Laws.{AreCounted, AreSmall, LieWherePlaced}
