@@ -5,4 +5,5 @@ pub mod Emission
 pub mod Functions
 pub mod Marked
 pub mod Formed
+pub mod Ranges
 pub mod Laws

@@ -10,7 +10,7 @@ use Rattle.low_ir.specs.Places.{Placed}
 use Rattle.asm_program.specs.Formed.{IsProgram}
 use Rattle.asm_program.specs.Functions.{graph_of}
 use Rattle.asm_program.specs.Numbers.{ram}
-use Rattle.asm_sound.specs.Ranges.{InProgram}
+use Rattle.asm_program.specs.Ranges.{InProgram}
 use Rattle.image_frames.specs.Memories.{Placement, memory_of}
 use Rattle.image_frames.proofs.FrameLemmas.{frames_count}
 use Rattle.image_definition.specs.Images.{FitsImage, image_in, items_in, rows_in}

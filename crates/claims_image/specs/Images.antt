@@ -11,7 +11,7 @@ use Rattle.asm_graphs.specs.Laid.{IsImageOf, spans_from}
 use Rattle.low_ir.specs.Places.{Placed}
 use Rattle.asm_program.specs.Formed.{IsProgram}
 use Rattle.asm_program.specs.Functions.{graph_of}
-use Rattle.asm_sound.specs.Ranges.{InProgram}
+use Rattle.asm_program.specs.Ranges.{InProgram}
 use Rattle.image_frames.specs.Memories.{Placement, memory_of, regions_of}
 use Rattle.image_definition.specs.Images.{FitsImage, image_in, rows_in}
 use Rattle.claims_accesses.specs.Laws.{IsNamed}

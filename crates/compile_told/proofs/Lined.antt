@@ -16,7 +16,7 @@ use Rattle.asm_items.specs.Placings.{block_of, start_of}
 use Rattle.asm_forms.proofs.LikeLemmas.{formed_like}
 use Rattle.asm_graphs.specs.Graphs.{Graph}
 use Rattle.asm_graphs.proofs.ReachedLemmas.{reached}
-use Rattle.asm_placed.specs.Promised.{block_in}
+use Rattle.asm_graphs.specs.Promised.{block_in}
 use Rattle.asm_placed.proofs.Alike.{block_alike}
 use Rattle.asm_program.specs.Functions.{graph_of, program_items}
 use Rattle.claims_accesses.specs.Laws.{AreLines, AreTouched, HasLine}

@@ -11,7 +11,7 @@ use Rattle.asm_placed.specs.Written.{flash_words, in_scratchpad, scratchpad_word
 use Rattle.low_ir.specs.Places.{Placed}
 use Rattle.low_ir.specs.Room.{room}
 use Rattle.asm_program.specs.Frames.{Frame, no_frame}
-use Rattle.asm_sound.specs.Ranges.{IsSaving}
+use Rattle.asm_program.specs.Ranges.{IsSaving}
 use Rattle.image_frames.specs.Memories.{Placement, memory_of}
 use Rattle.image_frames.proofs.SavingLemmas.{saving}
 use Rattle.image_definition.specs.Images.{flash_bytes, formed_in, rows_in, row_size, scratchpad_bytes}

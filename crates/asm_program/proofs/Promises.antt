@@ -8,7 +8,7 @@ use Rattle.asm_program.specs.Formed.{IsProgram}
 use Rattle.asm_program.specs.Frames.{Memory, no_frame, frame_of}
 use Rattle.asm_program.specs.Functions.{PlacedFunction, no_function, function_in, is_leaf, leaves_at_once, at_once, blocks_from, leaving_blocks, function_items, functions_from, start_items, program_items, block_count, graph_of}
 use Rattle.asm_program.proofs.ItemLemmas.{items_keep, latches_jump, functions_length, of_function, of_start, blocks_length}
-use Rattle.asm_placed.specs.Promised.{Promised, blocks_in}
+use Rattle.asm_graphs.specs.Promised.{Promised, blocks_in}
 
 beyond : {A : Type 0} (xs : List A) (n : ℕ) (d : A) → length xs ≤ n → slice_index_or xs n d ≡ d
 beyond [] zero d h = refl
