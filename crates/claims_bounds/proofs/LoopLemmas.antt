@@ -23,7 +23,7 @@ use Rattle.claims_definition.specs.Laws.{IsClaimOf}
 use Rattle.claims_definition.specs.Listed.{Laid, claims_of, loops_of, placing}
 use Rattle.claims_definition.proofs.Claimed.{are_claims}
 use Rattle.claims_bounds.specs.Flows.{HasFlows}
-use Rattle.claims_shapes.specs.Shapes.{AreShaped}
+use Rattle.claims_definition.specs.Shapes.{AreShaped}
 use Rattle.path_fit.specs.Loops.{HeadsOwnLoop}
 use Rattle.path_places.proofs.FunctionLemmas.{is_back_at}
 use Rattle.path_counts.specs.Laws.{HasBounds}

@@ -11,7 +11,7 @@ use Rattle.low_ir.specs.Room.{weight}
 use Rattle.asm_program.specs.Functions.{PlacedFunction}
 use Rattle.claims_definition.specs.Listed.{Laid, claims_of, placing}
 use Rattle.claims_bounds.specs.Flows.{HasFlows}
-use Rattle.claims_shapes.specs.Shapes.{AreShaped}
+use Rattle.claims_definition.specs.Shapes.{AreShaped}
 use Rattle.path_conditions.specs.Bounding.{CanBound}
 
 -- a loop has to start no more often than it may, or may not start

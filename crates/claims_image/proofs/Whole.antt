@@ -19,7 +19,7 @@ use Rattle.claims_accesses.specs.Laws.{IsNamed}
 use Rattle.claims_definition.specs.Laws.{IsSettled}
 use Rattle.claims_definition.specs.Listed.{claims_of, placing}
 use Rattle.claims_definition.proofs.Sound.{claims_sound}
-use Rattle.claims_shapes.proofs.Fitting.{claims_fit}
+use Rattle.claims_definition.proofs.Fitting.{claims_fit}
 use Rattle.claims_image.specs.Images.{HasClaims, laid_of}
 
 module _ (pl : Placement) (p : Placed) (fits : FitsImage pl p) where

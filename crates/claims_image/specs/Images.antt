@@ -17,7 +17,7 @@ use Rattle.image_definition.specs.Images.{FitsImage, image_in, rows_in}
 use Rattle.claims_accesses.specs.Laws.{IsNamed}
 use Rattle.claims_definition.specs.Laws.{IsSettled}
 use Rattle.claims_definition.specs.Listed.{Laid, claims_of, placing}
-use Rattle.claims_shapes.specs.Shapes.{AreShaped}
+use Rattle.claims_definition.specs.Shapes.{AreShaped}
 
 abbrev pub laid_of : Placement → Placed → Laid
 laid_of pl p = record { program = p; memory = memory_of pl p; regions = regions_of pl p; rows = rows_in pl p }

@@ -26,8 +26,7 @@ use Rattle.image_definition.specs.Images.{image_in}
 use Rattle.claims_definition.specs.Listed.{Laid, claims_of}
 use Rattle.claims_definition.specs.Laws.{Rise}
 use Rattle.claims_image.specs.Images.{laid_of}
-use Rattle.claims_items.specs.Movables.{Movable, array_item, arrays_from, function_item, is_local, movables_of, unless}
-use Rattle.claims_movables.specs.Listed.{movable_of}
+use Rattle.claims_items.specs.Movables.{Movable, array_item, arrays_from, function_item, is_local, movables_of, unless, movable_of}
 use Rattle.high_pass.specs.Listing.{LoopEntry}
 use Rattle.high_pass.proofs.Elements.{All-map_back}
 use Rattle.facts_definitions.specs.declared.facts.Facts.{Facts}

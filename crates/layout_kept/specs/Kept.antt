@@ -36,7 +36,7 @@ use Rattle.claims_definition.specs.Listed.{Laid, accesses_of, claims_of, functio
 use Rattle.claims_items.specs.Laws.{IsMovable}
 use Rattle.claims_items.specs.Movables.{array_item, movables_of}
 use Rattle.claims_bounds.specs.Flows.{KeepsBounds}
-use Rattle.claims_shapes.specs.Shapes.{AreShaped}
+use Rattle.claims_definition.specs.Shapes.{AreShaped}
 use Rattle.claims_bounds.specs.Bounds.{CanTurn}
 use Rattle.layout_sizes.specs.Segments.{AreFilled}
 use Rattle.layout_sizes.specs.Items.{HasElements, MovesItems, item_sizes, sized}

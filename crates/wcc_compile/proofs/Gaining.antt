@@ -3,9 +3,8 @@ use Rattle.std.proofs.Common.{◌≡◌, ◌+◌, ◌*◌, ◌^◌, ◌≤◌, L
 use Rattle.rv_core.specs.Table.{Table, table_of}
 use Rattle.facts_front.specs.declared.reading.Source.{Source}
 use Rattle.code_flow_system.specs.declared.cert.Part.{Part}
-use Rattle.claims_items.specs.Movables.{Movable, movables_of}
-use Rattle.claims_movables.specs.declared.item.LaidItem.{LaidItem}
-use Rattle.claims_movables.specs.Listed.{movable_of}
+use Rattle.claims_items.specs.Movables.{Movable, movables_of, movable_of}
+use Rattle.claims_items.specs.declared.item.LaidItem.{LaidItem}
 use Rattle.claims_image.specs.Images.{laid_of}
 use Rattle.low_ir.specs.Places.{Placed}
 use Rattle.low_ir.specs.Placings.{placed_of}

@@ -17,7 +17,7 @@ use Rattle.asm_program.proofs.GraphLemmas.{in_map, with_loops}
 use Rattle.claims_definition.specs.Laws.{IsClaimOf, IsSettled}
 use Rattle.claims_definition.specs.Listed.{Laid, claims_of, loop_claim, loops_of, placing}
 use Rattle.claims_definition.proofs.Claimed.{are_claims}
-use Rattle.claims_shapes.specs.Shapes.{AreShaped, IsShape}
+use Rattle.claims_definition.specs.Shapes.{AreShaped, IsShape}
 
 contains_map : {A B : Type 0} (f : A → B) (xs : List A) (x : A) (n : ℕ) → n < length xs → slice_index_or xs n x ≡ x → Contains (map f xs) (f x)
 contains_map f [] x n low e = absurd (omega (arith, low))

@@ -1,4 +1,4 @@
-// What stands in the list.
+// What stands in a list of what may be moved.
 
 use rv_core::Region;
 use wcc_base::Items;
