@@ -5,13 +5,12 @@ use Rattle.facts_front.specs.Fronts.{IsSource}
 use Rattle.types_tree.specs.Tree as c
 use Rattle.plan_carried.specs.Sources.{planned_listing, source_behaviour}
 use Rattle.plan_checked.proofs.Sources.{checked}
-use Rattle.plan_elements.specs.Elements.{HasElements}
+use Rattle.high_ir.specs.Whole.{HasElements, IsWhole}
 use Rattle.plan_elements.proofs.Programs.{plan_some}
 use Rattle.plan_law.specs.Plans.{KeepsSource}
 use Rattle.plan_law.proofs.Law.{planned_keeps}
 use Rattle.high_ir.specs.Formed.{IsHigh}
 use Rattle.high_ir.specs.Tree.{Object, Program}
-use Rattle.high_ir.specs.Whole.{IsWhole}
 use Rattle.high_pass.specs.Composing.{Continues}
 use Rattle.high_pass.specs.Law.{FactorsWithin, IsLawful}
 use Rattle.high_pass.specs.Listing.{Listing}

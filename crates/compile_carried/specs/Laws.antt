@@ -1,11 +1,9 @@
 -- The plan of a source is carried, and so is what passes make of it.
-use Rattle.std.specs.Prelude.{ℕ, suc, ◌^◌, ◌<◌, List, All}
+use Rattle.std.specs.Prelude.{ℕ, suc, List}
 use Rattle.facts_definitions.specs.declared.facts.Facts.{Facts}
 use Rattle.facts_front.specs.Fronts.{IsSource}
 use Rattle.types_tree.specs.Tree as c
-use Rattle.plan_carried.specs.Sources.{source_behaviour}
 use Rattle.high_ir.specs.Formed.{IsHigh}
-use Rattle.high_ir.specs.Standing.{Bounded}
 use Rattle.high_ir.specs.Tree.{Program}
 use Rattle.high_pass.specs.Composing.{Continues}
 use Rattle.high_pass.specs.Law.{IsLawful}
@@ -21,7 +19,3 @@ abbrev pub PassesCarry : Type 0
 PassesCarry =
     (names : List (List ℕ)) (program : c.Program) (facts : Facts) (passes : ℕ) (old new : Program) (whole step made : Listing) → IsCarried names program facts passes old whole → IsHigh new → IsLawful old new step → Continues old new whole made
     → IsCarried names program facts (suc passes) new made
-
--- a source has few loops, so their numbers are small
-abbrev pub SourcesHaveFewLoops : Type 0
-SourcesHaveFewLoops = (source : List ℕ) (names : List (List ℕ)) (program : c.Program) (facts : Facts) → IsSource source names program facts → All (λ (l : Bounded). l.id < 2 ^ 26) (source_behaviour program names facts).loops
