@@ -27,7 +27,8 @@ use Rattle.claims_definition.specs.Shapes.{AreShaped}
 use Rattle.path_fit.specs.Loops.{HeadsOwnLoop}
 use Rattle.path_places.proofs.FunctionLemmas.{is_back_at}
 use Rattle.path_counts.specs.Laws.{HasBounds}
-use Rattle.claims_bounds.specs.Bounds.{CanTurn, IsBounded}
+use Rattle.claims_bounds.specs.Bounds.{IsBounded}
+use Rattle.low_ir.specs.Turns.{CanTurn}
 
 same_test : (a b : ℕ) → (a == b) ≡ true → a ≡ b
 same_test a b t = grind (arith, nat_tests, t)

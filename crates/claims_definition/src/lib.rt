@@ -2,7 +2,8 @@
 //! of functions.
 //!
 //! `specs/` has the functions in the order of their addresses (`Orders`), the claims (`Listed`), what is promised of
-//! them (`Laws`), and the shapes that loop claims have: from the header to the jump back (`Shapes`).
+//! them (`Laws`), the shapes that loop claims have: from the header to the jump back (`Shapes`), and what loose flows keep
+//! (`Flows`, which `claims_bounds` proves).
 //!
 //! Proved of a program whose functions lie in two rows: [`claims_are_sound`],
 //! [`claims_are_few`], [`accesses_are_listed`], [`accesses_have_lines`], [`loops_are_claimed`], [`marks_have_places`],

@@ -9,7 +9,8 @@ use Rattle.claims_definition.specs.Laws.{IsSettled}
 use Rattle.claims_definition.specs.Listed.{Laid}
 use Rattle.claims_image.specs.Images.{laid_of}
 use Rattle.claims_items.specs.Movables.{movables_of}
-use Rattle.layout_sizes.specs.Items.{HasElements, MovesItems, globals_size}
+use Rattle.layout_kept.specs.Items.{HasElements, globals_size}
+use Rattle.image_frames.specs.Placings.{MovesItems}
 use Rattle.spm_placement.specs.declared.item.Item.{Item}
 use Rattle.spm_placement.specs.Gains.{gained}
 use Rattle.spm_placement.specs.Placings.{AreApart}

@@ -24,7 +24,7 @@ use Rattle.image_frames.specs.Memories.{Placement}
 use Rattle.image_definition.specs.Images.{image_in}
 use Rattle.image_sizes.specs.Sizes.{HasRoom}
 use Rattle.layout_laid.specs.declared.laid.Laid as lays
-use Rattle.layout_sizes.specs.Items.{globals_size, instructions_in}
+use Rattle.layout_kept.specs.Items.{globals_size, instructions_in}
 use Rattle.lower_definition.specs.Objects.{object_of}
 use Rattle.simulation_marks.specs.Laws.{blocks_standing, functions_standing, has_mark}
 use Rattle.simulation_marks.proofs.Standing.{all_few, all_stand}

@@ -16,8 +16,8 @@ use Rattle.high_ir.specs.Words as high
 use Rattle.low_ir.specs.Arrays.{array_size}
 use Rattle.low_ir.specs.Kinds.{kind_bytes}
 use Rattle.lower_definition.specs.Objects.{kind_of, object_of, storage_of}
-use Rattle.layout_sizes.specs.Items.{globals_size, unless_local}
-use Rattle.layout_sizes.specs.Segments.{bytes_kept}
+use Rattle.layout_kept.specs.Items.{globals_size, unless_local}
+use Rattle.layout_kept.specs.Segments.{bytes_kept}
 use Rattle.compile_kept.specs.Limits.{global_bytes, global_object_bytes}
 
 -- a header, one for each segment, and their bytes

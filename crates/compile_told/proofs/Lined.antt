@@ -26,7 +26,7 @@ use Rattle.claims_accesses.proofs.Matching.{program_touched}
 use Rattle.claims_definition.specs.Listed.{Laid, accesses_of, claims_of, functions_of, placing, regions_of, touches_at}
 use Rattle.claims_image.specs.Images.{HasClaims}
 use Rattle.layout_kept.specs.Kept.{IsListed}
-use Rattle.layout_sizes.specs.Segments.{AreFilled}
+use Rattle.layout_kept.specs.Segments.{AreFilled}
 use Rattle.promise_report.specs.Compiled.{HasSegmentIn, IsLined}
 use Rattle.compile_names.proofs.Lists.{all_got, contained, got}
 use Rattle.compile_told.proofs.Loading.{Loads, LoadsAt, among_own, found, loads_by, touched_at, touched_like}

@@ -19,7 +19,7 @@ use Rattle.low_ir.specs.Code.{Function, Low, Note, Object}
 use Rattle.low_ir.specs.Effects.{World}
 use Rattle.low_ir.specs.Formed.{IsLow}
 use Rattle.low_ir.specs.Runs.{lrun}
-use Rattle.low_ir.specs.Turns.{IsGood, mark_count}
+use Rattle.low_ir.specs.Turns.{IsGood, mark_count, CanTurn}
 use Rattle.low_ir.specs.Places.{Placed, Placing, assignment, placed}
 use Rattle.low_ir.specs.Room.{room, weight}
 use Rattle.low_ir.specs.Spacing.{IsAssignment}
@@ -35,12 +35,12 @@ use Rattle.claims_definition.specs.Laws.{AreLoopClaims, AreRanges, HasPlaces, Is
 use Rattle.claims_definition.specs.Listed.{Laid, accesses_of, claims_of, functions_of, places_of, placing, regions_of, touches_at}
 use Rattle.claims_items.specs.Laws.{IsMovable}
 use Rattle.claims_items.specs.Movables.{array_item, movables_of}
-use Rattle.claims_bounds.specs.Flows.{KeepsBounds}
+use Rattle.claims_definition.specs.Flows.{KeepsBounds}
 use Rattle.claims_definition.specs.Shapes.{AreShaped}
-use Rattle.claims_bounds.specs.Bounds.{CanTurn}
-use Rattle.layout_sizes.specs.Segments.{AreFilled}
-use Rattle.layout_sizes.specs.Items.{HasElements, MovesItems, item_sizes, sized}
-use Rattle.layout_sizes.specs.Laws.{AreCounted, AreSmall, LieWherePlaced}
+use Rattle.layout_kept.specs.Segments.{AreFilled}
+use Rattle.layout_kept.specs.Items.{HasElements, item_sizes, sized}
+use Rattle.image_frames.specs.Placings.{MovesItems}
+use Rattle.layout_kept.specs.Images.{AreCounted, AreSmall, LieWherePlaced}
 use Rattle.claims_image.specs.Images.{HasClaims, laid_of}
 use Rattle.path_conditions.specs.Bounding.{CanBound}
 use Rattle.layout_kept.specs.Rooms.{KeepsRoom}

@@ -9,7 +9,7 @@ use Rattle.claims_image.specs.Images.{laid_of}
 use Rattle.low_ir.specs.Places.{Placed}
 use Rattle.low_ir.specs.Placings.{placed_of}
 use Rattle.low_ir.specs.Programs.{low_of}
-use Rattle.layout_sizes.specs.Items.{globals_size}
+use Rattle.layout_kept.specs.Items.{globals_size}
 use Rattle.promise_compiler.specs.declared.built.Options.{Options}
 use Rattle.spm_placement.specs.declared.item.Item.{Item}
 use Rattle.spm_placement.specs.Gains.{gained}

@@ -1,5 +1,5 @@
--- Placements of items, and what they take.
-use Rattle.std.specs.Prelude.{◌≡◌, ◌≢◌, ℕ, suc, ◌+◌, ◌<◌, Bool, true, false, List, [], ◌∷◌, ◌++◌, length, map, Some, slice_get, slice_index_or, if◌then◌else◌}
+-- Items, and what they take.
+use Rattle.std.specs.Prelude.{◌≡◌, ℕ, suc, ◌+◌, ◌<◌, Bool, true, false, List, [], ◌∷◌, ◌++◌, length, map, Some, slice_get, if◌then◌else◌}
 use Rattle.std.specs.List.{range_with_len}
 use Rattle.rv_core.specs.declared.regions.Region.{Region}
 use Rattle.rv_core.specs.declared.regions.Region.TheVariants.{Flash, Spm, Ram}
@@ -14,11 +14,6 @@ use Rattle.image_definition.specs.Images.{formed_in, rows_in}
 use Rattle.image_sizes.specs.Sizes.{code_size}
 use Rattle.claims_accesses.specs.Lines.{same_region}
 use Rattle.claims_items.specs.Movables.{Movable, is_local}
-
--- the start code is no item, and a local array is none
-pub record MovesItems (pl : Placement) (p : Placed) : Type 0 where
-  pub start : slice_index_or pl.functions (length p.functions) false ≡ false
-  pub arrays : (o : ℕ) (x : Object) → slice_get p.objects o ≡ Some x → slice_index_or pl.objects o false ≡ true → x.storage ≢ Local
 
 -- each array has elements
 abbrev pub HasElements : Placed → Type 0
