@@ -15,8 +15,7 @@ use Rattle.code_flow_system.specs.Counts.{Amounts}
 use Rattle.code_flow_system.specs.Loose.{IsLoose, KeepsTurns}
 use Rattle.code_flow_system.specs.Systems.{System, IsSystemOf}
 use Rattle.code_flow_system.proofs.DualityLemmas.{keeps_promise}
-use Rattle.code_flow_system.proofs.LooseLemmas.{flows_are_loose}
-use Rattle.path_bound.proofs.BoundLemmas.{goes_back}
+use Rattle.code_flow_system.proofs.LooseLemmas.{flows_are_loose, goes_back}
 use Rattle.path_conditions.specs.Searching.{CanSearch}
 use Rattle.low_ir.specs.Code.{Object}
 use Rattle.low_ir.specs.Places.{Placed}

@@ -1,5 +1,5 @@
 -- Prices that pay for facts: the costs of moves over a scale, less a multiplier of each fact at its addresses; and the certificate of the walks at such prices.
-use Rattle.std.specs.Prelude.{◌≡◌, ℕ, ◌+◌, ◌*◌, ◌^◌, ◌<◌, ◌≤◌, ℤ, pos, ◌+ℤ◌, ◌-ℤ◌, ◌*ℤ◌, List, [], ◌∷◌, length, All}
+use Rattle.std.specs.Prelude.{◌≡◌, ℕ, ◌+◌, ◌*◌, ◌^◌, ◌<◌, ◌≤◌, ◌==◌, ℤ, pos, neg_ℤ, ◌+ℤ◌, ◌-ℤ◌, ◌*ℤ◌, unsigned_abs, List, [], ◌∷◌, length, All, if◌then◌else◌}
 use Rattle.frac128.specs.Terms.{coefficient, applied}
 use Rattle.rv_core.specs.Table.{Table}
 use Rattle.code_flow_system.specs.declared.claims.FactClaim.{FactClaim}
@@ -15,7 +15,7 @@ use Rattle.code_flow_system.specs.Flows.{value}
 use Rattle.code_flow_system.specs.Certificates.{fact_limits, held, size_by, IsSigned, IsSmall, whole_part}
 use Rattle.path_rows.specs.Driver.{Prices}
 use Rattle.path_duals.specs.Duals.{values_of, potentials_of, never_multipliers, loop_multipliers}
-use Rattle.path_best.specs.Best.{best_worth}
+use Rattle.path_cert.specs.Best.{best_worth}
 
 abbrev pub fact_price : Table → System → ℕ → List ℤ → Move → ℤ
 fact_price t s scale ys m = pos (move_cost t s m * scale) -ℤ held (fact_limits s.claims.facts ys) m.at
@@ -27,6 +27,17 @@ fact_size t s scale ys m = pos (move_cost t s m * scale + size_by (λ l. l.by *�
 -- with the worth of a block
 abbrev pub fact_prices : Table → System → ℕ → List ℤ → ℤ → Prices
 fact_prices t s scale ys low = record { of = fact_price t s scale ys; low = low }
+
+abbrev pub sizes_of : List ℤ → ℕ
+sizes_of [] = 0
+sizes_of (y ∷ ys) = unsigned_abs y + sizes_of ys
+
+-- what a loose flow can come to at prices of a scale and of facts' multipliers, and the worth of a block then
+abbrev pub fact_most : ℕ → List ℤ → ℕ
+fact_most scale ys = 2 ^ 60 * (if scale == 0 then 1 else scale) + 2 ^ 66 * sizes_of ys
+
+abbrev pub fact_low : ℕ → List ℤ → ℤ
+fact_low scale ys = neg_ℤ (pos (4 * fact_most scale ys))
 
 -- the multipliers of facts, each times its left less its right total
 abbrev pub fact_total : List FactClaim → List ℤ → (ℕ → ℤ) → ℤ
