@@ -21,8 +21,8 @@ use Rattle.types_rules.specs.declared.fault.Rule.{Rule}
 use Rattle.types_rules.specs.declared.fault.Rule.TheVariants as rules
 use Rattle.types_rules.specs.declared.fault.TypeFault.{TypeFault}
 use Rattle.types_rules.specs.declared.fault.TypeFault.TheVariants.{Limit, Rule as BreaksRule, Memory}
-use Rattle.types_calls.specs.Calls.{function_calls}
-use Rattle.c_types.specs.Typed.{CallsDefined, IsTypedTree, Refuses, fault_behind, fault_of, typed_of}
+use Rattle.types_calls.specs.Calls.{function_calls, CallsDefined}
+use Rattle.types_rules.specs.Typed.{IsTypedTree, Refuses, fault_behind, fault_of, typed_of}
 use Rattle.c_types.proofs.CallsBelow.{Below, functions_below, safe}
 
 pub refuses : (fault : TypeFault) (names : List (List ℕ)) (unit : TranslationUnit ℕ) → fault_of names unit ≡ Some fault → Refuses fault names unit

@@ -16,7 +16,7 @@ use Rattle.c_tree.specs.Holding.{HoldsExternal}
 use Rattle.c_tree.specs.Names.{AreNames, HasNameForm, name_of}
 use Rattle.c_tree.specs.Tree.{TranslationUnit, Whole}
 use Rattle.types_tree.specs.Tree.{Defined, Function, Program}
-use Rattle.c_types.specs.Typed.{typed_of}
+use Rattle.types_rules.specs.Typed.{typed_of}
 use Rattle.plan_formed.proofs.Facts.{says}
 use Rattle.compile_names.specs.Laws.{IsNamed}
 use Rattle.compile_names.proofs.Markers.{marker_among, numbered}

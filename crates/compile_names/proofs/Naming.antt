@@ -22,7 +22,7 @@ use Rattle.types_rules.specs.Limits.{broken, limits_before, limits_behind, tally
 use Rattle.types_rules.specs.Scope.{started, with_number}
 use Rattle.types_rules.specs.Sights.{SeenUnit, definitions, externals_nodes, first_fault, outline_of, unit_nodes}
 use Rattle.types_tree.specs.Tree.{Program}
-use Rattle.c_types.specs.Typed.{fault_behind, fault_of, typed_of}
+use Rattle.types_rules.specs.Typed.{fault_behind, fault_of, typed_of}
 use Rattle.types_seen.proofs.Rules.{none_first, none_second, parts_keep}
 use Rattle.types_seen.proofs.Lists.{slice_get-cases, slice_get-one}
 use Rattle.types_seen.proofs.Units.{not_broken}

@@ -21,7 +21,7 @@ use Rattle.types_rules.specs.Scope.{Around, after_row, or_else, started}
 use Rattle.types_rules.specs.Sights.{after_external, first_fault, outline_of, unit_nodes}
 use Rattle.types_rules.specs.Typing.{typed_function, typed_row}
 use Rattle.types_rules.specs.declared.fault.TypeFault.TheVariants.{Limit}
-use Rattle.c_types.specs.Typed.{fault_of, typed_of}
+use Rattle.types_rules.specs.Typed.{fault_of, typed_of}
 use Rattle.high_ir.specs.declared.object.Kind.{Kind as HighKind}
 use Rattle.high_ir.specs.declared.object.Kind.TheVariants as kinds
 use Rattle.high_ir.specs.Size as sizes

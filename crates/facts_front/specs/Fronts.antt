@@ -13,7 +13,7 @@ use Rattle.c_parser.specs.Refused.{IsTreeOf, IsRefused, Stops}
 use Rattle.c_parser.specs.declared.fault.ParseFault.{ParseFault}
 use Rattle.c_parser.specs.declared.fault.ParseFault.TheVariants as parsing
 use Rattle.types_tree.specs.Tree.{Program, Function, Defined}
-use Rattle.c_types.specs.Typed.{fault_of, typed_of, Refuses}
+use Rattle.types_rules.specs.Typed.{fault_of, typed_of, Refuses}
 use Rattle.types_rules.specs.declared.fault.TypeFault.{TypeFault}
 use Rattle.types_rules.specs.declared.fault.TypeFault.TheVariants as typing
 use Rattle.types_calls.specs.Calls.{graph_of}

@@ -6,7 +6,7 @@ use Rattle.c_tree.specs.Names.{name_of}
 use Rattle.c_tree.specs.Spelling.{spoken}
 use Rattle.c_tree.specs.Tree.{TranslationUnit}
 use Rattle.types_tree.specs.Tree.{Program}
-use Rattle.c_types.specs.Typed.{fault_of, typed_of, Refuses}
+use Rattle.types_rules.specs.Typed.{fault_of, typed_of, Refuses}
 use Rattle.c_lexer.specs.Cut.{HasTokens}
 use Rattle.c_lexer.specs.declared.LexFault.{LexFault}
 use Rattle.c_lexer.proofs.Unique.{one_fault, tokens_or_fault}

@@ -7,7 +7,7 @@ use Rattle.std.proofs.lemmas.List.Elements.{All-cons, All-nil}
 use Rattle.std.proofs.lemmas.Option.{none-some}
 use Rattle.c_tree.specs.Size.{size_unit}
 use Rattle.c_tree.specs.Tree.{Whole}
-use Rattle.c_types.specs.Typed.{fault_behind}
+use Rattle.types_rules.specs.Typed.{fault_behind}
 use Rattle.facts_definitions.specs.FlowFacts.{Known, and_one, are_counted, facts_of, first_fault, gathered, id_in, is_among, is_counted, known_of, numbered_restriction, or_else as fault_or, restriction_at, restriction_fault, restriction_of, site_fault, term_of, when_not}
 use Rattle.facts_definitions.specs.PragmaTexts.{Written, WrittenTerm, restriction}
 use Rattle.facts_definitions.specs.Sites.{sites_of}

@@ -1,5 +1,5 @@
 -- There is a worth for each place.
-use Rattle.std.proofs.Common.{◌≡◌, ℕ, zero, suc, ◌<◌, ℤ, pos, ◌≤ℤ◌, arith, refl, ◌∙◌, List, [], ◌∷◌, length, Contains, length-append}
+use Rattle.std.proofs.Common.{◌≡◌, zero, suc, ◌<◌, ℤ, pos, ◌≤ℤ◌, arith, refl, ◌∙◌, List, [], ◌∷◌, length, Contains, length-append}
 use Rattle.std.proofs.Math.ListN.{replicate, length-replicate}
 use Rattle.code_flow_system.specs.declared.shapes.LoopShape.{LoopShape}
 use Rattle.code_flow_system.specs.declared.shapes.Span.{Span}

@@ -15,7 +15,8 @@ use Rattle.types_rules.specs.Specifiers.{kind_spelled}
 use Rattle.types_rules.specs.Typing.{typed_items}
 use Rattle.types_rules.specs.declared.fault.Fault.{Fault}
 use Rattle.types_rules.specs.declared.fault.TypeFault.TheVariants.{Rule}
-use Rattle.c_types.specs.Typed.{CallsDefined, fault_of, typed_of}
+use Rattle.types_rules.specs.Typed.{fault_of, typed_of}
+use Rattle.types_calls.specs.Calls.{CallsDefined}
 use Rattle.c_types.proofs.Seals.{calls_defined}
 use Rattle.high_ir.specs.Size.{local_bytes}
 use Rattle.plan_definition.specs.Layouts.{first_of, frame_scalars, homes_of}

@@ -12,7 +12,7 @@ use Rattle.types_tree.specs.declared.variable.Duration.TheVariants.{Automatic, S
 use Rattle.types_tree.specs.declared.variable.Extent.{Extent}
 use Rattle.types_tree.specs.declared.variable.Extent.TheVariants.{Array, Parameter, Scalar}
 use Rattle.types_tree.specs.declared.variable.Variable.{Variable}
-use Rattle.c_types.specs.Typed.{fault_of, typed_of}
+use Rattle.types_rules.specs.Typed.{fault_of, typed_of}
 use Rattle.high_ir.specs.Tree as high
 use Rattle.plan_memory.proofs.Memory.{rules_pass}
 use Rattle.plan_definition.specs.Layouts.{Given, elements_of, first_given, given_object, givens, givens_behind, local_object, object_before, objects_from}

@@ -3,7 +3,7 @@ use Rattle.c_tree.specs.Tree.{Nothing}
 use Rattle.c_tree.specs.Units.{tree_of}
 use Rattle.c_tree.specs.View.{external_of as source_external, row_of}
 use Rattle.types_tree.specs.View.{external_of, function_of}
-use Rattle.c_types.specs.Typed.{CallsDefined}
+use Rattle.types_calls.specs.Calls.{CallsDefined}
 use Rattle.c_types.proofs.Seals.{calls_defined, same_program, sealed}
 use Rattle.c_types.proofs.checker.seal.Goals as goal
 

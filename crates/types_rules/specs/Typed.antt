@@ -1,21 +1,17 @@
 -- The typed tree of a unit that has one, and why another has none.
-use Rattle.std.specs.Prelude.{◌≡◌, ℕ, ◌<◌, ◌≤◌, List, length, map, Option, Some, None}
-use Rattle.std.specs.List.{All}
+use Rattle.std.specs.Prelude.{◌≡◌, ℕ, ◌≤◌, List, Option, Some, None}
 use Rattle.c_tree.specs.Formed.{IsFormedUnit}
 use Rattle.c_tree.specs.Names.{AreDistinct, AreListed, AreNames, name_of, names_of_unit}
 use Rattle.c_tree.specs.Named.{named_unit}
 use Rattle.c_tree.specs.Size.{size_unit}
 use Rattle.c_tree.specs.Tree.{TranslationUnit}
 use Rattle.types_tree.specs.Tree.{Program}
-use Rattle.types_calls.specs.Calls.{function_calls}
-use Rattle.types_tree.specs.View.{external_of, function_of}
 use Rattle.types_rules.specs.Limits.{broken, limits_behind, unit_fault, variables_of}
 use Rattle.types_rules.specs.Scope.{Outline, or_else}
 use Rattle.types_rules.specs.Sights.{first_fault, outline_of, unit_nodes}
 use Rattle.types_rules.specs.Typing.{typed_unit}
 use Rattle.types_rules.specs.declared.fault.TypeFault.{TypeFault}
 use Rattle.types_rules.specs.declared.fault.TypeFault.TheVariants.{Limit, Rule, Memory}
-use Rattle.c_types.specs.declared.checker.Draft.{Draft}
 
 -- why a unit with these names has no typed tree
 abbrev pub fault_of : List (List ℕ) → TranslationUnit ℕ → Option TypeFault
@@ -23,10 +19,6 @@ fault_of names unit = unit_fault (outline_of names unit) unit
 
 abbrev pub typed_of : List (List ℕ) → TranslationUnit ℕ → Program
 typed_of names unit = typed_unit (outline_of names unit) unit
-
--- every function that a program's functions call is one of them
-abbrev pub CallsDefined : Program → Type 0
-CallsDefined program = All (λ function. All (λ number. number < length program.functions) (function_calls function)) program.functions
 
 -- a program is the typed tree of a unit that is well formed, at most 256 nodes deep, and has one
 pub record IsTypedTree (names : List (List ℕ)) (program : Program) : Type 0 where
@@ -43,13 +35,6 @@ pub record IsTypedTree (names : List (List ℕ)) (program : Program) : Type 0 wh
 -- the first cause from the rules on why a unit has no typed tree
 abbrev pub fault_behind : Outline → TranslationUnit ℕ → Option TypeFault
 fault_behind outline unit = or_else (broken (first_fault (unit_nodes outline unit))) (limits_behind (variables_of outline unit))
-
--- the parts of a unit's typed form, and that cause
-pub record IsDraft (r : Draft) (names : List (List ℕ)) (unit : TranslationUnit ℕ) : Type 0 where
-  pub items : map external_of r.items.items ≡ (typed_of names unit).items
-  pub functions : map function_of r.functions.items ≡ (typed_of names unit).functions
-  pub variables : r.variables.items ≡ (typed_of names unit).variables
-  pub fault : r.fault ≡ fault_behind (outline_of names unit) unit
 
 -- a unit is refused for what it is, or for want of memory
 abbrev pub Refuses : TypeFault → List (List ℕ) → TranslationUnit ℕ → Type 0
