@@ -16,7 +16,7 @@ use Rattle.high_pass.specs.Law.{FactorsWithin, IsLawful}
 use Rattle.high_pass.specs.Listing.{Listing}
 use Rattle.compile_words.proofs.Sources.{source_is_whole}
 use Rattle.compile_kept.specs.Limits.{IsLimited}
-use Rattle.compile_sizes.proofs.Plans.{pass_limited, source_limited}
+use Rattle.compile_carried.proofs.Plans.{pass_limited, source_limited}
 use Rattle.compile_kept.specs.Carried.{IsCarried, IsPassed, IsPlanned}
 
 pub planned_carried : (source : List ℕ) (names : List (List ℕ)) (program : c.Program) (facts : Facts) (p : Program) (listing : Listing) → IsSource source names program facts → IsPlanned names program facts p listing → IsCarried names program facts 0 p listing
