@@ -15,7 +15,8 @@ use Rattle.claims_definition.specs.Listed.{claims_of, placing}
 use Rattle.claims_image.specs.Images.{laid_of}
 use Rattle.claims_items.specs.Movables.{array_item, code_region, function_item, movables_of}
 use Rattle.layout_kept.specs.Segments.{bytes_kept, taken_in}
-use Rattle.layout_kept.specs.Items.{array_region, globals_size, instructions_in, scratchpad_size}
+use Rattle.layout_kept.specs.Items.{array_region, instructions_in, scratchpad_size}
+use Rattle.image_sizes.specs.Sizes.{globals_size}
 
 pub record AreSmall (pl : Placement) (p : Placed) : Type 0 where
   pub instructions : instructions_in pl p ≤ room p

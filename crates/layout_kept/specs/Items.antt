@@ -23,16 +23,6 @@ HasElements p = (o : ℕ) (x : Object) → slice_get p.objects o ≡ Some x → 
 abbrev pub instructions_in : Placement → Placed → ℕ
 instructions_in pl p = length (flash_words (rows_in pl p) (formed_in pl p)) + length (scratchpad_words (rows_in pl p) (formed_in pl p))
 
--- the bytes of arrays that aren't local
-abbrev pub unless_local : Storage → ℕ → ℕ
-unless_local Fixed' n = n
-unless_local Global n = n
-unless_local Local n = 0
-
-abbrev pub globals_size : List Object → ℕ
-globals_size [] = 0
-globals_size (x ∷ xs) = unless_local x.storage (array_size x) + globals_size xs
-
 -- what items in the scratchpad take together
 abbrev pub scratchpad_size : List Movable → ℕ
 scratchpad_size [] = 0

@@ -17,7 +17,7 @@ use Rattle.loop_ranges.specs.Near.{IsUpTo}
 use Rattle.path_duals.specs.Duals.{values_of, potentials_of, never_multipliers, loop_multipliers, dual_of}
 use Rattle.path_duals.proofs.PotentialLemmas.{all_of}
 use Rattle.path_ranges.specs.Bounded.{IsBounded}
-use Rattle.path_sizes.specs.Sizes.{IsEnough}
+use Rattle.path_ranges.specs.Ranges.{IsEnough}
 use Rattle.path_dual_ranges.specs.Ranges.{IsNarrowDual}
 use Rattle.path_dual_ranges.proofs.ClaimSizes.{size-append, held_size}
 use Rattle.path_dual_ranges.proofs.RowSizes.{sizes}

@@ -9,7 +9,8 @@ use Rattle.code_flow_system.specs.Flows.{IsFlow}
 use Rattle.path_rows.specs.Driver.{Prices, blank}
 use Rattle.path_flows.specs.Flows.{amounts_of}
 use Rattle.path_ranges.specs.Bounded.{IsBounded}
-use Rattle.path_sizes.specs.Sizes.{AllStaySmall, IsEnough}
+use Rattle.path_sizes.specs.Sizes.{AllStaySmall}
+use Rattle.path_ranges.specs.Ranges.{IsEnough}
 use Rattle.path_counts.specs.Free.{free}
 use Rattle.path_counts.specs.Laws.{BacksAreFree}
 use Rattle.path_limits.specs.Narrow.{FetchesCost}

@@ -9,7 +9,7 @@ use Rattle.code_flow_system.specs.Certificates.{whole_part, Accepts, IsInForm}
 use Rattle.loop_ranges.specs.Near.{IsUpTo}
 use Rattle.path_rows.specs.Driver.{Prices}
 use Rattle.path_ranges.specs.Bounded.{IsBounded}
-use Rattle.path_sizes.specs.Sizes.{IsEnough}
+use Rattle.path_ranges.specs.Ranges.{IsEnough}
 use Rattle.path_counts.specs.Laws.{BacksAreFree}
 use Rattle.path_cert.specs.Laws.{HasRanges}
 use Rattle.path_cert.specs.Best.{best_worth, HasBestFlow}

@@ -23,7 +23,7 @@ use Rattle.types_rules.specs.Sights.{SeenUnit, after_external, externals_nodes, 
 use Rattle.types_rules.specs.declared.fault.Fault.{Fault}
 use Rattle.types_rules.specs.declared.fault.TypeFault.TheVariants.{Limit, Rule}
 use Rattle.types_rules.specs.Typed.{fault_of, typed_of}
-use Rattle.c_types.proofs.Seals.{calls_defined, passes_main}
+use Rattle.types_seen.proofs.Calls.{calls_defined, passes_main}
 use Rattle.high_ir.specs.Formed.{IsHigh, LeavesWithin, RanksFall}
 use Rattle.high_ir.specs.Size.{depth, greatest, program_nodes}
 use Rattle.high_ir.specs.Standing.{marks_of}

@@ -11,7 +11,7 @@ use Rattle.c_tree.specs.Tree.{TranslationUnit, Whole}
 use Rattle.types_tree.specs.Tree.{Program}
 use Rattle.types_rules.specs.Typed.{fault_of, typed_of}
 use Rattle.types_calls.specs.Calls.{CallsDefined}
-use Rattle.c_types.proofs.Seals.{calls_defined}
+use Rattle.types_seen.proofs.Calls.{calls_defined}
 use Rattle.types_rules.specs.Scope.{started}
 use Rattle.types_rules.specs.Sights.{outline_of}
 use Rattle.high_ir.specs.Runs.{hrun}

@@ -26,7 +26,7 @@ use Rattle.types_rules.specs.declared.scope.Binding.{Binding}
 use Rattle.types_rules.specs.declared.scope.Binding.TheVariants.{Object as Thing, Function as Routine}
 use Rattle.types_rules.specs.declared.scope.ParamType.{ParamType}
 use Rattle.types_calls.specs.Calls.{called, declaration_calls, expr_calls, exprs_calls, function_calls, initial_calls, items_calls, label_calls, object_calls, objects_calls, option_calls, params_calls, place_calls, shape_calls, start_calls, statement_calls}
-use Rattle.c_types.proofs.OutlineKept as kept
+use Rattle.types_seen.proofs.OutlineKept as kept
 
 abbrev pub Below : ℕ → List ℕ → Type 0
 Below n numbers = All (λ number. number < n) numbers

@@ -19,7 +19,7 @@ use Rattle.asm_program.specs.Emission.{plain_code, before_call, behind_call}
 use Rattle.asm_program.specs.Functions.{singles, PlacedBlock, function_in, is_leaf, is_frame_near, frame_code, link_store, link_load, saves, loads, saves_nothing, entry_code, exit_code, at_once, passed_in, instr_items, jump_items, two_way_items, leave_items, end_items, body_items, filled, opening_items, block_items, based, bases_code, main_items}
 use Rattle.asm_program.specs.Laws.{AreWords}
 use Rattle.asm_program.proofs.RoomLemmas.{instr_total, end_total}
-use Rattle.asm_program_prices.proofs.LongLemmas.{AreLong, calls_in}
+use Rattle.asm_room.proofs.LongLemmas.{AreLong, calls_in}
 
 singles_long : (is : List Instruction) (xs : List Item) → AreLong xs → AreLong (singles is ++ xs)
 singles_long [] xs h = h
