@@ -1,7 +1,7 @@
 -- What a plan keeps of its source, and what one more pass keeps of it.
 use Rattle.std.proofs.Common.{ℕ, suc, ◌^◌, ◌<◌, ◌≤◌, List, sym, subst, arith, All, pow-suc}
 use Rattle.facts_definitions.specs.declared.facts.Facts.{Facts}
-use Rattle.facts_front.specs.Fronts.{IsSource}
+use Rattle.facts_sources.specs.Sources.{IsSource}
 use Rattle.types_tree.specs.Tree as c
 use Rattle.plan_carried.specs.Sources.{planned_listing, source_behaviour}
 use Rattle.plan_checked.proofs.Sources.{checked}

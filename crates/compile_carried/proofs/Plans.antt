@@ -3,7 +3,7 @@ use Rattle.std.proofs.Common.{ℕ, ◌^◌, ◌≤◌, List, length, sym, ap, su
 use Rattle.std.proofs.lemmas.List.{length-map}
 use Rattle.facts_definitions.specs.FlowFacts.{main_of}
 use Rattle.facts_definitions.specs.declared.facts.Facts.{Facts}
-use Rattle.facts_front.specs.Fronts.{IsSource}
+use Rattle.facts_sources.specs.Sources.{IsSource}
 use Rattle.types_tree.specs.Tree as typed
 use Rattle.high_ir.specs.Tree as high
 use Rattle.high_pass.specs.Law.{IsLawful, signature_of}

@@ -2,7 +2,7 @@
 use Rattle.std.specs.Prelude.{ℕ, suc, List}
 use Rattle.facts_definitions.specs.FlowFacts.{main_of}
 use Rattle.facts_definitions.specs.declared.facts.Facts.{Facts}
-use Rattle.facts_front.specs.Fronts.{IsSource}
+use Rattle.facts_sources.specs.Sources.{IsSource}
 use Rattle.types_tree.specs.Tree as c
 use Rattle.high_ir.specs.Formed.{IsHigh}
 use Rattle.high_ir.specs.Tree.{Program}

@@ -9,7 +9,7 @@ use Rattle.facts_definitions.specs.Sites.{sites_of}
 use Rattle.facts_definitions.specs.declared.facts.Facts.{Facts}
 use Rattle.facts_definitions.specs.declared.site.Site.{Site}
 use Rattle.facts_definitions.specs.declared.site.Site.TheVariants as sites
-use Rattle.facts_front.specs.Fronts.{HasProgram, IsSource, derived_for}
+use Rattle.facts_sources.specs.Sources.{HasProgram, IsSource, derived_for}
 use Rattle.types_rules.specs.Sights.{outline_of}
 use Rattle.c_tree.specs.Formed.{EachOf}
 use Rattle.c_tree.specs.Holding.{HoldsExternal}

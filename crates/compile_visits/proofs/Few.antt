@@ -29,7 +29,7 @@ use Rattle.claims_items.specs.Movables.{Movable, array_item, arrays_from, functi
 use Rattle.high_pass.specs.Listing.{LoopEntry}
 use Rattle.high_pass.proofs.Elements.{All-map_back}
 use Rattle.facts_definitions.specs.declared.facts.Facts.{Facts}
-use Rattle.facts_front.specs.Fronts.{IsSource}
+use Rattle.facts_sources.specs.Sources.{IsSource}
 use Rattle.types_tree.specs.Tree.{Program}
 use Rattle.report_text.specs.Reports.{Report}
 use Rattle.spm_placement.specs.Gains.{HasFewVisits, all_parts}

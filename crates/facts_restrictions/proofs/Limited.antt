@@ -18,7 +18,7 @@ use Rattle.facts_definitions.specs.declared.facts.FlowFault.TheVariants.{Unknown
 use Rattle.facts_definitions.specs.declared.facts.Restriction.{Restriction}
 use Rattle.facts_definitions.specs.declared.site.Site.{Site}
 use Rattle.facts_definitions.specs.declared.site.Site.TheVariants as sites
-use Rattle.facts_front.specs.Fronts.{IsSource, derived_for}
+use Rattle.facts_sources.specs.Sources.{IsSource, derived_for}
 use Rattle.types_calls.specs.declared.ranks.Ranks.{Ranks}
 use Rattle.types_rules.specs.Limits.{Tally, limit, limits_before, over, tally_unit}
 use Rattle.types_rules.specs.Scope.{or_else}
