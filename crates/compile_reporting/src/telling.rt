@@ -1,11 +1,9 @@
 // What a report tells of the image of a source.
-ghost use Rattle.std.specs.Prelude.{◌≡◌, ◌++◌, IfOk};
+ghost use Rattle.std.specs.Prelude.{IfOk};
 ghost use Rattle.compile_facts.specs.Told.{AreFactsTold};
 ghost use Rattle.compile_handed.specs.Handed.{AreHandedOn};
-ghost use Rattle.compile_lines.specs.CopyLines.{AreLinesOf};
-ghost use Rattle.compile_reporting.specs.Sources.{IsMadeOf, names_of};
+ghost use Rattle.compile_reporting.specs.Sources.{IsMadeOf};
 ghost use Rattle.compile_reporting.specs.Found.{HasLines, IsTold};
-ghost use Rattle.compile_made.specs.Made.{copies_of};
 
 use crate::restricting::restricted;
 use code_flow_system::Claims;

@@ -7,7 +7,7 @@ use Rattle.claims_items.specs.declared.item.LaidItem.{LaidItem}
 use Rattle.claims_items.specs.Movables.{movable_of}
 use Rattle.report_text.specs.Reports.{Report}
 use Rattle.spm_placement.specs.Gains.{HasFewVisits, gained}
-use Rattle.compile_visits.proofs.gaining.gains_by.Goals as goal
+use Rattle.compile_reporting.proofs.gaining.gains_by.Goals as goal
 
 -- the certificate that is read is that of the report
 

@@ -40,7 +40,7 @@ use Rattle.compile_claims.specs.Named.{by_entries, named}
 use Rattle.compile_made.specs.declared.made.Made.{Made}
 use Rattle.compile_made.specs.Made.{IsMade, copies_of}
 use Rattle.compile_reports.specs.Reported.{IsReported}
-use Rattle.compile_visits.proofs.Parts.{made, made_total, parts_made, visits_within}
+use Rattle.compile_reporting.proofs.Parts.{made, made_total, parts_made, visits_within}
 
 module _ (source : List ℕ) (names : List (List ℕ)) (program : Program) (facts : Facts) (m : Made) (c : Costs) (r : Report) (is : IsSource source names program facts) (is_made : IsMade names program facts m) (reported : IsReported (table_of c) names facts m r) where
   abbrev t : Table
