@@ -1,13 +1,11 @@
 -- The certificate of the walks: each row of the checker holds of it.
-use Rattle.std.proofs.Common.{◌≡◌, ◌≢◌, ℕ, zero, suc, ◌+◌, ◌*◌, ◌^◌, ◌<◌, ◌≤◌, ℤ, pos, neg_ℤ, ◌*ℤ◌, ◌≤ℤ◌, ◌<ℤ◌, arith, refl, sym, ap, ◌∙◌, subst, List, [], ◌∷◌, ◌++◌, length, Contains, All, Bool, true, false, cond}
+use Rattle.std.proofs.Common.{◌≡◌, ◌≢◌, ℕ, zero, ◌+◌, ◌*◌, ◌^◌, ◌<◌, ◌≤◌, ℤ, pos, neg_ℤ, ◌*ℤ◌, ◌≤ℤ◌, ◌<ℤ◌, arith, refl, sym, ap, ◌∙◌, subst, List, [], ◌∷◌, ◌++◌, length, Contains, All, Bool, true, false, cond}
 use Rattle.std.specs.Int.RustNames.{int_lt}
 use Rattle.std.proofs.lemmas.Int.{ints}
 use Rattle.std.proofs.lemmas.Bool.Decides.{nat_tests}
 use Rattle.std.proofs.lemmas.List.Elements.{All-contains, All-nil}
 use Rattle.frac128.specs.Terms.{coefficient}
 use Rattle.rv_core.specs.Table.{Table}
-use Rattle.code_flow_system.specs.declared.claims.Never.{Never}
-use Rattle.code_flow_system.specs.declared.claims.LoopClaim.{LoopClaim}
 use Rattle.code_flow_system.specs.declared.claims.FactClaim.{FactClaim}
 use Rattle.code_flow_system.specs.declared.cert.Part.{Part}
 use Rattle.code_flow_system.specs.declared.cert.Cert.{Cert}
@@ -21,22 +19,22 @@ use Rattle.code_flow_system.specs.MoveCosts.{move_cost}
 use Rattle.code_flow_system.specs.Flows.{IsFlow, value}
 use Rattle.code_flow_system.specs.Certificates.{Limit, never_limits, loop_limits, fact_limits, limits, IsSigned, IsCovered, scaled_price, potential, whole_part, listed, IsGreatest, KeepsMark, Accepts, IsPart, PartsAscend, IsSmall, FitsMark, IsInForm}
 use Rattle.code_flow_system.specs.Bounds.{IsDual}
-use Rattle.loop_walks.specs.declared.step.Pair.{Pair}
 use Rattle.loop_walks.specs.Walks.{worth_at}
 use Rattle.path_places.specs.Places.{place_of}
 use Rattle.path_places.specs.Laws.{IsReachedWhole}
 use Rattle.path_rows.specs.Driver.{Prices}
-use Rattle.path_duals.specs.Duals.{Values, potentials_of, never_bounds, loop_bounds, final_level, final_pairs, values_of, owe_of, dual_of}
+use Rattle.path_duals.specs.Duals.{Values, potentials_of, final_level, final_pairs, values_of, owe_of, dual_of}
 use Rattle.path_duals.proofs.PotentialLemmas.{all_of, given_moves}
-use Rattle.path_duals.proofs.HoldLemmas.{Alongside}
 use Rattle.path_duals.proofs.RowLemmas.{alongside, final_priced, potential_place, walks_dual}
 use Rattle.path_flows.specs.Flows.{amounts_of, parts_of}
 use Rattle.path_counts.specs.Laws.{IsOpenSystem}
 use Rattle.path_counts.proofs.KeepLemmas.{all_keep}
 use Rattle.path_slack.proofs.MoveLemmas.{all_reached}
 use Rattle.path_cert.specs.Certificates.{entry_worth, mark_of, flow_for, certificate_with, costs_of, certificate_of}
-use Rattle.path_cert.specs.Laws.{HasRanges, HasFlowRanges, IsOpenFlow, CertificatesAreAccepted}
+use Rattle.path_cert.specs.Ranges.{HasRanges}
+use Rattle.path_cert.proofs.LongLemmas.{loops_long, nevers_long}
 use Rattle.path_cert.proofs.PartLemmas.{potentials_ascend, parts_ascend, parts_positive, parts_there, parts_are}
+use Rattle.path_bound.specs.Accepted.{HasFlowRanges, IsOpenFlow, CertificatesAreAccepted}
 
 fact_none : (cs : List FactClaim) → fact_limits cs [] ≡ []
 fact_none [] = refl
@@ -51,15 +49,6 @@ below_zero n = omega (arith, ints)
 
 times_one : (n : ℕ) → n * 1 ≡ n
 times_one n = omega arith
-
-pub nevers_long : (owe : ℕ → ℤ) (cs : List Never) → length (never_bounds owe cs) ≡ length cs
-nevers_long owe [] = refl
-nevers_long owe (c ∷ cs) = ap suc (nevers_long owe cs)
-
-pub loops_long : (owe : ℕ → ℤ) (cs : List LoopClaim) (ps : List Pair) → Alongside cs ps → length (loop_bounds owe cs ps) ≡ length cs
-loops_long owe [] ps h = refl
-loops_long owe (c ∷ cs) [] h = absurd h
-loops_long owe (c ∷ cs) (p ∷ ps) h = ap suc (loops_long owe cs ps h)
 
 module _ (t : Table) (s : System) (ls : List LoopShape) (ps : List Span) (whole : IsReachedWhole s ls ps) (facts : s.claims.facts ≡ []) where
   abbrev q : Prices

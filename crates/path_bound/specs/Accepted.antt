@@ -1,5 +1,5 @@
 -- The certificate of the walks is in form and accepted, where its numbers keep their ranges.
-use Rattle.std.specs.Prelude.{◌≡◌, ℕ, ◌+◌, ◌^◌, ◌<◌, ℤ, pos, ◌*ℤ◌, ◌≤ℤ◌, unsigned_abs, List, [], All}
+use Rattle.std.specs.Prelude.{◌≡◌, ℕ, ◌+◌, ℤ, pos, ◌*ℤ◌, ◌≤ℤ◌, unsigned_abs, List, [], All}
 use Rattle.frac128.specs.Terms.{coefficient}
 use Rattle.rv_core.specs.Table.{Table}
 use Rattle.code_flow_system.specs.declared.cert.Cert.{Cert}
@@ -8,20 +8,13 @@ use Rattle.code_flow_system.specs.declared.shapes.Span.{Span}
 use Rattle.code_flow_system.specs.Systems.{System}
 use Rattle.code_flow_system.specs.Counts.{count, inflow}
 use Rattle.code_flow_system.specs.Flows.{value}
-use Rattle.code_flow_system.specs.Certificates.{row_size, IsNarrow, IsSmall, size_by, limits, listed, potential, scaled_price, Accepts, IsInForm}
+use Rattle.code_flow_system.specs.Certificates.{IsNarrow, IsSmall, size_by, limits, listed, Accepts, IsInForm}
 use Rattle.path_duals.specs.Duals.{values_of}
 use Rattle.path_counts.specs.Laws.{IsOpenSystem}
 use Rattle.path_cert.specs.Certificates.{entry_worth, costs_of, certificate_of}
+use Rattle.path_cert.specs.Ranges.{HasRanges}
 
--- ranges of the numbers that every certificate has
-pub record HasRanges (t : Table) (s : System) (c : Cert) : Type 0 where
-  pub cycles : c.cycles < 2 ^ 63
-  pub potentials : All (λ u. IsSmall u.1) c.potentials
-  pub nevers : All IsSmall c.nevers
-  pub loops : All (λ w. IsSmall w.0 × IsSmall w.1) c.loops
-  pub rows : All (λ m. IsNarrow (row_size (scaled_price t s c) (potential c) (limits s.claims c) m)) s.moves
-
--- and of a listed flow
+-- ranges of the numbers of a listed flow
 pub record HasFlowRanges (t : Table) (s : System) (c : Cert) : Type 0 where
   pub parts : All (λ p. IsSmall p.part) c.flow.parts
   pub balances : (a : ℕ) → IsNarrow (unsigned_abs (count (listed c.flow.parts) s.moves a) + unsigned_abs (coefficient (inflow s.entry c.flow.unit (listed c.flow.parts) s.moves) a))
