@@ -26,7 +26,7 @@ use Rattle.image_definition.specs.Images.{image_in}
 use Rattle.lower_program.specs.Kept.{IsKept, Keeps}
 use Rattle.simulation_kept.specs.Laws.{run_of}
 use Rattle.layout_kept.specs.Kept.{KeepsRun}
-use Rattle.compile_image_law.specs.Laws.{EndsWithin, IsCompiled, ShowsIt, passed}
+use Rattle.compile_runs.specs.Shows.{EndsWithin, IsCompiled, ShowsIt, passed}
 
 -- sums of counts
 sum_counted : (f : ℕ → ℤ) (g : ℕ → ℕ) → ((k : ℕ) → f k ≡ pos (g k)) → (ks : List ℕ) → int_sum_by f ks ≡ pos (sum_by g ks)

@@ -11,8 +11,8 @@ use Rattle.plan_expressions.specs.Meets.{Layout}
 use Rattle.facts_counting.specs.Counting.{is_up}
 use Rattle.facts_counting.specs.declared.form.Limit.{Limit}
 use Rattle.counting_alike.proofs.Alike.{Alike, Comes, alike_then}
-use Rattle.counting_runs.proofs.Arithmetic.{Ahead}
-use Rattle.counting_runs.proofs.Counted.{Holds, Moved, moves, tested_word}
+use Rattle.counting_laws.proofs.Arithmetic.{Ahead}
+use Rattle.counting_laws.proofs.Counted.{Holds, Moved, moves, tested_word}
 use Rattle.counting_alike.proofs.Objects.{Names, Stays, stays_same}
 use Rattle.counting_alike.proofs.Settings.{Keeps, resumed}
 

@@ -16,8 +16,8 @@ use Rattle.plan_carried.proofs.Meanings.{shown_means}
 use Rattle.low_ir.specs.Code.{Low}
 use Rattle.low_ir.specs.Places.{Placing, assignment, placed}
 use Rattle.image_frames.specs.Memories.{Placement}
-use Rattle.compile_image_law.specs.Laws.{EndsAsMain, EndsWithin, IsCompiled}
-use Rattle.compile_image_law.proofs.Shown.{image_shows}
+use Rattle.compile_runs.specs.Shows.{EndsAsMain, EndsWithin, IsCompiled}
+use Rattle.compile_runs.proofs.Shown.{image_shows}
 
 module _ (source : typed.Program) (names : List (List ℕ)) (facts : Facts) (p : Program) (made : Listing) (q : Low) (pl : Placement) (ps : List Placing) (s : System) (t : Table) (cert : Cert) (carries : Carries (source_behaviour source names facts) p made) (compiled : IsCompiled (source_behaviour source names facts) p made q pl ps s t cert)
     (input : List ℕ) (bytes : All (λ b. b < 256) input) (output : List ℕ) (value : ℤ) (counts : List ℕ) where

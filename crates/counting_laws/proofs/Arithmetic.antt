@@ -13,7 +13,7 @@ use Rattle.types_value.specs.declared.operator.Undefined.TheVariants.{Overflow}
 use Rattle.wcc_base.specs.Words.{difference_word, equal_word, signed_word, sum_word, truth_word}
 use Rattle.facts_counting.specs.Counting.{distance, is_limit, is_strict, is_up, turns, turns_over}
 use Rattle.facts_counting.specs.declared.form.Limit.{Limit}
-use Rattle.counting_runs.proofs.Counted.{moves, tested_word}
+use Rattle.counting_laws.proofs.Counted.{moves, tested_word}
 use Rattle.plan_derived.proofs.Forms.{Positive}
 
 -- quotients, a divisor further
