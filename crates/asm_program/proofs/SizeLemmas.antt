@@ -8,7 +8,7 @@ use Rattle.rv_core.specs.Instructions.{Instruction, instruction, addi}
 use Rattle.low_ir.specs.declared.places.Place.{Place}
 use Rattle.low_ir.specs.declared.places.Place.TheVariants.{Register as InRegister, Slot}
 use Rattle.low_ir.specs.Code.{Operand, Register, Constant, Base, Fixed, Through, Plain, Set, Operate, Point, Load, Store, Put, Get}
-use Rattle.low_ir.specs.Room.{is_near as is_near_zero, far_room, offset_room, address_room, plain_room}
+use Rattle.low_ir.specs.Room.{is_near as is_near_zero, far_room, offset_room, access_room, address_room, plain_room}
 use Rattle.asm_program.specs.Numbers.{result, first_free, second_free, machine_register, is_near, is_beside, reach_code, object_register, object_code, constant_code, is_short, upper_of, move_code}
 use Rattle.asm_program.specs.Frames.{Frame, Memory, slot_at, home_at, object_at}
 use Rattle.asm_program.specs.Operands.{place_register, operand_register, offset_register, address_register, address_offset, load_code, store_code, fetch_code, operand_code, into_code, result_code, put_code, offset_code, far_code, code_to}
@@ -160,13 +160,21 @@ module _ (fr : Frame) where
         let rest : length (by_offset ++ far) ≤ offset_room o + far_room n = joined by_offset far (offset_room o) (far_room n) (offset_few r o) (far_fits (offset_register fr m r o) n (n % 2 ^ 32) s) in
         let h : length (fetch_code fr first_free p ++ (by_offset ++ far)) ≤ 2 + (offset_room o + far_room n) = joined (fetch_code fr first_free p) (by_offset ++ far) 2 (offset_room o + far_room n) (fetch_few first_free p) rest in omega arith
 
+    access_more : (base : Base Place) (o : Option Place) (n : ℕ) → address_room base o n ≤ access_room base o n
+    access_more (Fixed object) None n = omega arith
+    access_more (Fixed object) (Some r) n = omega arith
+    access_more (Through p claim) o n = omega arith
+
+    access_few : (base : Base Place) (o : Option Place) (n : ℕ) → n < 2 ^ 32 → length (code_to fr m base o n) ≤ access_room base o n
+    access_few base o n s = let few = to_few base o n s in let more = access_more base o n in omega (arith, few, more)
+
     pub plain_few : (i : Plain Place) → HasWords i → length (plain_code fr m i) ≤ plain_room i
     plain_few (Set d x) h = set_few d x
     plain_few (Operate operator d x y) h = operate_few (immediate_of operator y) operator d x y
     plain_few (Point d a) h = let r = result_few first_free second_free d in joined (code_to fr m a.base a.offset a.displacement) (addi (place_register fr first_free d) (address_register fr m a) (address_offset fr m a) ∷ result_code fr first_free second_free d) (address_room a.base a.offset a.displacement) 3 (to_few a.base a.offset a.displacement h) (omega arith)
-    plain_few (Load kind d a) h = let r = result_few first_free second_free d in joined (code_to fr m a.base a.offset a.displacement) (instruction (load_op kind) (place_register fr first_free d) (address_register fr m a) 0 (address_offset fr m a) ∷ result_code fr first_free second_free d) (address_room a.base a.offset a.displacement) 3 (to_few a.base a.offset a.displacement h) (omega arith)
+    plain_few (Load kind d a) h = let r = result_few first_free second_free d in joined (code_to fr m a.base a.offset a.displacement) (instruction (load_op kind) (place_register fr first_free d) (address_register fr m a) 0 (address_offset fr m a) ∷ result_code fr first_free second_free d) (access_room a.base a.offset a.displacement) 3 (access_few a.base a.offset a.displacement h) (omega arith)
     plain_few (Store kind a x) h =
         let last : List Instruction = instruction (store_op kind) 0 (address_register fr m a) (operand_register fr second_free x) (address_offset fr m a) ∷ [] in
-        joined (code_to fr m a.base a.offset a.displacement) (operand_code fr second_free x ++ last) (address_room a.base a.offset a.displacement) 3 (to_few a.base a.offset a.displacement h) (joined (operand_code fr second_free x) last 2 1 (operand_few second_free x) (omega arith))
+        joined (code_to fr m a.base a.offset a.displacement) (operand_code fr second_free x ++ last) (access_room a.base a.offset a.displacement) 3 (access_few a.base a.offset a.displacement h) (joined (operand_code fr second_free x) last 2 1 (operand_few second_free x) (omega arith))
     plain_few (Put x) h = joined (into_code fr result x) _ 2 2 (into_few result x) (omega arith)
     plain_few (Get d) h = let r = put_few result d in omega arith

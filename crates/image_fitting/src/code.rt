@@ -1,6 +1,6 @@
 // The machine instructions that code takes at most.
 ghost use Rattle.std.specs.Prelude.{◌≡◌, ◌*◌, ◌+◌, ◌≤◌, map, length, sum_by};
-ghost use Rattle.low_ir.specs.Room.{far_room, offset_room, address_room, instr_room, end_room, block_room, function_room};
+ghost use Rattle.low_ir.specs.Room.{far_room, offset_room, access_room, address_room, instr_room, end_room, block_room, function_room};
 ghost use Rattle.low_ir.specs.View.{base_of, block_of, end_of, function_of, instr_of};
 ghost use Rattle.image_fitting.specs.Spending.{Spends};
 
@@ -48,6 +48,20 @@ fn address_part(address: Address) -> u64
     }
 }
 
+/// The same for a load or a store, of which one without an offset counts more.
+fn access_part(address: Address) -> u64
+    ensures value { result ≡ access_room (base_of address.base) address.offset address.displacement }
+    ensures few { result ≤ 7 }
+{
+    match address.base {
+        Base::Object(_) => match address.offset {
+            None => 5,
+            Some(_) => 4,
+        },
+        Base::Pointer { .. } => address_part(address),
+    }
+}
+
 /// Ten for each argument.
 fn spend_call(from: u64, arguments: &[Operand]) -> Option<u64>
     ensures { Spends from (4 + 10 * length arguments.now) result }
@@ -66,8 +80,8 @@ fn spend_instr(from: u64, instr: &Instr) -> Option<u64>
         Instr::Set { .. } => spend(from, 4),
         Instr::Operate { .. } => spend(from, 7),
         Instr::Point { address: at, .. } => spend(from, address_part(*at) + 3),
-        Instr::Load { address: at, .. } => spend(from, address_part(*at) + 3),
-        Instr::Store { address: at, .. } => spend(from, address_part(*at) + 3),
+        Instr::Load { address: at, .. } => spend(from, access_part(*at) + 3),
+        Instr::Store { address: at, .. } => spend(from, access_part(*at) + 3),
         Instr::Put { .. } => spend(from, 4),
         Instr::Get { .. } => spend(from, 4),
         Instr::Call { arguments, .. } => spend_call(from, arguments),

@@ -6,7 +6,7 @@ use Rattle.std.proofs.Math.Nat.{mul-le-mul_left}
 use Rattle.std.proofs.lemmas.List.{length-map}
 use Rattle.std.proofs.lemmas.List.Sums.{sum_by-cons}
 use Rattle.low_ir.specs.Code.{Operand, Base, Fixed, Through, Plain, Set, Operate, Point, Load, Store, Put, Get, Instr, Do, Call, End, Jump, Branch, Return, Block, Loop, Function, Low, Note}
-use Rattle.low_ir.specs.Room.{address_room, block_room, called, end_room, function_room, instr_room, marks_once, plain_room, reaches, repeated, repeated_in, times, weight, weights}
+use Rattle.low_ir.specs.Room.{access_room, address_room, block_room, called, end_room, function_room, instr_room, marks_once, plain_room, reaches, repeated, repeated_in, times, weight, weights}
 use Rattle.low_copied.specs.Renaming.{renamed_base, renamed_end, renamed_instr, renamed_operand, renamed_plain}
 use Rattle.low_copied.specs.Copies.{Beginnings, Carries, Code, Follows, FunctionCopied, IsCopied, LeavesOut, Standing}
 use Rattle.low_copied.specs.Laws.{CostsNoMore}
@@ -19,12 +19,18 @@ module _ (name : ℕ → ℕ) where
   address_same (Through r claim) None n = refl
   address_same (Through r claim) (Some x) n = refl
 
+  access_same : (base : Base ℕ) (offset : Option ℕ) (n : ℕ) → access_room (renamed_base name base) (option_map name offset) n ≡ access_room base offset n
+  access_same (Fixed o) None n = refl
+  access_same (Fixed o) (Some r) n = refl
+  access_same (Through r claim) None n = refl
+  access_same (Through r claim) (Some x) n = refl
+
   plain_same : (into : ℕ) (i : Plain ℕ) → plain_room (renamed_plain name into i) ≡ plain_room i
   plain_same into (Set d x) = refl
   plain_same into (Operate operator d x y) = refl
   plain_same into (Point d a) = ap (λ n. n + 3) (address_same a.base a.offset a.displacement)
-  plain_same into (Load kind d a) = ap (λ n. n + 3) (address_same a.base a.offset a.displacement)
-  plain_same into (Store kind a x) = ap (λ n. n + 3) (address_same a.base a.offset a.displacement)
+  plain_same into (Load kind d a) = ap (λ n. n + 3) (access_same a.base a.offset a.displacement)
+  plain_same into (Store kind a x) = ap (λ n. n + 3) (access_same a.base a.offset a.displacement)
   plain_same into (Put x) = refl
   plain_same into (Get d) = refl
 

@@ -21,12 +21,18 @@ abbrev pub address_room : {R : Type 0} → Base R → Option R → ℕ → ℕ
 address_room (Fixed o) offset n = 1 + offset_room offset
 address_room (Through r claim) offset n = 2 + offset_room offset + far_room n
 
+-- a load or a store of an array without an offset may count more than it takes, so that a copy of a register counts less
+abbrev pub access_room : {R : Type 0} → Base R → Option R → ℕ → ℕ
+access_room (Fixed o) None n = 5
+access_room (Fixed o) (Some r) n = address_room (Fixed o) (Some r) n
+access_room (Through r claim) offset n = address_room (Through r claim) offset n
+
 abbrev pub plain_room : {R : Type 0} → Plain R → ℕ
 plain_room (Set d x) = 4
 plain_room (Operate operator d x y) = 7
 plain_room (Point d a) = address_room a.base a.offset a.displacement + 3
-plain_room (Load kind d a) = address_room a.base a.offset a.displacement + 3
-plain_room (Store kind a x) = address_room a.base a.offset a.displacement + 3
+plain_room (Load kind d a) = access_room a.base a.offset a.displacement + 3
+plain_room (Store kind a x) = access_room a.base a.offset a.displacement + 3
 plain_room (Put x) = 4
 plain_room (Get d) = 4
 

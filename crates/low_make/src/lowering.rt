@@ -3,7 +3,7 @@ ghost use Rattle.std.specs.Prelude.{IfOk};
 ghost use Rattle.high_ir.specs.Programs.{program_of};
 ghost use Rattle.low_ir.specs.Programs.{low_of};
 ghost use Rattle.low_make.specs.Lowered.{IsLowered};
-ghost use Rattle.lower_law.specs.Programs.{KeepsProgram};
+ghost use Rattle.lower_law.specs.Programs.{KeepsProgram, SparesRegisters};
 
 use super::program::parts_of;
 use high_ir::High;
@@ -17,6 +17,7 @@ use wcc_base::Memory;
 pub fn lower(alloc: Global, program: &High) -> Result<Low, Memory>
     ensures lowered { IfOk result (λ l. IsLowered (program_of program.now) (low_of l)) }
     ensures keeps { IfOk result (λ l. KeepsProgram (program_of program.now) (low_of l)) }
+    ensures spares { IfOk result (λ l. SparesRegisters (program_of program.now) (low_of l)) }
 {
     let parts = parts_of(alloc, program)?;
     let words = chosen(alloc, &parts.functions)?;

@@ -6,7 +6,7 @@ use Rattle.std.proofs.lemmas.List.Sums.{sum_by-cons}
 use Rattle.low_ir.specs.declared.places.Place.{Place}
 use Rattle.low_ir.specs.Code.{Base, Fixed, Through, Plain, Set, Operate, Point, Load, Store, Put, Get, Instr, Do, Call, End, Jump, Branch, Return, Block, Function, Low, Note}
 use Rattle.low_ir.specs.Places.{Assignment, place_base, place_block, place_blocks, place_code, place_end, place_function, place_functions, place_instr, place_operand, place_plain, placed}
-use Rattle.low_ir.specs.Room.{address_room, block_room, end_room, frame_room, function_room, instr_room, plain_room, room}
+use Rattle.low_ir.specs.Room.{access_room, address_room, block_room, end_room, frame_room, function_room, instr_room, plain_room, room}
 
 module _ (pl : ℕ → Place) where
   address_kept : (base : Base ℕ) (offset : Option ℕ) (n : ℕ) → address_room (place_base pl base) (option_map pl offset) n ≡ address_room base offset n
@@ -15,12 +15,18 @@ module _ (pl : ℕ → Place) where
   address_kept (Through r claim) None n = refl
   address_kept (Through r claim) (Some x) n = refl
 
+  access_kept : (base : Base ℕ) (offset : Option ℕ) (n : ℕ) → access_room (place_base pl base) (option_map pl offset) n ≡ access_room base offset n
+  access_kept (Fixed o) None n = refl
+  access_kept (Fixed o) (Some r) n = refl
+  access_kept (Through r claim) None n = refl
+  access_kept (Through r claim) (Some x) n = refl
+
   plain_kept : (i : Plain ℕ) → plain_room (place_plain pl i) ≡ plain_room i
   plain_kept (Set d x) = refl
   plain_kept (Operate operator d x y) = refl
   plain_kept (Point d a) = ap (λ n. n + 3) (address_kept a.base a.offset a.displacement)
-  plain_kept (Load kind d a) = ap (λ n. n + 3) (address_kept a.base a.offset a.displacement)
-  plain_kept (Store kind a x) = ap (λ n. n + 3) (address_kept a.base a.offset a.displacement)
+  plain_kept (Load kind d a) = ap (λ n. n + 3) (access_kept a.base a.offset a.displacement)
+  plain_kept (Store kind a x) = ap (λ n. n + 3) (access_kept a.base a.offset a.displacement)
   plain_kept (Put x) = refl
   plain_kept (Get d) = refl
 

@@ -23,7 +23,7 @@ use Rattle.lower_budget.specs.Costs.{code_worth}
 use Rattle.lower_budget.proofs.Covers.{Covers, covers_back, covers_front, from_count, from_covers}
 use Rattle.lower_budget.proofs.Operators.{code_worth-append}
 use Rattle.lower_budget.proofs.Amounts.{amount}
-use Rattle.lower_budget.proofs.Values.{as_most, asked, costs, far, moved, operand_cost, slack}
+use Rattle.lower_budget.proofs.Values.{access_most, as_most, asked, costs, far, moved, operand_cost, slack}
 
 module _ (worth : ℕ → ℕ) (scope : Scope) where
   -- code that so much pays for, with more, and so many operations for its registers
@@ -103,7 +103,8 @@ module _ (worth : ℕ → ℕ) (scope : Scope) where
       let own_code = only (Do (Store (kind_of kind) (address (Fixed n) o) v.value)) in
       let e = code_worth-append worth o.code (v.code ++ own_code) in
       let e2 = code_worth-append worth v.code own_code in
-      omega (arith, e, e2, h)
+      let f = access_most n o.register o.displacement in
+      omega (arith, e, e2, f)
   store_room (Through r n) kind o v c h =
       let own_code = only (Do (Store (kind_of kind) (address (Through r n) o) v.value)) in
       let e = code_worth-append worth o.code (v.code ++ own_code) in

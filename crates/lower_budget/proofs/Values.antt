@@ -11,7 +11,7 @@ use Rattle.high_ir.specs.Size.{expr_operations}
 use Rattle.high_ir.specs.Tree as high
 use Rattle.low_ir.specs.declared.object.Kind.{Kind}
 use Rattle.low_ir.specs.Code.{Operand, Register, Constant, Base, Fixed, Through, Load, Do}
-use Rattle.low_ir.specs.Room.{far_room, is_near, offset_room}
+use Rattle.low_ir.specs.Room.{access_room, far_room, is_near, offset_room}
 use Rattle.lower_definition.specs.Objects.{kind_of, scale_of}
 use Rattle.lower_definition.specs.Operators.{binary_code, only, operate, unary_code}
 use Rattle.lower_definition.specs.Values.{Scope, Share, Coded, Valued, Index, Offset, address, base_of, bytes, element_into, forms, in_register, index_register, is_constant, leaf, load_into, minus, offset_by, offset_of, operand, operand_by, plain_index, plus, register_of, scaled, scaled_as, scaled_by, scaled_in, shared, sides_into, split, split_register, unary_into, variable}
@@ -107,6 +107,11 @@ known_split LessUnsigned left right l r whole a b c = c
 known_split AtLeast left right l r whole a b c = c
 known_split AtLeastUnsigned left right l r whole a b c = c
 
+-- a load or a store of an array
+pub access_most : (n : ℕ) (offset : Option ℕ) (d : ℕ) → access_room {R = ℕ} (Fixed n) offset d ≤ 5
+access_most n None d = omega arith
+access_most n (Some r) d = omega arith
+
 pub as_most : (k : ℕ) (o : Option ℕ) → length (scaled_as k o) ≤ 1
 as_most zero o = omega arith
 as_most (suc k) None = omega arith
@@ -155,7 +160,7 @@ module _ (worth : ℕ → ℕ) (scope : Scope) where
     load_room kind d (Some b) o c h = let e = code_worth-append worth o.code (only (Do (Load kind d (address b o)))) in by_base b e
       where
         by_base : (b : Base ℕ) → code_worth worth (o.code ++ only (Do (Load kind d (address b o)))) ≡ code_worth worth o.code + code_worth worth (only (Do (Load kind d (address b o)))) → code_worth worth (o.code ++ only (Do (Load kind d (address b o)))) ≤ code_worth worth o.code + 8 + far c
-        by_base (Fixed n) e = omega (arith, e, h)
+        by_base (Fixed n) e = let f = access_most n o.register o.displacement in omega (arith, e, f)
         by_base (Through r n) e = omega (arith, e, h)
 
     -- an expression in a register, and as an index

@@ -4,13 +4,14 @@ use Rattle.std.specs.Prelude.{All, option_to_list, slice_get, sum_by}
 use Rattle.std.proofs.lemmas.List.Concat.{flat_map-cons}
 use Rattle.std.proofs.lemmas.List.Elements.{All-append, All-nil, All-weaker}
 use Rattle.std.proofs.lemmas.List.Sums.{sum_by-cons}
+use Rattle.std.proofs.lemmas.Option.{same_Some}
 use Rattle.high_ir.specs.Formed.{IsHigh}
 use Rattle.high_ir.specs.Runs.{Run, hrun}
 use Rattle.high_ir.specs.Size.{operations}
 use Rattle.high_ir.specs.Tree as high
 use Rattle.low_ir.specs.Code.{Address, Base, Block, Fixed, Function, Instr, Low, Note, Through}
 use Rattle.low_ir.specs.declared.run.Began.{Began}
-use Rattle.low_ir.specs.Formed.{addresses}
+use Rattle.low_ir.specs.Formed.{addresses, opening}
 use Rattle.low_ir.specs.Places.{assignment, in_slots}
 use Rattle.low_ir.specs.Turns.{mark_at, marks_passed}
 use Rattle.low_ir.proofs.InSlots.{slots_assigned}
@@ -33,8 +34,8 @@ use Rattle.lower_budget.proofs.Programs.{room_few}
 use Rattle.lower_budget.proofs.Reaches.{reach_less}
 use Rattle.lower_budget.proofs.Weights.{weight_less}
 use Rattle.lower_law.specs.Arrays.{IsAccess}
-use Rattle.lower_law.specs.Functions.{AccessesOf, ComesFrom}
-use Rattle.lower_law.specs.Programs.{KeepsProgram}
+use Rattle.lower_law.specs.Functions.{AccessesOf, ComesFrom, registers_of}
+use Rattle.lower_law.specs.Programs.{KeepsProgram, SparesRegisters}
 use Rattle.lower_law.proofs.Functions.{functions_come, main_there, marks_less, reached_there}
 use Rattle.lower_law.proofs.Totals.{arrays_same, loops_few, total_less}
 
@@ -147,6 +148,21 @@ module _ (p : high.Program) (is_high : IsHigh p) (wss : List (List ℕ)) where
         marks = omega (arith, marks, same);
         accesses = accesses_held p q wss c.number c.function o.fn ws c.accesses;
       })
+
+  -- the function of an opening mark is the one that it comes from
+  pub spares : SparesRegisters p held
+  spares i number fn h e opens there =
+      let o = of_function wss q i fn e in
+      let both = functions_come p is_high i o.fn o.there in
+      let c = both.comes in
+      let spared = both.spared in
+      let few = words_few (words_at wss i) o.fn in
+      let ws = words_in (words_at wss i) o.fn in
+      let is : Some c.number ≡ Some number = sym (block_mark ws o.fn 0 ∙ c.opens) ∙ ap opening o.is ∙ opens in
+      let same : c.number ≡ number = same_Some c.number number is in
+      let one : c.function ≡ h = same_Some c.function h (sym c.there ∙ ap (slice_get p.functions) same ∙ there) in
+      let size : fn.size ≡ o.fn.size + length ws = sym (ap (λ (x : Function ℕ Note). x.size) o.is) in
+      subst (λ (x : high.Function). fn.size ≤ registers_of x) one (omega (arith, spared, few, size))
 
   pub keeps : KeepsProgram p held
   keeps =

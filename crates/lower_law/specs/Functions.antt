@@ -13,6 +13,13 @@ use Rattle.lower_law.specs.Arrays.{IsAccess}
 abbrev pub AccessesOf : high.Program → Low → ℕ → high.Function → Function ℕ Note → Block ℕ Note → Type 0
 AccessesOf p q f h fn b = All (λ (i : Instr ℕ Note). All (λ (a : Address ℕ). IsAccess p q f h fn a.base) (addresses i)) b.code
 
+-- so many registers more a function may have than it is made with
+abbrev pub spare_registers : ℕ
+spare_registers = 8
+
+abbrev pub registers_of : high.Function → ℕ
+registers_of h = h.values + h.locals + h.arrays + 2 * operations h.body
+
 pub record ComesFrom (p : high.Program) (q : Low) (fn : Function ℕ Note) : Type 0 where
   -- it has the opening mark of a function that calls reach from main
   pub number : ℕ
@@ -22,8 +29,8 @@ pub record ComesFrom (p : high.Program) (q : Low) (fn : Function ℕ Note) : Typ
   pub opens : opening fn ≡ Some number
   -- its loops have the numbers and the bounds of that function's, in the same order
   pub loops : map bounded fn.loops ≡ loops_of function.body
-  -- beside its variables and the arrays that it takes it has at most two registers for each operation
-  pub registers : fn.size ≤ function.values + function.locals + function.arrays + 2 * operations function.body
+  -- beside its variables and the arrays that it takes it has at most two registers for each operation, and those that are spare
+  pub registers : fn.size ≤ registers_of function + spare_registers
   -- its marks stand at no more places than it has operations, the opening mark included
   pub marks : sum_by marks_at fn.blocks ≤ operations function.body + 1
   pub accesses : All (AccessesOf p q number function fn) fn.blocks

@@ -3,11 +3,11 @@ use Rattle.std.specs.Prelude.{◌≡◌, ℕ, ◌*◌, ◌+◌, ◌<◌, ◌≤�
 use Rattle.high_ir.specs.Formed.{IsHigh}
 use Rattle.high_ir.specs.Runs.{hrun}
 use Rattle.high_ir.specs.Size.{local_object_bytes, program_operations}
-use Rattle.high_ir.specs.Tree.{Program}
+use Rattle.high_ir.specs.Tree.{Program, Function as HighFunction}
 use Rattle.high_ir.specs.Weight as high
 use Rattle.high_ir.specs.Whole.{IsWhole}
 use Rattle.low_ir.specs.Code.{Function, Low, Note}
-use Rattle.low_ir.specs.Formed.{IsLow, mark_of}
+use Rattle.low_ir.specs.Formed.{IsLow, mark_of, opening}
 use Rattle.low_ir.specs.Places.{assignment, in_slots}
 use Rattle.low_ir.specs.Room.{reach, room, weight}
 use Rattle.low_ir.specs.Spacing.{Carries}
@@ -18,7 +18,7 @@ use Rattle.lower_program.specs.Kept.{IsKept}
 use Rattle.lower_budget.specs.Costs.{marks_at}
 use Rattle.lower_origins.specs.Reached.{IsReached}
 use Rattle.lower_law.specs.Arrays.{local_bytes}
-use Rattle.lower_law.specs.Functions.{ComesFrom}
+use Rattle.lower_law.specs.Functions.{ComesFrom, registers_of}
 
 -- a function of a low program by its opening mark
 pub record HasFunction (q : Low) (f : ℕ) : Type 0 where
@@ -46,6 +46,13 @@ pub record KeepsProgram (p : Program) (q : Low) : Type 0 where
   pub weight : weight q ≤ 16 * high.weight p + 64
   pub reach : (mark : ℕ) → reach q mark ≤ high.reach p mark
 
+-- no function has one of the spare registers yet
+abbrev pub SparesRegisters : Program → Low → Type 0
+SparesRegisters p q = (i number : ℕ) (fn : Function ℕ Note) (h : HighFunction) → slice_get q.functions i ≡ Some fn → opening fn ≡ Some number → slice_get p.functions number ≡ Some h → fn.size ≤ registers_of h
+
 -- and so whichever words have registers of their own
 abbrev pub LoweredKeeps : Type 0
 LoweredKeeps = (p : Program) → IsHigh p → (words : List (List ℕ)) → KeepsProgram p (held_program words (lowered p))
+
+abbrev pub LoweredSpares : Type 0
+LoweredSpares = (p : Program) → IsHigh p → (words : List (List ℕ)) → SparesRegisters p (held_program words (lowered p))

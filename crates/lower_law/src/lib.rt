@@ -6,9 +6,10 @@
 //! that calls reach from main; an access names its object, or the arrays that calls pass for its array parameter; and the
 //! low program takes, and may execute, at most so many machine instructions.
 //!
-//! This crate has no code: [`lowered_keeps`] is the contract of a function without a body.
+//! This crate has no code: [`lowered_keeps`] is the contract of a function without a body, and so is [`lowered_spares`], that the
+//! registers that a pass may add are all left.
 #![tactic(auto)]
 
 mod laws;
 
-pub use laws::lowered_keeps;
+pub use laws::{lowered_keeps, lowered_spares};

@@ -5,8 +5,8 @@ use Rattle.low_ir.specs.Formed.{IsLow}
 use Rattle.low_ir.specs.View.{claim_of}
 use Rattle.lower_definition.specs.Programs.{lowered}
 use Rattle.lower_formed.proofs.Programs.{is_low}
-use Rattle.lower_law.specs.Programs.{KeepsProgram}
-use Rattle.lower_law.proofs.Law.{keeps}
+use Rattle.lower_law.specs.Programs.{KeepsProgram, SparesRegisters}
+use Rattle.lower_law.proofs.Law.{keeps, spares}
 use Rattle.low_make.proofs.Holding.{parts_held}
 use Rattle.low_make.proofs.lowering.lower.Goals as goal
 
@@ -29,3 +29,10 @@ returns-clause-keeps c =
     let p = program_of high in
     let words = c.deref-2.result.now in
     subst (KeepsProgram p) (sym (parts_held p c.in_ok-parts.parts words c.in_ok-functions.functions.items c.deref-3.result.now c.in_ok-parts.ensures c.deref-3.ensures.value c.in_ok-functions.ensures)) (keeps p high.is_high (map claim_of words))
+
+pub returns-clause-spares : goal.returns-clause-spares
+returns-clause-spares c =
+    let high = c.args.program.now in
+    let p = program_of high in
+    let words = c.deref-2.result.now in
+    subst (SparesRegisters p) (sym (parts_held p c.in_ok-parts.parts words c.in_ok-functions.functions.items c.deref-3.result.now c.in_ok-parts.ensures c.deref-3.ensures.value c.in_ok-functions.ensures)) (spares p high.is_high (map claim_of words))

@@ -1,0 +1,4 @@
+pub mod Promoting
+pub mod Suiting
+pub mod Paying
+pub mod Laws

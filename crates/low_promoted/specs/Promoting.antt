@@ -1,0 +1,83 @@
+-- Global scalars in registers of their own: a program in the low form whose functions have some of its scalars in registers, which are
+-- loaded where a function begins and stored where it returns. What an instruction loads of such a scalar it reads from the register, and
+-- what it stores to it it writes to the register.
+use Rattle.std.specs.Prelude.{ℕ, suc, ◌+◌, ◌==◌, Bool, true, false, if◌then◌else◌, List, [], ◌∷◌, ◌++◌, length, map, Option, Some, None, slice_index_or}
+use Rattle.low_ir.specs.declared.object.Kind.{Kind}
+use Rattle.low_ir.specs.declared.object.Kind.TheVariants.{Word}
+use Rattle.low_ir.specs.Code.{Operand, Register, Base, Fixed, Through, Address, Plain, Set, Operate, Point, Load, Store, Put, Get, Instr, Do, Call, End, Jump, Branch, Return, Block, Function, Low, Note}
+use Rattle.low_constants.specs.Holding.{opened}
+
+-- a scalar that has a register in a function, and whether the function stores to it
+pub record Resident : Type 0 where
+  pub object : ℕ
+  pub written : Bool
+
+-- the register of an object, among registers from r on
+abbrev pub register_of : ℕ → List Resident → ℕ → Option ℕ
+register_of r [] o = None
+register_of r (h ∷ hs) o = if h.object == o then Some r else register_of (suc r) hs o
+
+-- the address of a scalar
+abbrev pub scalar_address : ℕ → Address ℕ
+scalar_address o = record { base = Fixed o; offset = None; displacement = 0 }
+
+-- scalars are loaded into registers from r on
+abbrev pub loads : ℕ → List Resident → List (Instr ℕ Note)
+loads r [] = []
+loads r (h ∷ hs) = Do (Load Word r (scalar_address h.object)) ∷ loads (suc r) hs
+
+-- those that were written are stored from registers from r on
+abbrev pub stores : ℕ → List Resident → List (Instr ℕ Note)
+stores r [] = []
+stores r (h ∷ hs) = if h.written then Do (Store Word (scalar_address h.object) (Register r)) ∷ stores (suc r) hs else stores (suc r) hs
+
+abbrev pub load_by : Option ℕ → Kind → ℕ → Address ℕ → Plain ℕ
+load_by None kind d a = Load kind d a
+load_by (Some s) kind d a = Set d (Register s)
+
+abbrev pub store_by : Option ℕ → Kind → Address ℕ → Operand ℕ → Plain ℕ
+store_by None kind a x = Store kind a x
+store_by (Some s) kind a x = Set s x
+
+-- code over scalars in registers from r on
+module _ (r : ℕ) (hs : List Resident) where
+  abbrev pub resident_at : Base ℕ → Option ℕ
+  resident_at (Fixed o) = register_of r hs o
+  resident_at (Through s claim) = None
+
+  abbrev pub promoted_plain : Plain ℕ → Plain ℕ
+  promoted_plain (Set d x) = Set d x
+  promoted_plain (Operate operator d x y) = Operate operator d x y
+  promoted_plain (Point d a) = Point d a
+  promoted_plain (Load kind d a) = load_by (resident_at a.base) kind d a
+  promoted_plain (Store kind a x) = store_by (resident_at a.base) kind a x
+  promoted_plain (Put x) = Put x
+  promoted_plain (Get d) = Get d
+
+  abbrev pub promoted_instr : Instr ℕ Note → Instr ℕ Note
+  promoted_instr (Do i) = Do (promoted_plain i)
+  promoted_instr (Call d f args note) = Call d f args note
+
+  -- what is done before a block ends
+  abbrev pub closing : End ℕ → List (Instr ℕ Note)
+  closing (Jump b) = []
+  closing (Branch c x y taken other) = []
+  closing (Return x) = stores r hs
+
+  abbrev pub promoted_block : Block ℕ Note → Block ℕ Note
+  promoted_block b = record { mark = b.mark; code = map promoted_instr b.code ++ closing b.end; end = b.end }
+
+abbrev pub promoted_function : List Resident → Function ℕ Note → Function ℕ Note
+promoted_function hs fn =
+    record { parameters = fn.parameters; size = fn.size + length hs; loops = fn.loops; blocks = opened (loads fn.size hs) (map (promoted_block fn.size hs) fn.blocks) }
+
+-- by function: its scalars
+abbrev pub residents_at : List (List Resident) → ℕ → List Resident
+residents_at hss f = slice_index_or hss f []
+
+abbrev pub promoted_functions : List (List Resident) → ℕ → List (Function ℕ Note) → List (Function ℕ Note)
+promoted_functions hss f [] = []
+promoted_functions hss f (fn ∷ fns) = promoted_function (residents_at hss f) fn ∷ promoted_functions hss (suc f) fns
+
+abbrev pub promoted_program : List (List Resident) → Low → Low
+promoted_program hss q = record { functions = promoted_functions hss 0 q.functions; claims = q.claims; objects = q.objects; main = q.main; marks = q.marks }
