@@ -1,6 +1,6 @@
 // From a source to its image, a function for each stage.
 ghost use Rattle.std.specs.Prelude.{◌≡◌, ℕ, List, IfOk};
-ghost use Rattle.facts_front.specs.Fronts.{IsSource};
+ghost use Rattle.facts_sources.specs.Sources.{IsSource};
 ghost use Rattle.types_tree.specs.View.{program_of as source_of};
 ghost use Rattle.high_ir.specs.Programs.{program_of};
 ghost use Rattle.high_pass.specs.Listing.{listing_of};
