@@ -19,6 +19,7 @@ use low_ir::LowReg;
 use low_layout::{Laid, lay};
 use low_live::live;
 use low_make::lower;
+use low_promotes::promoted;
 use low_registers::allocate;
 use low_reloads::without_reloads;
 use low_threads::threaded;
@@ -34,13 +35,14 @@ pub fn planned(alloc: Global, source: &Source) -> Result<Carried, Memory>
     make(alloc, &source.typed, &source.facts)
 }
 
-/// A program in the low form, on short ways and without needless loads and copies, with machine registers for its registers, and slots
-/// where there are too few.
+/// A program in the low form with global scalars in registers, on short ways and without needless loads and copies, with machine
+/// registers for its registers, and slots where there are too few.
 fn code_of(alloc: Global, program: &High) -> Result<LowReg, Memory>
     ensures { IfOk result (IsLowered (program_of program.now)) }
 {
     let plain = lower(alloc, program)?;
-    let short = threaded(alloc, plain)?;
+    let held = promoted(alloc, plain)?;
+    let short = threaded(alloc, held)?;
     let loaded = without_reloads(alloc, short)?;
     let brief = without_copies(alloc, loaded)?;
     let low = threaded(alloc, brief)?;

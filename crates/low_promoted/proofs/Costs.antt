@@ -1,14 +1,15 @@
 -- What scalars in registers cost.
-use Rattle.std.proofs.Common.{◌≡◌, ◌≤◌, ℕ, zero, suc, ◌+◌, ◌*◌, Bool, true, false, List, [], ◌∷◌, ◌++◌, length, Option, Some, None, refl, ap, arith}
-use Rattle.std.specs.Prelude.{map, slice_get, sum_by, if◌then◌else◌}
+use Rattle.std.proofs.Common.{◌≡◌, ◌≤◌, ℕ, zero, suc, ◌+◌, ◌*◌, Bool, true, false, List, [], ◌∷◌, ◌++◌, Option, Some, None, refl, ap, ◌∙◌, arith}
+use Rattle.std.specs.Prelude.{map, slice_get, if◌then◌else◌}
 use Rattle.std.proofs.Math.Nat.{mul-le-mul_left}
-use Rattle.std.proofs.lemmas.List.Sums.{sum_by-cons}
-use Rattle.low_ir.specs.declared.object.Kind.TheVariants.{Word}
-use Rattle.low_ir.specs.Code.{Register, Store, Instr, Do, Call, End, Jump, Branch, Return, Block, Loop, Function, Low, Note}
+use Rattle.std.proofs.lemmas.List.{append_assoc}
+use Rattle.low_ir.specs.declared.object.Kind.{Kind}
+use Rattle.low_ir.specs.declared.object.Kind.TheVariants.{Unsigned8, Signed8, Unsigned16, Signed16, Word}
+use Rattle.low_ir.specs.Code.{Operand, Register, Constant, Address, Set, Operate, Point, Load, Store, Put, Get, Instr, Do, Call, End, Jump, Branch, Return, Block, Loop, Function, Low, Note}
 use Rattle.low_ir.specs.Room.{block_room, called, marks_once, reach, reaches, repeated, repeated_in, times, weight, weights}
 use Rattle.low_constants.specs.Holding.{opened}
-use Rattle.low_promoted.specs.Paying.{ArePaid, own_weight}
-use Rattle.low_promoted.specs.Promoting.{Resident, closing, loads, promoted_block, promoted_function, promoted_functions, promoted_instr, promoted_program, residents_at, scalar_address, stores}
+use Rattle.low_promoted.specs.Paying.{ArePaid}
+use Rattle.low_promoted.specs.Promoting.{Resident, closing, kept_by, load_by, loads, promoted_block, promoted_code, promoted_function, promoted_instr, promoted_program, resident_at, residents_at, scalar_address, store_by, stores}
 use Rattle.low_promoted.proofs.Tables.{function_none, function_promoted, promoted_at}
 
 -- calls are the same
@@ -17,7 +18,7 @@ module _ (worth : ℕ → ℕ) (n : ℕ) (hs : List Resident) where
   stores_call r [] = refl
   stores_call r (h ∷ hs) = by_flag h.written (stores_call (suc r) hs)
     where
-      by_flag : (b : Bool) → called worth (stores (suc r) hs) ≡ 0 → called worth (if b then Do (Store Word (scalar_address h.object) (Register r)) ∷ stores (suc r) hs else stores (suc r) hs) ≡ 0
+      by_flag : (b : Bool) → called worth (stores (suc r) hs) ≡ 0 → called worth (if b then Do (Store h.kind (scalar_address h.object) (Register r)) ∷ stores (suc r) hs else stores (suc r) hs) ≡ 0
       by_flag true e = e
       by_flag false e = e
 
@@ -26,10 +27,38 @@ module _ (worth : ℕ → ℕ) (n : ℕ) (hs : List Resident) where
   closing_calls (Branch c x y b1 b2) = refl
   closing_calls (Return x) = stores_call n hs
 
-  code_calls : (is : List (Instr ℕ Note)) (end : End ℕ) → called worth (map (promoted_instr n hs) is ++ closing n hs end) ≡ called worth is
+  kept_calls : (kind : Kind) (s r : ℕ) (is : List (Instr ℕ Note)) → called worth (kept_by kind s r ++ is) ≡ called worth is
+  kept_calls Unsigned8 s r is = refl
+  kept_calls Signed8 s r is = refl
+  kept_calls Unsigned16 s r is = refl
+  kept_calls Signed16 s r is = refl
+  kept_calls Word s r is = refl
+
+  load_calls : (kind : Kind) (d : ℕ) (a : Address ℕ) (o : Option ℕ) (is : List (Instr ℕ Note)) → called worth (load_by o kind d a ++ is) ≡ called worth is
+  load_calls kind d a None is = refl
+  load_calls kind d a (Some s) is = refl
+
+  store_calls : (kind : Kind) (a : Address ℕ) (x : Operand ℕ) (o : Option ℕ) (is : List (Instr ℕ Note)) → called worth (store_by o kind a x ++ is) ≡ called worth is
+  store_calls kind a x None is = refl
+  store_calls kind a (Register r) (Some s) is = kept_calls kind s r is
+  store_calls kind a (Constant w) (Some s) is = refl
+
+  -- what is called before the rest is
+  instr_calls : (i : Instr ℕ Note) (is js : List (Instr ℕ Note)) → called worth js ≡ called worth is → called worth (promoted_instr n hs i ++ js) ≡ called worth (i ∷ is)
+  instr_calls (Do (Set d x)) is js e = e
+  instr_calls (Do (Operate operator d x y)) is js e = e
+  instr_calls (Do (Point d a)) is js e = e
+  instr_calls (Do (Load kind d a)) is js e = load_calls kind d a (resident_at n hs a.base) js ∙ e
+  instr_calls (Do (Store kind a x)) is js e = store_calls kind a x (resident_at n hs a.base) js ∙ e
+  instr_calls (Do (Put x)) is js e = e
+  instr_calls (Do (Get d)) is js e = e
+  instr_calls (Call d f args note) is js e = ap (λ m. worth f + m) e
+
+  code_calls : (is : List (Instr ℕ Note)) (end : End ℕ) → called worth (promoted_code n hs is ++ closing n hs end) ≡ called worth is
   code_calls [] end = closing_calls end
-  code_calls (Do i ∷ is) end = code_calls is end
-  code_calls (Call d f args note ∷ is) end = ap (λ m. worth f + m) (code_calls is end)
+  code_calls (i ∷ is) end =
+      ap (called worth) (append_assoc (promoted_instr n hs i) (promoted_code n hs is) (closing n hs end))
+      ∙ instr_calls i is (promoted_code n hs is ++ closing n hs end) (code_calls is end)
 
   loads_call : (r : ℕ) (hs : List Resident) (is : List (Instr ℕ Note)) → called worth (loads r hs ++ is) ≡ called worth is
   loads_call r [] is = refl
@@ -81,7 +110,7 @@ module _ (hss : List (List Resident)) (q : Low) where
       let hs = residents_at hss f in
       let n = fn.size in
       let a = repeated_less n hs (passes mark w2) (passes mark w1) (λ bl. let x = code_calls w2 n hs bl.code bl.end in let y = called_less w2 w1 h bl.code in omega (arith, x, y))
-      (λ bl. let x = loads_call w2 n hs n hs (map (promoted_instr n hs) bl.code ++ closing n hs bl.end) in let z = code_calls w2 n hs bl.code bl.end in let y = called_less w2 w1 h bl.code in omega (arith, x, y, z))
+      (λ bl. let x = loads_call w2 n hs n hs (promoted_code n hs bl.code ++ closing n hs bl.end) in let z = code_calls w2 n hs bl.code bl.end in let y = called_less w2 w1 h bl.code in omega (arith, x, y, z))
       fn.loops fn.blocks in
       let b = ap (repeated_in (passes mark w2)) (function_promoted hss q f fn e) in
       omega (arith, a, b)
@@ -102,7 +131,7 @@ module _ (hss : List (List Resident)) (q : Low) where
         let n = fn.size in
         let gn = promoted_function hs fn in
         let a = repeated_less n hs (λ b. called w2 b.code) (λ b. called w1 b.code) (λ bl. let x = code_calls w2 n hs bl.code bl.end in let y = called_less w2 w1 h bl.code in omega (arith, x, y))
-        (λ bl. let x = loads_call w2 n hs n hs (map (promoted_instr n hs) bl.code ++ closing n hs bl.end) in let z = code_calls w2 n hs bl.code bl.end in let y = called_less w2 w1 h bl.code in omega (arith, x, y, z))
+        (λ bl. let x = loads_call w2 n hs n hs (promoted_code n hs bl.code ++ closing n hs bl.end) in let z = code_calls w2 n hs bl.code bl.end in let y = called_less w2 w1 h bl.code in omega (arith, x, y, z))
         fn.loops fn.blocks in
         let b = ap (repeated_in (λ b. block_room b + called w2 b.code)) (function_promoted hss q f fn e) in
         let c = repeated_sum block_room (λ b. called w2 b.code) fn.loops 0 gn.blocks in

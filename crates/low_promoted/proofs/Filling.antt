@@ -1,21 +1,20 @@
 -- Scalars are loaded into registers, and stored from them.
-use Rattle.std.proofs.Common.{◌≡◌, ◌<◌, ◌≤◌, ℕ, zero, suc, ◌+◌, Bool, true, false, List, [], ◌∷◌, ◌++◌, length, Option, Some, None, refl, sym, ap, ◌∙◌, arith, get_or-set_same, get_or-set_other, length-set}
-use Rattle.std.specs.Prelude.{◌^◌, ◌==◌, slice_get, slice_index_or, slice_set, if◌then◌else◌}
+use Rattle.std.proofs.Common.{◌≡◌, ◌<◌, ◌≤◌, ℕ, suc, ◌+◌, Bool, true, false, List, [], ◌∷◌, ◌++◌, length, Some, None, refl, sym, ap, ◌∙◌, arith, get_or-set_same, get_or-set_other, length-set}
+use Rattle.std.specs.Prelude.{◌==◌, slice_get, slice_index_or, slice_set, if◌then◌else◌}
 use Rattle.std.proofs.lemmas.Bool.{eqb-false, eqb-true}
 use Rattle.std.proofs.lemmas.Option.{slice_get_within}
-use Rattle.low_ir.specs.declared.object.Kind.TheVariants.{Word as WordKind}
 use Rattle.low_ir.specs.Code.{Register, Plain, Store, Instr, Do, End, Low, Note}
 use Rattle.low_ir.specs.declared.run.Value.{Value}
 use Rattle.low_ir.specs.declared.run.Value.TheVariants.{Word}
+use Rattle.low_ir.specs.Kinds.{converted}
 use Rattle.low_ir.specs.Effects.{Contents, World, effect_of, element, loaded, stored, there, gives, changes, with_element, with_objects}
 use Rattle.low_ir.specs.Runs.{Going, Bank, values_cons, goes_on, finish, run, set_in, virtual}
 use Rattle.low_constants.proofs.Stores.{lt_test}
 use Rattle.low_reloaded.proofs.Effects.{get-set_other, get-set_same}
 use Rattle.low_reloaded.proofs.Small.{LowRunning, LowWaiting}
-use Rattle.low_reloaded.proofs.Words.{converted_word}
 use Rattle.low_promoted.specs.Promoting.{Resident, loads, scalar_address, stores}
 use Rattle.low_promoted.specs.Suiting.{AreDistinct, is_resident}
-use Rattle.low_promoted.proofs.Scalars.{AllHeld, IsHeld, held_kept, scalar, unlike}
+use Rattle.low_promoted.proofs.Scalars.{AllHeld, IsHeld, held_kept, only_element, only_stored, scalar, unlike}
 
 abbrev pub LowCode : Type 0
 LowCode = List (Instr ℕ Note)
@@ -27,9 +26,9 @@ running f is end t below u = record { top = record { func = f; code = is; end = 
 -- scalars that hold the same word in both memories
 pub record IsReady (objects others : List Contents) (h : Resident) : Type 0 where
   pub word : ℕ
-  pub small : word < 2 ^ 32
-  pub here : slice_get objects h.object ≡ Some (scalar (Some word))
-  pub there : slice_get others h.object ≡ Some (scalar (Some word))
+  pub kept : converted h.kind word ≡ word
+  pub here : slice_get objects h.object ≡ Some (scalar h.kind (Some word))
+  pub there : slice_get others h.object ≡ Some (scalar h.kind (Some word))
 
 abbrev pub AreReady : List Contents → List Contents → List Resident → Type 0
 AreReady objects others [] = Unit {0}
@@ -53,7 +52,7 @@ filled q f is end t below u objects r (h ∷ hs) room ready =
     let size = length-set t r (Some x) in
     let a = filled q f is end t2 below u objects (suc r) hs (omega (arith, room, size)) ready.1 in
     let z : LowRunning = running f (loads r (h ∷ hs) ++ is) end t below u in
-    let loads_it : loaded u.objects WordKind h.object 0 ≡ Some k.word = ap (λ c. there c (element WordKind 0)) k.there in
+    let loads_it : loaded u.objects h.kind h.object 0 ≡ Some k.word = ap (λ c. there c (element h.kind 0)) k.there ∙ only_element h.kind (Some k.word) in
     record {
       bank = a.bank;
       runs = ap (λ o. run virtual q (length hs) (finish virtual z (loads (suc r) hs ++ is) (Some r) (there o (λ w. gives u (Word w))))) loads_it
@@ -64,7 +63,7 @@ filled q f is end t below u objects r (h ∷ hs) room ready =
         record {
           word = k.word;
           element = Some k.word;
-          small = k.small;
+          kept = k.kept;
           here = k.here;
           there = k.there;
           same = λ e. refl;
@@ -90,7 +89,7 @@ module _ (q : Low) (f : ℕ) (end : End ℕ) (t : Bank) (below : List LowWaiting
       by_test : (o : ℕ) (b : Bool) → (h.object == o) ≡ b → (if b then true else is_resident hs o) ≡ true → slice_get a.others o ≡ slice_get objects o
       by_test o true t e =
           let same : h.object ≡ o = eqb-true h.object o t in
-          ap (slice_get a.others) (sym same) ∙ a.still h.object distinct.0 ∙ held.there ∙ ap (λ x. Some (scalar x)) (held.same w) ∙ sym held.here ∙ ap (slice_get objects) same
+          ap (slice_get a.others) (sym same) ∙ a.still h.object distinct.0 ∙ held.there ∙ ap (λ x. Some (scalar h.kind x)) (held.same w) ∙ sym held.here ∙ ap (slice_get objects) same
       by_test o false t e = a.back o e
 
       rest_still : (o : ℕ) (b : Bool) → (if b then true else is_resident hs o) ≡ false → slice_get a.others o ≡ slice_get u.objects o
@@ -99,7 +98,7 @@ module _ (q : Low) (f : ℕ) (end : End ℕ) (t : Bank) (below : List LowWaiting
 
   -- the first scalar is stored
   abbrev new : List Contents
-  new = slice_set u.objects h.object (scalar (Some held.word))
+  new = slice_set u.objects h.object (scalar h.kind (Some held.word))
 
   -- it isn't one of the others
   other : (o : ℕ) → is_resident hs o ≡ true → o ≡ h.object → ⊥
@@ -109,13 +108,13 @@ module _ (q : Low) (f : ℕ) (end : End ℕ) (t : Bank) (below : List LowWaiting
   rest = stores (suc r) hs
 
   abbrev first : Plain ℕ
-  first = Store WordKind (scalar_address h.object) (Register r)
+  first = Store h.kind (scalar_address h.object) (Register r)
 
   was_written : StoredBack q f rest end t below (with_objects u new) objects hs → StoredBack q f (Do first ∷ rest) end t below u objects (h ∷ hs)
   was_written a =
       let z : LowRunning = running f (Do first ∷ rest) end t below u in
-      let there_it : h.object < length u.objects = slice_get_within u.objects h.object (scalar held.element) held.there in
-      let stored_it : stored u.objects WordKind h.object 0 held.word ≡ Some new = ap (λ c. there c (λ c. there (with_element WordKind 0 held.word c) (λ d. Some (slice_set u.objects h.object d)))) held.there ∙ ap (λ n. Some (slice_set u.objects h.object (scalar (Some n)))) (converted_word held.word held.small) in
+      let there_it : h.object < length u.objects = slice_get_within u.objects h.object (scalar h.kind held.element) held.there in
+      let stored_it : stored u.objects h.kind h.object 0 held.word ≡ Some new = ap (λ c. there c (λ c. there (with_element h.kind 0 held.word c) (λ d. Some (slice_set u.objects h.object d)))) held.there ∙ ap (λ c. there c (λ d. Some (slice_set u.objects h.object d))) (only_stored h.kind held.word held.element) ∙ ap (λ n. Some (slice_set u.objects h.object (scalar h.kind (Some n)))) held.kept in
       record {
         steps = suc a.steps;
         others = a.others;
@@ -128,12 +127,12 @@ module _ (q : Low) (f : ℕ) (end : End ℕ) (t : Bank) (below : List LowWaiting
       by_test : (o : ℕ) → h.object < length u.objects → (b : Bool) → (h.object == o) ≡ b → (if b then true else is_resident hs o) ≡ true → slice_get a.others o ≡ slice_get objects o
       by_test o lt true t e =
           let same : h.object ≡ o = eqb-true h.object o t in
-          ap (slice_get a.others) (sym same) ∙ a.still h.object distinct.0 ∙ get-set_same u.objects h.object (scalar (Some held.word)) lt ∙ sym held.here ∙ ap (slice_get objects) same
+          ap (slice_get a.others) (sym same) ∙ a.still h.object distinct.0 ∙ get-set_same u.objects h.object (scalar h.kind (Some held.word)) lt ∙ sym held.here ∙ ap (slice_get objects) same
       by_test o lt false t e = a.back o e
 
       rest_still : (o : ℕ) (b : Bool) → (h.object == o) ≡ b → (if b then true else is_resident hs o) ≡ false → slice_get a.others o ≡ slice_get u.objects o
       rest_still o true t e = cc
-      rest_still o false t e = a.still o e ∙ get-set_other u.objects h.object o (scalar (Some held.word)) (λ z. eqb-false h.object o t (sym z))
+      rest_still o false t e = a.still o e ∙ get-set_other u.objects h.object o (scalar h.kind (Some held.word)) (λ z. eqb-false h.object o t (sym z))
 
 pub stored_back : (q : Low) (f : ℕ) (end : End ℕ) (t : Bank) (below : List LowWaiting) (u : World) (objects : List Contents) (r : ℕ) (hs : List Resident) → AreDistinct hs → AllHeld t r hs objects u.objects → StoredBack q f (stores r hs) end t below u objects hs
 stored_back q f end t below u objects r [] distinct all = record { steps = 0; others = u.objects; runs = refl; back = λ o e. none_resident e; still = λ o e. refl }
@@ -142,12 +141,12 @@ stored_back q f end t below u objects r [] distinct all = record { steps = 0; ot
     none_resident e = cc
 stored_back q f end t below u objects r (h ∷ hs) distinct all =
     by_flag h.written refl (λ o2. stored_back q f end t below u objects (suc r) hs distinct.1 all.1)
-    (λ h2. stored_back q f end t below (with_objects u (slice_set u.objects h.object (scalar (Some all.0.word)))) objects (suc r) hs distinct.1 h2)
+    (λ h2. stored_back q f end t below (with_objects u (slice_set u.objects h.object (scalar h.kind (Some all.0.word)))) objects (suc r) hs distinct.1 h2)
   where
     by_flag : (b : Bool) → h.written ≡ b → (Unit {0} → StoredBack q f (stores (suc r) hs) end t below u objects hs)
-        → (AllHeld t (suc r) hs objects (slice_set u.objects h.object (scalar (Some all.0.word))) → StoredBack q f (stores (suc r) hs) end t below (with_objects u (slice_set u.objects h.object (scalar (Some all.0.word)))) objects hs)
-        → StoredBack q f (if b then Do (Store WordKind (scalar_address h.object) (Register r)) ∷ stores (suc r) hs else stores (suc r) hs) end t below u objects (h ∷ hs)
+        → (AllHeld t (suc r) hs objects (slice_set u.objects h.object (scalar h.kind (Some all.0.word))) → StoredBack q f (stores (suc r) hs) end t below (with_objects u (slice_set u.objects h.object (scalar h.kind (Some all.0.word)))) objects hs)
+        → StoredBack q f (if b then Do (Store h.kind (scalar_address h.object) (Register r)) ∷ stores (suc r) hs else stores (suc r) hs) end t below u objects (h ∷ hs)
     by_flag false w same changed = only_read q f end t below u objects r h hs distinct all.0 w (same tt)
     by_flag true w same changed =
         was_written q f end t below u objects r h hs distinct all.0
-        (changed (held_kept t t (suc r) hs objects u.objects objects (slice_set u.objects h.object (scalar (Some all.0.word))) (λ s more. refl) (λ o e. refl) (λ o e. get-set_other u.objects h.object o (scalar (Some all.0.word)) (other q f end t below u objects r h hs distinct all.0 o e)) all.1))
+        (changed (held_kept t t (suc r) hs objects u.objects objects (slice_set u.objects h.object (scalar h.kind (Some all.0.word))) (λ s more. refl) (λ o e. refl) (λ o e. get-set_other u.objects h.object o (scalar h.kind (Some all.0.word)) (other q f end t below u objects r h hs distinct all.0 o e)) all.1))

@@ -1,32 +1,34 @@
 -- The run with scalars in registers follows the run without.
-use Rattle.std.proofs.Common.{◌≡◌, ◌<◌, ◌≤◌, ℕ, zero, suc, ◌+◌, Bool, true, false, List, [], ◌∷◌, ◌++◌, length, Option, Some, None, refl, sym, ap, ◌∙◌, subst, ⊎_elim, inl, inr, arith, get_or-set_same, get_or-set_other, length-set}
-use Rattle.std.specs.Prelude.{◌%◌, ◌^◌, ◌==◌, ◌⊎◌, map, slice_get, slice_index_or, slice_set, nat_lt, if◌then◌else◌, All}
+use Rattle.std.proofs.Common.{◌≡◌, ◌<◌, ◌≤◌, ℕ, zero, suc, ◌+◌, Bool, true, false, List, [], ◌∷◌, ◌++◌, length, Option, Some, None, refl, sym, ap, ◌∙◌, subst, inl, inr, arith}
+use Rattle.std.specs.Prelude.{◌%◌, ◌^◌, ◌⊎◌, slice_get, slice_index_or, slice_set, nat_lt, if◌then◌else◌, All}
 use Rattle.std.proofs.lemmas.Bool.{cases_eq}
+use Rattle.std.proofs.lemmas.List.{append_assoc}
 use Rattle.std.proofs.lemmas.List.Elements.{All-head, All-tail}
 use Rattle.std.proofs.lemmas.Option.{slice_get_within}
 use Rattle.rv_core.specs.declared.row.Condition.{Condition}
 use Rattle.rv_core.specs.Arithmetic.{holds}
 use Rattle.low_ir.specs.declared.object.Kind.{Kind}
-use Rattle.low_ir.specs.declared.object.Kind.TheVariants.{Word as WordKind}
+use Rattle.low_ir.specs.Kinds.{converted}
 use Rattle.low_ir.specs.Code.{Operand, Register, Constant, Base, Fixed, Through, Address, Plain, Set, Operate, Point, Load, Store, Put, Get, Instr, Do, Call, End, Jump, Branch, Return, Block, Function, Low, Note}
 use Rattle.low_ir.specs.declared.run.Began.{Began}
 use Rattle.low_ir.specs.declared.run.Value.{Value}
 use Rattle.low_ir.specs.declared.run.Value.TheVariants.{Word, Pointer}
 use Rattle.low_ir.specs.Effects.{Contents, World, Did, start, reads, dest, effect, effect_of, began, element, loaded, stored, there, gives, changes, with_element, with_objects}
 use Rattle.low_ir.specs.Formed.{IsLow, LeadsOn}
-use Rattle.low_ir.specs.Runs.{Going, Done, Bad, Bank, operand_value, values, values_cons, write_to, goes_on, finish, enter, block_in, went_to, write_all, begin, only_where, waiting, call, at_instr, come_back, give_back, chosen, branches, at_end, at_code, set_in, step, run, first, first_in, lrun, virtual}
+use Rattle.low_ir.specs.Runs.{Going, Done, Bad, Bank, operand_value, values, values_cons, write_to, goes_on, finish, enter, block_in, went_to, write_all, begin, only_where, waiting, call, at_instr, come_back, give_back, chosen, branches, at_end, at_code, step, run, first, first_in, lrun, virtual}
 use Rattle.low_ir.specs.Turns.{IsGood, KeepsLoop, KeepsLoops}
 use Rattle.low_constants.specs.Carried.{Ends}
-use Rattle.low_constants.proofs.Stores.{Shows, all_written, empty_shows, lt_test, within, written}
+use Rattle.low_constants.proofs.Stores.{Shows, all_written, empty_shows, within, written}
 use Rattle.low_constants.proofs.Instructions.{all_stand, plain_stands, values_stand}
 use Rattle.low_reloaded.specs.Facts.{Touches}
 use Rattle.low_reloaded.proofs.Effects.{get-set_other, get-set_same, some_same}
 use Rattle.low_reloaded.proofs.Small.{LowRun, LowRunning, LowWaiting, SmallBank, SmallRun, first_small, held_small, step_small}
-use Rattle.low_reloaded.proofs.Words.{converted_word}
-use Rattle.low_promoted.specs.Promoting.{Resident, closing, load_by, promoted_function, promoted_instr, promoted_plain, promoted_program, register_of, resident_at, residents_at, scalar_address, store_by}
-use Rattle.low_promoted.specs.Suiting.{AllMayReside, AreScalars, BaseSuits, BlockKept, InstrSuits, InstrTold, IsKept, IsScalar, IsTold, IsWhole, MayReside, PlainSuits, PlainTold, StoreSuits, Table, is_only_read, is_resident}
+use Rattle.low_promoted.specs.Promoting.{Resident, closing, load_by, keeping, promoted_code, promoted_function, promoted_instr, promoted_program, register_of, resident_at, residents_at, scalar_address, store_by}
+use Rattle.low_promoted.specs.Suiting.{AllMayReside, AreScalars, BaseSuits, BlockKept, InstrSuits, InstrTold, IsKept, IsScalar, IsTold, IsWhole, PlainSuits, PlainTold, StoreSuits, Table, is_only_read, is_resident, kind_in}
 use Rattle.low_promoted.proofs.Memory.{AreAlike, BaseSees, PlainSees, effect_alongside}
-use Rattle.low_promoted.proofs.Scalars.{Absent, AllHeld, Found, HasWord, Present, above, first_resident, found, held_kept, later_resident, rewritten, scalar, unlike}
+use Rattle.low_promoted.proofs.Scalars.{Absent, AllHeld, Found, HasWord, Present, above, first_resident, found, held_kept, later_resident, only_element, only_stored, rewritten, scalar, unlike}
+use Rattle.low_promoted.proofs.Keeps.{kept}
+use Rattle.low_promoted.proofs.Narrow.{converted_again}
 use Rattle.low_promoted.proofs.Filling.{AreReady, LowCode, filled, running, stored_back}
 use Rattle.low_promoted.proofs.Starting.{all_at, first_word, not_first, same_lists}
 use Rattle.low_promoted.proofs.Tables.{block_promoted, function_promoted, of_function}
@@ -74,7 +76,7 @@ module _ (hss : List (List Resident)) (table : Table) (q : Low) (low : IsLow q) 
   own f = residents_at hss f
 
   abbrev code_of : ℕ → LowFunction → LowCode → End ℕ → LowCode
-  code_of f fn is end = map (promoted_instr fn.size (own f)) is ++ closing fn.size (own f) end
+  code_of f fn is end = promoted_code fn.size (own f) is ++ closing fn.size (own f) end
 
   abbrev to : LowFunction → LowRunning → Bank → List LowWaiting → List Contents → LowRunning
   to fn r t ws others = running r.top.func (code_of r.top.func fn r.top.code r.top.end) r.top.end t ws (with_objects r.world others)
@@ -94,7 +96,7 @@ module _ (hss : List (List Resident)) (table : Table) (q : Low) (low : IsLow q) 
 
   -- scalars hold words
   abbrev AllWords : List Contents → Type 0
-  AllWords objects = (o : ℕ) → IsScalar q.objects o → HasWord objects o
+  AllWords objects = (o : ℕ) (kind : Kind) → IsScalar q.objects o kind → HasWord objects o kind
 
   -- an activation of function f, its store beside that of the other run
   record Acts (f : ℕ) (fn : LowFunction) (code : LowCode) (end : End ℕ) (s t : Bank) (objects others : List Contents) : Type 0 where
@@ -186,8 +188,8 @@ module _ (hss : List (List Resident)) (table : Table) (q : Low) (low : IsLow q) 
   ready : (objects others : List Contents) (hs : List Resident) → AreScalars q.objects hs → AllWords objects → ((o : ℕ) → is_resident hs o ≡ true → slice_get objects o ≡ slice_get others o) → AreReady objects others hs
   ready objects others [] scalars words alike = tt
   ready objects others (h ∷ hs) scalars words alike =
-      let w = words h.object scalars.0 in
-      (record { word = w.word; small = w.small; here = w.is; there = sym (alike h.object (first_resident h hs)) ∙ w.is }, ready objects others hs scalars.1 words (λ o e. alike o (later_resident h hs o e)))
+      let w = words h.object h.kind scalars.0 in
+      (record { word = w.word; kept = w.kept; here = w.is; there = sym (alike h.object (first_resident h hs)) ∙ w.is }, ready objects others hs scalars.1 words (λ o e. alike o (later_resident h hs o e)))
 
   -- the first block is entered, which loads the scalars
   first_leads : (r : LowRunning) (t : Bank) (xs : List LowWaiting) (others : List Contents) (fn : LowFunction) → slice_get q.functions r.top.func ≡ Some fn → Shows fn.size (length (own r.top.func)) r.top.store t → Clear r.top.func r.below → AreAlike (is_waiting r.below) r.world.objects others → AllWords r.world.objects → Waits r.world.objects others r.below xs
@@ -317,55 +319,56 @@ module _ (hss : List (List Resident)) (table : Table) (q : Low) (low : IsLow q) 
   nothing_changes : (r : LowRunning) (t : Bank) (xs : List LowWaiting) (others : List Contents) (fn : LowFunction) (is : LowCode) → Going2 r t xs others fn is → Changes r others r.world others
   nothing_changes r t xs others fn is g = record { alike = g.alike; still = λ o h. refl; still_there = λ o h. refl; words = g.words }
 
-  abbrev PlainLeads : LowRunning → Bank → List LowWaiting → List Contents → LowFunction → LowCode → (i j : Plain ℕ) → Type 0
-  PlainLeads r t xs others fn is i j =
+  -- the code into which an instruction was made leads to where it leads
+  abbrev PlainLeads : LowRunning → Bank → List LowWaiting → List Contents → LowFunction → LowCode → Plain ℕ → LowCode → Type 0
+  PlainLeads r t xs others fn is i js =
       Leads (finish virtual r is (dest i) (effect_of q.claims i (values virtual r.top.store (reads i)) r.world))
-      (finish virtual (to fn r t xs others) (code_of r.top.func fn is r.top.end) (dest j) (effect_of q.claims j (values virtual t (reads j)) (with_objects r.world others)))
+      (Going (running r.top.func (js ++ code_of r.top.func fn is r.top.end) r.top.end t xs (with_objects r.world others)))
 
   -- an instruction that touches no scalar with a register
-  stays_leads : (r : LowRunning) (t : Bank) (xs : List LowWaiting) (others : List Contents) (fn : LowFunction) (is : LowCode) → Going2 r t xs others fn is → (i : Plain ℕ) → PlainSees q.claims (hides r.top.func r.below) i → PlainLeads r t xs others fn is i i
-  stays_leads r t xs others fn is g i sees = by_values (values virtual r.top.store (reads i)) refl
+  stays_leads : (r : LowRunning) (t : Bank) (xs : List LowWaiting) (others : List Contents) (fn : LowFunction) (is : LowCode) → Going2 r t xs others fn is → (i : Plain ℕ) → PlainSees q.claims (hides r.top.func r.below) i → PlainLeads r t xs others fn is i (Do i ∷ [])
+  stays_leads r t xs others fn is g i sees = after_step _ _ (by_values (values virtual r.top.store (reads i)) refl)
     where
       z : LowRunning
-      z = to fn r t xs others
+      z = running r.top.func (Do i ∷ code_of r.top.func fn is r.top.end) r.top.end t xs (with_objects r.world others)
 
-      js : LowCode
-      js = code_of r.top.func fn is r.top.end
-
-      by_effect : (vs : List Value) → (o : Option Did) → effect q.claims i vs r.world ≡ o → Leads (finish virtual r is (dest i) o) (finish virtual (to fn r t xs others) (code_of r.top.func fn is r.top.end) (dest i) (effect q.claims i vs (with_objects r.world others)))
+      by_effect : (vs : List Value) → (o : Option Did) → effect q.claims i vs r.world ≡ o → Leads (finish virtual r is (dest i) o) (finish virtual (running r.top.func (Do i ∷ code_of r.top.func fn is r.top.end) r.top.end t xs (with_objects r.world others)) (code_of r.top.func fn is r.top.end) (dest i) (effect q.claims i vs (with_objects r.world others)))
       by_effect vs None e = at_once Bad _ tt
       by_effect vs (Some did) e =
           let a = effect_alongside q.claims (hides r.top.func r.below) r.world others g.alike did i vs sees e in
           from (goes_on r is did.world (write_to virtual r.top.store (dest i) did.value)) _ _
-          (ap (finish virtual (to fn r t xs others) (code_of r.top.func fn is r.top.end) (dest i)) a.is)
-          (goes_leads r t xs others fn is g did.world a.now (record { alike = a.alike; still = a.still; still_there = a.still_there; words = λ o k. a.words o (g.words o k) }) (dest i) did.value)
+          (ap (finish virtual (running r.top.func (Do i ∷ code_of r.top.func fn is r.top.end) r.top.end t xs (with_objects r.world others)) (code_of r.top.func fn is r.top.end) (dest i)) a.is)
+          (goes_leads r t xs others fn is g did.world a.now (record { alike = a.alike; still = a.still; still_there = a.still_there; words = λ o k x. a.words o k (g.words o k x) }) (dest i) did.value)
 
-      by_values : (os : Option (List Value)) → values virtual r.top.store (reads i) ≡ os → Leads (finish virtual r is (dest i) (effect_of q.claims i os r.world)) (finish virtual (to fn r t xs others) (code_of r.top.func fn is r.top.end) (dest i) (effect_of q.claims i (values virtual t (reads i)) (with_objects r.world others)))
+      by_values : (os : Option (List Value)) → values virtual r.top.store (reads i) ≡ os → Leads (finish virtual r is (dest i) (effect_of q.claims i os r.world)) (finish virtual (running r.top.func (Do i ∷ code_of r.top.func fn is r.top.end) r.top.end t xs (with_objects r.world others)) (code_of r.top.func fn is r.top.end) (dest i) (effect_of q.claims i (values virtual t (reads i)) (with_objects r.world others)))
       by_values None e = at_once Bad _ tt
       by_values (Some vs) e =
           from (finish virtual r is (dest i) (effect q.claims i vs r.world)) _ _
-          (ap (λ o. finish virtual (to fn r t xs others) (code_of r.top.func fn is r.top.end) (dest i) (effect_of q.claims i o (with_objects r.world others))) (values_stand r.top.store t (reads i) (reads i) vs (all_stand r.top.store t fn.size (length (own r.top.func)) g.acts.shows (reads i)) e))
+          (ap (λ o. finish virtual (running r.top.func (Do i ∷ code_of r.top.func fn is r.top.end) r.top.end t xs (with_objects r.world others)) (code_of r.top.func fn is r.top.end) (dest i) (effect_of q.claims i o (with_objects r.world others))) (values_stand r.top.store t (reads i) (reads i) vs (all_stand r.top.store t fn.size (length (own r.top.func)) g.acts.shows (reads i)) e))
           (by_effect vs (effect q.claims i vs r.world) refl)
 
   -- a load from a register
-  load_leads : (r : LowRunning) (t : Bank) (xs : List LowWaiting) (others : List Contents) (fn : LowFunction) (is : LowCode) → Going2 r t xs others fn is → (d o s word : ℕ) → slice_get r.world.objects o ≡ Some (scalar (Some word)) → slice_index_or t s None ≡ Some (Word word) → PlainLeads r t xs others fn is (Load WordKind d (scalar_address o)) (Set d (Register s))
-  load_leads r t xs others fn is g d o s word here register =
-      let loads_it : loaded r.world.objects WordKind o 0 ≡ Some word = ap (λ c. there c (element WordKind 0)) here in
-      subst (λ x. Leads (finish virtual r is (Some d) (there x (λ w. gives r.world (Word w)))) (finish virtual (to fn r t xs others) (code_of r.top.func fn is r.top.end) (Some d) (effect_of q.claims (Set d (Register s)) (values virtual t (Register s ∷ [])) (with_objects r.world others)))) (sym loads_it)
+  load_leads : (r : LowRunning) (t : Bank) (xs : List LowWaiting) (others : List Contents) (fn : LowFunction) (is : LowCode) → Going2 r t xs others fn is → (kind : Kind) (d o s word : ℕ) → slice_get r.world.objects o ≡ Some (scalar kind (Some word)) → slice_index_or t s None ≡ Some (Word word) → PlainLeads r t xs others fn is (Load kind d (scalar_address o)) (Do (Set d (Register s)) ∷ [])
+  load_leads r t xs others fn is g kind d o s word here register =
+      let loads_it : loaded r.world.objects kind o 0 ≡ Some word = ap (λ c. there c (element kind 0)) here ∙ only_element kind (Some word) in
+      let js = code_of r.top.func fn is r.top.end in
+      let z = running r.top.func (Do (Set d (Register s)) ∷ js) r.top.end t xs (with_objects r.world others) in
+      subst (λ x. Leads (finish virtual r is (Some d) (there x (λ w. gives r.world (Word w)))) (Going z)) (sym loads_it)
+      (after_step (goes_on r is r.world (write_to virtual r.top.store (Some d) (Word word))) (Going z)
       (from (goes_on r is r.world (write_to virtual r.top.store (Some d) (Word word))) _ _
-      (ap (λ x. finish virtual (to fn r t xs others) (code_of r.top.func fn is r.top.end) (Some d) (effect_of q.claims (Set d (Register s)) (values_cons x (Some [])) (with_objects r.world others))) register)
-      (goes_leads r t xs others fn is g r.world others (nothing_changes r t xs others fn is g) (Some d) (Word word)))
+      (ap (λ x. finish virtual z js (Some d) (effect_of q.claims (Set d (Register s)) (values_cons x (Some [])) (with_objects r.world others))) register)
+      (goes_leads r t xs others fn is g r.world others (nothing_changes r t xs others fn is g) (Some d) (Word word))))
 
-  -- a store to a register
-  store_leads : (r : LowRunning) (t : Bank) (xs : List LowWaiting) (others : List Contents) (fn : LowFunction) (is : LowCode) → SmallBank r.top.store → Going2 r t xs others fn is → (x : Operand ℕ) (o s old : ℕ) → slice_get r.world.objects o ≡ Some (scalar (Some old)) → is_resident (own r.top.func) o ≡ true → is_only_read (own r.top.func) o ≡ false → register_of fn.size (own r.top.func) o ≡ Some s → fn.size ≤ s → s < fn.size + length (own r.top.func)
-      → PlainLeads r t xs others fn is (Store WordKind (scalar_address o) x) (Set s x)
-  store_leads r t xs others fn is small g x o s old here resident both some low high = by_value (operand_value virtual r.top.store x) refl
+  -- a store to a register, behind which that holds what the element keeps
+  store_leads : (r : LowRunning) (t : Bank) (xs : List LowWaiting) (others : List Contents) (fn : LowFunction) (is : LowCode) → SmallBank r.top.store → Going2 r t xs others fn is → (kind : Kind) (x : Operand ℕ) (o s old : ℕ) → slice_get r.world.objects o ≡ Some (scalar kind (Some old)) → is_resident (own r.top.func) o ≡ true → kind_in (own r.top.func) o ≡ Some kind → is_only_read (own r.top.func) o ≡ false → register_of fn.size (own r.top.func) o ≡ Some s → fn.size ≤ s → s < fn.size + length (own r.top.func)
+      → PlainLeads r t xs others fn is (Store kind (scalar_address o) x) (keeping kind s x)
+  store_leads r t xs others fn is small g kind x o s old here resident kind_is both some low high = by_value (operand_value virtual r.top.store x) refl
     where
-      z : LowRunning
-      z = to fn r t xs others
+      js : LowCode
+      js = code_of r.top.func fn is r.top.end
 
-      by_value : (v : Option Value) → operand_value virtual r.top.store x ≡ v → Leads (finish virtual r is None (effect_of q.claims (Store WordKind (scalar_address o) x) (values_cons v (Some [])) r.world))
-          (finish virtual (to fn r t xs others) (code_of r.top.func fn is r.top.end) (Some s) (effect_of q.claims (Set s x) (values_cons (operand_value virtual t x) (Some [])) (with_objects r.world others)))
+      by_value : (v : Option Value) → operand_value virtual r.top.store x ≡ v → Leads (finish virtual r is None (effect_of q.claims (Store kind (scalar_address o) x) (values_cons v (Some [])) r.world))
+          (Going (running r.top.func (keeping kind s x ++ code_of r.top.func fn is r.top.end) r.top.end t xs (with_objects r.world others)))
       by_value None e = at_once Bad _ tt
       by_value (Some (Pointer p n)) e = at_once Bad _ tt
       by_value (Some (Word w)) e =
@@ -375,22 +378,21 @@ module _ (hss : List (List Resident)) (table : Table) (q : Low) (low : IsLow q) 
           let n = fn.size in
           let objects = r.world.objects in
           let less = operand_small r.top.store x w small e in
-          let new = slice_set objects o (scalar (Some w)) in
-          let inside : o < length objects = slice_get_within objects o (scalar (Some old)) here in
+          let v = converted kind w in
+          let new = slice_set objects o (scalar kind (Some v)) in
+          let inside : o < length objects = slice_get_within objects o (scalar kind (Some old)) here in
           let size = a.shows.size in
           let larger = a.shows.larger in
           let few : s < length t = omega (arith, high, larger) in
-          let t2 = slice_set t s (Some (Word w)) in
+          let k = kept q2 f (code_of f fn is r.top.end) r.top.end xs (with_objects r.world others) t kind s x w few less (plain_stands r.top.store t n (length hs) a.shows x (Word w) e) in
           let free = resident_free f fn r.below o a.there g.clear resident in
           let apart : (y : ℕ) → is_waiting r.below y ≡ true → y ≡ o → ⊥ = λ y h z. unlike (is_waiting r.below o) (ap (is_waiting r.below) (sym z) ∙ h) free in
-          let stored_it : stored objects WordKind o 0 w ≡ Some new = ap (λ c. there c (λ c. there (with_element WordKind 0 w c) (λ d. Some (slice_set objects o d)))) here ∙ ap (λ m. Some (slice_set objects o (scalar (Some m)))) (converted_word w less) in
-          subst (λ y. Leads (finish virtual r is None (there y (λ os. changes (with_objects r.world os)))) (finish virtual (to fn r t xs others) (code_of f fn is r.top.end) (Some s) (effect_of q.claims (Set s x) (values_cons (operand_value virtual t x) (Some [])) (with_objects r.world others)))) (sym stored_it)
-          (from (Going (record r { top = record r.top { code = is }; world = with_objects r.world new })) _ _
-          (ap (λ y. finish virtual (to fn r t xs others) (code_of f fn is r.top.end) (Some s) (effect_of q.claims (Set s x) (values_cons y (Some [])) (with_objects r.world others))) (plain_stands r.top.store t n (length hs) a.shows x (Word w) e)
-          ∙ ap (λ b. goes_on (to fn r t xs others) (code_of f fn is r.top.end) (with_objects r.world others) (set_in t s (Word w) b)) (lt_test s (length t) few))
+          let stored_it : stored objects kind o 0 w ≡ Some new = ap (λ c. there c (λ c. there (with_element kind 0 w c) (λ d. Some (slice_set objects o d)))) here ∙ ap (λ c. there c (λ d. Some (slice_set objects o d))) (only_stored kind w (Some old)) in
+          subst (λ y. Leads (finish virtual r is None (there y (λ os. changes (with_objects r.world os)))) (Going (running f (keeping kind s x ++ code_of f fn is r.top.end) r.top.end t xs (with_objects r.world others)))) (sym stored_it)
+          (after k.steps (Going (record r { top = record r.top { code = is }; world = with_objects r.world new })) _ _ k.runs
           (at_once _ _ (record {
             fn = fn;
-            bank = t2;
+            bank = k.bank;
             below = xs;
             others = others;
             is = refl;
@@ -398,26 +400,30 @@ module _ (hss : List (List Resident)) (table : Table) (q : Low) (low : IsLow q) 
               there = a.there;
               shows = record {
                 size = size;
-                larger = length-set t s (Some (Word w)) ∙ larger;
-                same = λ v y k. let in_it = within r.top.store v y k in get_or-set_other t s v (Some (Word w)) None (λ m. absurd (omega (arith, in_it, m, size, low))) ∙ a.shows.same v y k;
+                larger = k.written.size ∙ larger;
+                same = λ y c m. let in_it = within r.top.store y c m in k.written.other y (λ d. omega (arith, in_it, d, size, low)) ∙ a.shows.same y c m;
               };
-              holds = rewritten t n hs objects others o s w less few inside (may f fn a.there).distinct both some a.holds;
+              holds = rewritten t k.bank n hs objects others o s v kind (converted_again kind w) k.written inside (may f fn a.there).distinct kind_is both some a.holds;
               kept = a.kept;
               later = a.later;
             };
             clear = g.clear;
-            alike = λ y h. get-set_other objects o y (scalar (Some w)) (λ m. unlike (is_resident hs o) resident (ap (is_resident hs) (sym m) ∙ first_false (is_resident hs y) (is_waiting r.below y) h)) ∙ g.alike y h;
-            words = λ y k. by_same y (g.words y k) (cases_eq y o) less inside;
-            waits = waits_kept objects others new others r.below xs (λ y h. get-set_other objects o y (scalar (Some w)) (apart y h)) (λ y h. refl) g.waits;
+            alike = λ y h. get-set_other objects o y (scalar kind (Some v)) (λ m. unlike (is_resident hs o) resident (ap (is_resident hs) (sym m) ∙ first_false (is_resident hs y) (is_waiting r.below y) h)) ∙ g.alike y h;
+            words = λ y k2 c. by_same y k2 (g.words y k2 c) (cases_eq y o) inside;
+            waits = waits_kept objects others new others r.below xs (λ y h. get-set_other objects o y (scalar kind (Some v)) (apart y h)) (λ y h. refl) g.waits;
           })))
         where
           first_false : (b c : Bool) → (if b then true else c) ≡ false → b ≡ false
           first_false true c e = cc
           first_false false c e = refl
 
-          by_same : (y : ℕ) → HasWord r.world.objects y → (y ≡ o) ⊎ (y ≡ o → ⊥) → w < 2 ^ 32 → o < length r.world.objects → HasWord (slice_set r.world.objects o (scalar (Some w))) y
-          by_same y k (inl m) less inside = record { word = w; small = less; is = ap (slice_get (slice_set r.world.objects o (scalar (Some w)))) m ∙ get-set_same r.world.objects o (scalar (Some w)) inside }
-          by_same y k (inr m) less inside = record { word = k.word; small = k.small; is = get-set_other r.world.objects o y (scalar (Some w)) m ∙ k.is }
+          by_same : (y : ℕ) (k2 : Kind) → HasWord r.world.objects y k2 → (y ≡ o) ⊎ (y ≡ o → ⊥) → o < length r.world.objects → HasWord (slice_set r.world.objects o (scalar kind (Some (converted kind w)))) y k2
+          by_same y k2 c (inl m) inside =
+              let one : scalar k2 (Some c.word) ≡ scalar kind (Some old) = some_same (scalar k2 (Some c.word)) (scalar kind (Some old)) (sym c.is ∙ ap (slice_get r.world.objects) m ∙ here) in
+              let alike : k2 ≡ kind = ap (λ (x : Contents). x.kind) one in
+              subst (HasWord (slice_set r.world.objects o (scalar kind (Some (converted kind w)))) y) (sym alike)
+              (record { word = converted kind w; kept = converted_again kind w; is = ap (slice_get (slice_set r.world.objects o (scalar kind (Some (converted kind w))))) m ∙ get-set_same r.world.objects o (scalar kind (Some (converted kind w))) inside })
+          by_same y k2 c (inr m) inside = record { word = c.word; kept = c.kept; is = get-set_other r.world.objects o y (scalar kind (Some (converted kind w))) m ∙ c.is }
 
   -- what a base touches isn't hidden, where it has no register
   sees : (f : ℕ) (fn : LowFunction) (ws : List LowWaiting) (base : Base ℕ) → Clear f ws → IsTold q.claims (table f) base → ((o : ℕ) → Touches q.claims base o → is_resident (own f) o ≡ false) → BaseSees q.claims (hides f ws) base
@@ -425,7 +431,7 @@ module _ (hss : List (List Resident)) (table : Table) (q : Low) (low : IsLow q) 
 
   -- a load
   loads_leads : (r : LowRunning) (t : Bank) (xs : List LowWaiting) (others : List Contents) (fn : LowFunction) (is : LowCode) → Going2 r t xs others fn is → (kind : Kind) (d : ℕ) (a : Address ℕ) (base : Base ℕ) → a.base ≡ base → IsTold q.claims (table r.top.func) base → BaseSuits q.claims (own r.top.func) kind a base
-      → PlainLeads r t xs others fn is (Load kind d a) (promoted_plain fn.size (own r.top.func) (Load kind d a))
+      → PlainLeads r t xs others fn is (Load kind d a) (promoted_instr fn.size (own r.top.func) (Do (Load kind d a)))
   loads_leads r t xs others fn is g kind d a (Through p claim) e told suits =
       subst (λ b. PlainLeads r t xs others fn is (Load kind d a) (load_by b kind d a)) (none_through e)
       (stays_leads r t xs others fn is g (Load kind d a) (subst (BaseSees q.claims (hides r.top.func r.below)) (sym e) (sees r.top.func fn r.below (Through p claim) g.clear told suits)))
@@ -434,20 +440,21 @@ module _ (hss : List (List Resident)) (table : Table) (q : Low) (low : IsLow q) 
       none_through e = ap (resident_at fn.size (own r.top.func)) (sym e)
   loads_leads r t xs others fn is g kind d a (Fixed o) e told suits = by_found (found t fn.size (own r.top.func) o r.world.objects others g.acts.holds) suits
     where
-      by_found : Found t fn.size (own r.top.func) o r.world.objects others → (is_resident (own r.top.func) o ≡ false) ⊎ IsWhole kind a → PlainLeads r t xs others fn is (Load kind d a) (promoted_plain fn.size (own r.top.func) (Load kind d a))
+      by_found : Found t fn.size (own r.top.func) o r.world.objects others → (is_resident (own r.top.func) o ≡ false) ⊎ IsWhole (own r.top.func) o kind a → PlainLeads r t xs others fn is (Load kind d a) (promoted_instr fn.size (own r.top.func) (Do (Load kind d a)))
       by_found (Absent none stays) suits =
           subst (λ b. PlainLeads r t xs others fn is (Load kind d a) (load_by b kind d a)) (sym (ap (resident_at fn.size (own r.top.func)) e ∙ none))
           (stays_leads r t xs others fn is g (Load kind d a) (subst (BaseSees q.claims (hides r.top.func r.below)) (sym e) (sees r.top.func fn r.below (Fixed o) g.clear told (λ y touches. ap (is_resident (own r.top.func)) (sym touches) ∙ stays))))
-      by_found (Present s h some resident low high same held) (inl stays) = absurd (unlike (is_resident (own r.top.func) o) resident stays)
-      by_found (Present s h some resident low high same held) (inr whole) =
-          let is_it : Load kind d a ≡ Load WordKind d (scalar_address o) = ap (λ k. Load k d a) whole.kind_is ∙ ap (Load WordKind d) (whole_address a o e whole.offset whole.displacement) in
-          subst (λ i. PlainLeads r t xs others fn is i (promoted_plain fn.size (own r.top.func) i)) (sym is_it)
-          (subst (λ b. PlainLeads r t xs others fn is (Load WordKind d (scalar_address o)) (load_by b WordKind d (scalar_address o))) (sym some)
-          (load_leads r t xs others fn is g d o s held.word (ap (slice_get r.world.objects) (sym same) ∙ held.here) held.register))
+      by_found (Present s h some resident of_kind low high same held) (inl stays) = absurd (unlike (is_resident (own r.top.func) o) resident stays)
+      by_found (Present s h some resident of_kind low high same held) (inr whole) =
+          let is_it : Load kind d a ≡ Load kind d (scalar_address o) = ap (Load kind d) (whole_address a o e whole.offset whole.displacement) in
+          let alike : h.kind ≡ kind = some_same h.kind kind (sym of_kind ∙ whole.kind_is) in
+          subst (λ i. PlainLeads r t xs others fn is i (promoted_instr fn.size (own r.top.func) (Do i))) (sym is_it)
+          (subst (λ b. PlainLeads r t xs others fn is (Load kind d (scalar_address o)) (load_by b kind d (scalar_address o))) (sym some)
+          (load_leads r t xs others fn is g kind d o s held.word (ap (slice_get r.world.objects) (sym same) ∙ held.here ∙ ap (λ k. Some (scalar k (Some held.word))) alike) held.register))
 
   -- a store
   stores_leads : (r : LowRunning) (t : Bank) (xs : List LowWaiting) (others : List Contents) (fn : LowFunction) (is : LowCode) → SmallBank r.top.store → Going2 r t xs others fn is → (kind : Kind) (a : Address ℕ) (x : Operand ℕ) (base : Base ℕ) → a.base ≡ base → IsTold q.claims (table r.top.func) base → BaseSuits q.claims (own r.top.func) kind a base → StoreSuits (own r.top.func) base
-      → PlainLeads r t xs others fn is (Store kind a x) (promoted_plain fn.size (own r.top.func) (Store kind a x))
+      → PlainLeads r t xs others fn is (Store kind a x) (promoted_instr fn.size (own r.top.func) (Do (Store kind a x)))
   stores_leads r t xs others fn is small g kind a x (Through p claim) e told suits both =
       subst (λ b. PlainLeads r t xs others fn is (Store kind a x) (store_by b kind a x)) (none_through e)
       (stays_leads r t xs others fn is g (Store kind a x) (subst (BaseSees q.claims (hides r.top.func r.below)) (sym e) (sees r.top.func fn r.below (Through p claim) g.clear told suits)))
@@ -456,19 +463,20 @@ module _ (hss : List (List Resident)) (table : Table) (q : Low) (low : IsLow q) 
       none_through e = ap (resident_at fn.size (own r.top.func)) (sym e)
   stores_leads r t xs others fn is small g kind a x (Fixed o) e told suits both = by_found (found t fn.size (own r.top.func) o r.world.objects others g.acts.holds) suits
     where
-      by_found : Found t fn.size (own r.top.func) o r.world.objects others → (is_resident (own r.top.func) o ≡ false) ⊎ IsWhole kind a → PlainLeads r t xs others fn is (Store kind a x) (promoted_plain fn.size (own r.top.func) (Store kind a x))
+      by_found : Found t fn.size (own r.top.func) o r.world.objects others → (is_resident (own r.top.func) o ≡ false) ⊎ IsWhole (own r.top.func) o kind a → PlainLeads r t xs others fn is (Store kind a x) (promoted_instr fn.size (own r.top.func) (Do (Store kind a x)))
       by_found (Absent none stays) suits =
           subst (λ b. PlainLeads r t xs others fn is (Store kind a x) (store_by b kind a x)) (sym (ap (resident_at fn.size (own r.top.func)) e ∙ none))
           (stays_leads r t xs others fn is g (Store kind a x) (subst (BaseSees q.claims (hides r.top.func r.below)) (sym e) (sees r.top.func fn r.below (Fixed o) g.clear told (λ y touches. ap (is_resident (own r.top.func)) (sym touches) ∙ stays))))
-      by_found (Present s h some resident low high same held) (inl stays) = absurd (unlike (is_resident (own r.top.func) o) resident stays)
-      by_found (Present s h some resident low high same held) (inr whole) =
-          let is_it : Store kind a x ≡ Store WordKind (scalar_address o) x = ap (λ k. Store k a x) whole.kind_is ∙ ap (λ b. Store WordKind b x) (whole_address a o e whole.offset whole.displacement) in
-          subst (λ i. PlainLeads r t xs others fn is i (promoted_plain fn.size (own r.top.func) i)) (sym is_it)
-          (subst (λ b. PlainLeads r t xs others fn is (Store WordKind (scalar_address o) x) (store_by b WordKind (scalar_address o) x)) (sym some)
-          (store_leads r t xs others fn is small g x o s held.word (ap (slice_get r.world.objects) (sym same) ∙ held.here) resident both some low high))
+      by_found (Present s h some resident of_kind low high same held) (inl stays) = absurd (unlike (is_resident (own r.top.func) o) resident stays)
+      by_found (Present s h some resident of_kind low high same held) (inr whole) =
+          let is_it : Store kind a x ≡ Store kind (scalar_address o) x = ap (λ b. Store kind b x) (whole_address a o e whole.offset whole.displacement) in
+          let alike : h.kind ≡ kind = some_same h.kind kind (sym of_kind ∙ whole.kind_is) in
+          subst (λ i. PlainLeads r t xs others fn is i (promoted_instr fn.size (own r.top.func) (Do i))) (sym is_it)
+          (subst (λ b. PlainLeads r t xs others fn is (Store kind (scalar_address o) x) (store_by b kind (scalar_address o) x)) (sym some)
+          (store_leads r t xs others fn is small g kind x o s held.word (ap (slice_get r.world.objects) (sym same) ∙ held.here ∙ ap (λ k. Some (scalar k (Some held.word))) alike) resident whole.kind_is both some low high))
 
   plain_leads : (r : LowRunning) (t : Bank) (xs : List LowWaiting) (others : List Contents) (fn : LowFunction) (is : LowCode) → SmallBank r.top.store → Going2 r t xs others fn is → (i : Plain ℕ) → PlainTold q.claims (table r.top.func) i → PlainSuits q.claims (own r.top.func) i
-      → PlainLeads r t xs others fn is i (promoted_plain fn.size (own r.top.func) i)
+      → PlainLeads r t xs others fn is i (promoted_instr fn.size (own r.top.func) (Do i))
   plain_leads r t xs others fn is small g (Set d x) told suits = stays_leads r t xs others fn is g (Set d x) tt
   plain_leads r t xs others fn is small g (Operate operator d x y) told suits = stays_leads r t xs others fn is g (Operate operator d x y) tt
   plain_leads r t xs others fn is small g (Point d a) told suits = stays_leads r t xs others fn is g (Point d a) tt
@@ -566,19 +574,21 @@ module _ (hss : List (List Resident)) (table : Table) (q : Low) (low : IsLow q) 
       (branch_leads r t xs others fn g [] (Branch c x y b1 b2) c x y b1 b2 later (operand_value virtual r.top.store x) (operand_value virtual r.top.store y) refl refl)
   end_leads r t xs others fn g (Return x) later = return_leads r t xs others fn g x (operand_value virtual r.top.store x) refl
 
+  instr_leads : (r : LowRunning) (t : Bank) (xs : List LowWaiting) (others : List Contents) (fn : LowFunction) (is : LowCode) → SmallBank r.top.store → Going2 r t xs others fn is → (i : Instr ℕ Note) → InstrTold q.claims table r.top.func i → InstrSuits q.claims table (own r.top.func) i
+      → Leads (at_instr virtual q r i is) (Going (running r.top.func (promoted_instr fn.size (own r.top.func) i ++ code_of r.top.func fn is r.top.end) r.top.end t xs (with_objects r.world others)))
+  instr_leads r t xs others fn is small g (Do i) told suits = plain_leads r t xs others fn is small g i told suits
+  instr_leads r t xs others fn is small g (Call d f args note) told suits =
+      after_step (call virtual r is d f note (slice_get q.functions f) (values virtual r.top.store args)) _
+      (call_leads r t xs others fn is g d f args note told suits (slice_get q.functions f) refl (values virtual r.top.store args) refl)
+
   code_leads : (r : LowRunning) (t : Bank) (xs : List LowWaiting) (others : List Contents) (fn : LowFunction) (code : LowCode) → SmallBank r.top.store → r.top.code ≡ code → Going2 r t xs others fn code → Leads (at_code virtual q r code) (Going (running r.top.func (code_of r.top.func fn code r.top.end) r.top.end t xs (with_objects r.world others)))
   code_leads r t xs others fn [] small e g = end_leads r t xs others fn (subst (Going2 r t xs others fn) (sym e) g) r.top.end g.acts.later
-  code_leads r t xs others fn (Do i ∷ is) small e g =
-      let k = All-head (IsKept q.claims table r.top.func (own r.top.func)) (Do i) is g.acts.kept in
-      after_step (finish virtual r is (dest i) (effect_of q.claims i (values virtual r.top.store (reads i)) r.world)) _
-      (plain_leads r t xs others fn is small (rest r t xs others fn (Do i) is g) i k.0 k.1)
-    where
-      rest : (r : LowRunning) (t : Bank) (xs : List LowWaiting) (others : List Contents) (fn : LowFunction) (i : Instr ℕ Note) (is : LowCode) → Going2 r t xs others fn (i ∷ is) → Going2 r t xs others fn is
-      rest r t xs others fn i is g = record { acts = record { there = g.acts.there; shows = g.acts.shows; holds = g.acts.holds; kept = All-tail (IsKept q.claims table r.top.func (own r.top.func)) i is g.acts.kept; later = g.acts.later }; clear = g.clear; alike = g.alike; words = g.words; waits = g.waits }
-  code_leads r t xs others fn (Call d f args note ∷ is) small e g =
-      let k = All-head (IsKept q.claims table r.top.func (own r.top.func)) (Call d f args note) is g.acts.kept in
-      after_step (call virtual r is d f note (slice_get q.functions f) (values virtual r.top.store args)) _
-      (call_leads r t xs others fn is (record { acts = record { there = g.acts.there; shows = g.acts.shows; holds = g.acts.holds; kept = All-tail (IsKept q.claims table r.top.func (own r.top.func)) (Call d f args note) is g.acts.kept; later = g.acts.later }; clear = g.clear; alike = g.alike; words = g.words; waits = g.waits }) d f args note k.0 k.1 (slice_get q.functions f) refl (values virtual r.top.store args) refl)
+  code_leads r t xs others fn (i ∷ is) small e g =
+      let k = All-head (IsKept q.claims table r.top.func (own r.top.func)) i is g.acts.kept in
+      let rest : Going2 r t xs others fn is = record { acts = record { there = g.acts.there; shows = g.acts.shows; holds = g.acts.holds; kept = All-tail (IsKept q.claims table r.top.func (own r.top.func)) i is g.acts.kept; later = g.acts.later }; clear = g.clear; alike = g.alike; words = g.words; waits = g.waits } in
+      from (at_instr virtual q r i is) _ _
+      (ap (λ js. Going (running r.top.func js r.top.end t xs (with_objects r.world others))) (append_assoc (promoted_instr fn.size (own r.top.func) i) (promoted_code fn.size (own r.top.func) is) (closing fn.size (own r.top.func) r.top.end)))
+      (instr_leads r t xs others fn is small rest i k.0 k.1)
 
   -- one step is some
   step_leads : (y z : LowRun) → SmallRun y → Follows y z → Leads (step virtual q y) z

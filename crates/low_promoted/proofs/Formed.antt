@@ -1,18 +1,21 @@
 -- A program with scalars in registers keeps to the low form.
-use Rattle.std.proofs.Common.{◌≡◌, ◌<◌, ◌≤◌, ℕ, zero, suc, ◌+◌, Bool, true, false, List, [], ◌∷◌, ◌++◌, length, Option, Some, None, refl, sym, ap, ◌∙◌, subst, arith}
+use Rattle.std.proofs.Common.{◌≡◌, ◌<◌, ℕ, zero, suc, ◌+◌, Bool, true, false, List, [], ◌∷◌, length, Option, Some, None, refl, sym, ap, ◌∙◌, subst, arith}
 use Rattle.std.specs.Prelude.{All, map, if◌then◌else◌, ◌==◌, slice_get, option_to_list}
 use Rattle.std.proofs.lemmas.List.{length-map}
 use Rattle.std.proofs.lemmas.List.Elements.{All-append, All-cons, All-head, All-nil, All-tail, All-weaker}
 use Rattle.std.proofs.lemmas.Option.{slice_get_within}
+use Rattle.rv_core.specs.declared.row.Alu.{Alu}
+use Rattle.rv_core.specs.declared.row.Alu.TheVariants.{BitAnd, ShiftLeft, ShiftRight, ShiftRightSigned}
 use Rattle.low_ir.specs.declared.object.Kind.{Kind}
-use Rattle.low_ir.specs.declared.object.Kind.TheVariants.{Word}
-use Rattle.low_ir.specs.Code.{Operand, Register, Constant, Base, Fixed, Through, Address, Set, Operate, Point, Load, Store, Put, Get, Instr, Do, Call, End, Jump, Branch, Return, Block, Loop, Function, Low, Note, Object}
+use Rattle.low_ir.specs.declared.object.Kind.TheVariants.{Unsigned8, Signed8, Unsigned16, Signed16, Word}
+use Rattle.low_ir.specs.Kinds.{converted}
+use Rattle.low_ir.specs.Code.{Operand, Register, Constant, Base, Fixed, Through, Address, Plain, Set, Operate, Point, Load, Store, Put, Get, Instr, Do, Call, End, Jump, Branch, Return, Block, Loop, Function, Low, Note, Object}
 use Rattle.low_ir.specs.Effects.{address_reads}
-use Rattle.low_ir.specs.Formed.{BlockCallsBelow, BlockNamesThere, CallsBelow, HasMarkBelow, IsFunction, IsLoop, IsLow, IsThere, LeadsOn, LeadsTo, LeadsTo_as, NamesThere, RegistersWithin, UsesRegisters, addresses, end_reads, mark_of, only_jump, opening, read_by, registers_in, written_by}
+use Rattle.low_ir.specs.Formed.{CallsBelow, HasMarkBelow, IsFunction, IsLoop, IsLow, IsThere, LeadsTo, LeadsTo_as, NamesThere, RegistersWithin, UsesRegisters, end_reads, mark_of, only_jump, opening, read_by, registers_in, written_by}
 use Rattle.low_ir.specs.Runs.{block_in}
 use Rattle.low_ir.specs.Turns.{mark_in}
 use Rattle.low_constants.specs.Holding.{opened}
-use Rattle.low_promoted.specs.Promoting.{Resident, closing, load_by, loads, promoted_block, promoted_function, promoted_functions, promoted_instr, promoted_program, register_of, resident_at, residents_at, scalar_address, store_by, stores}
+use Rattle.low_promoted.specs.Promoting.{Resident, closing, kept_by, load_by, loads, promoted_block, promoted_code, promoted_function, promoted_functions, promoted_instr, promoted_program, register_of, resident_at, residents_at, scalar_address, shifted, store_by, stores}
 use Rattle.low_promoted.specs.Suiting.{AllMayReside, AreScalars, Table}
 use Rattle.low_promoted.proofs.Tables.{block_none, block_promoted, function_none, function_promoted, of_function, promoted_at}
 
@@ -32,29 +35,29 @@ mark_same hss q f b = by_function (slice_get q.functions f) refl
     by_function (Some fn) n = ap (λ o. mark_in (block_in o b)) (function_promoted hss q f fn n) ∙ block_mark (residents_at hss f) fn b ∙ sym (ap (λ o. mark_in (block_in o b)) n)
 
 -- a fact on each block, or on each instruction
-pub code_all : (n : ℕ) (hs : List Resident) (P Q : Instr ℕ Note → Type 0) → ((i : Instr ℕ Note) → P i → Q (promoted_instr n hs i)) → (is : List (Instr ℕ Note)) → All P is → All Q (map (promoted_instr n hs) is)
+pub code_all : (n : ℕ) (hs : List Resident) (P Q : Instr ℕ Note → Type 0) → ((i : Instr ℕ Note) → P i → All Q (promoted_instr n hs i)) → (is : List (Instr ℕ Note)) → All P is → All Q (promoted_code n hs is)
 code_all n hs P Q go [] h = All-nil Q
-code_all n hs P Q go (i ∷ is) h = All-cons Q (promoted_instr n hs i) (map (promoted_instr n hs) is) (go i (All-head P i is h)) (code_all n hs P Q go is (All-tail P i is h))
+code_all n hs P Q go (i ∷ is) h = All-append Q (promoted_instr n hs i) (promoted_code n hs is) (go i (All-head P i is h)) (code_all n hs P Q go is (All-tail P i is h))
 
 module _ (objects : List Object) (Q : Instr ℕ Note → Type 0) where
-  pub loads_all : (r : ℕ) (hs : List Resident) → AreScalars objects hs → ((s o : ℕ) → s < r + length hs → o < length objects → Q (Do (Load Word s (scalar_address o)))) → All Q (loads r hs)
+  pub loads_all : (r : ℕ) (hs : List Resident) → AreScalars objects hs → ((kind : Kind) (s o : ℕ) → s < r + length hs → o < length objects → Q (Do (Load kind s (scalar_address o)))) → All Q (loads r hs)
   loads_all r [] scalars go = All-nil Q
   loads_all r (h ∷ hs) scalars go =
-      All-cons Q (Do (Load Word r (scalar_address h.object))) (loads (suc r) hs)
-      (go r h.object (omega arith) (slice_get_within objects h.object scalars.0.object scalars.0.there))
-      (loads_all (suc r) hs scalars.1 (λ s o low there. go s o (omega (arith, low)) there))
+      All-cons Q (Do (Load h.kind r (scalar_address h.object))) (loads (suc r) hs)
+      (go h.kind r h.object (omega arith) (slice_get_within objects h.object scalars.0.object scalars.0.there))
+      (loads_all (suc r) hs scalars.1 (λ kind s o low there. go kind s o (omega (arith, low)) there))
 
-  stores_all : (r : ℕ) (hs : List Resident) → AreScalars objects hs → ((s o : ℕ) → s < r + length hs → o < length objects → Q (Do (Store Word (scalar_address o) (Register s)))) → All Q (stores r hs)
+  stores_all : (r : ℕ) (hs : List Resident) → AreScalars objects hs → ((kind : Kind) (s o : ℕ) → s < r + length hs → o < length objects → Q (Do (Store kind (scalar_address o) (Register s)))) → All Q (stores r hs)
   stores_all r [] scalars go = All-nil Q
-  stores_all r (h ∷ hs) scalars go = by_flag h.written (stores_all (suc r) hs scalars.1 (λ s o low there. go s o (omega (arith, low)) there))
+  stores_all r (h ∷ hs) scalars go = by_flag h.written (stores_all (suc r) hs scalars.1 (λ kind s o low there. go kind s o (omega (arith, low)) there))
     where
-      by_flag : (b : Bool) → All Q (stores (suc r) hs) → All Q (if b then Do (Store Word (scalar_address h.object) (Register r)) ∷ stores (suc r) hs else stores (suc r) hs)
+      by_flag : (b : Bool) → All Q (stores (suc r) hs) → All Q (if b then Do (Store h.kind (scalar_address h.object) (Register r)) ∷ stores (suc r) hs else stores (suc r) hs)
       by_flag true rest =
-          All-cons Q (Do (Store Word (scalar_address h.object) (Register r))) (stores (suc r) hs)
-          (go r h.object (omega arith) (slice_get_within objects h.object scalars.0.object scalars.0.there)) rest
+          All-cons Q (Do (Store h.kind (scalar_address h.object) (Register r))) (stores (suc r) hs)
+          (go h.kind r h.object (omega arith) (slice_get_within objects h.object scalars.0.object scalars.0.there)) rest
       by_flag false rest = rest
 
-  pub closing_all : (r : ℕ) (hs : List Resident) (end : End ℕ) → AreScalars objects hs → ((s o : ℕ) → s < r + length hs → o < length objects → Q (Do (Store Word (scalar_address o) (Register s)))) → All Q (closing r hs end)
+  pub closing_all : (r : ℕ) (hs : List Resident) (end : End ℕ) → AreScalars objects hs → ((kind : Kind) (s o : ℕ) → s < r + length hs → o < length objects → Q (Do (Store kind (scalar_address o) (Register s)))) → All Q (closing r hs end)
   closing_all r hs (Jump b) scalars go = All-nil Q
   closing_all r hs (Branch c x y b1 b2) scalars go = All-nil Q
   closing_all r hs (Return x) scalars go = stores_all r hs scalars go
@@ -69,10 +72,10 @@ module _ (n : ℕ) (hs : List Resident) (P Q : Block ℕ Note → Type 0) (go : 
   blocks_all first (b ∷ bs) h = All-cons Q (promoted_at n hs 0 b) (map (promoted_block n hs) bs) (first b (All-head P b bs h)) (rest_all bs (All-tail P b bs h))
 
 -- what holds of the code of each block
-module _ (objects : List Object) (n : ℕ) (hs : List Resident) (scalars : AreScalars objects hs) (P Q : Instr ℕ Note → Type 0) (go : (i : Instr ℕ Note) → P i → Q (promoted_instr n hs i))
-    (load : (s o : ℕ) → s < n + length hs → o < length objects → Q (Do (Load Word s (scalar_address o)))) (store : (s o : ℕ) → s < n + length hs → o < length objects → Q (Do (Store Word (scalar_address o) (Register s)))) where
+module _ (objects : List Object) (n : ℕ) (hs : List Resident) (scalars : AreScalars objects hs) (P Q : Instr ℕ Note → Type 0) (go : (i : Instr ℕ Note) → P i → All Q (promoted_instr n hs i))
+    (load : (kind : Kind) (s o : ℕ) → s < n + length hs → o < length objects → Q (Do (Load kind s (scalar_address o)))) (store : (kind : Kind) (s o : ℕ) → s < n + length hs → o < length objects → Q (Do (Store kind (scalar_address o) (Register s)))) where
   pub block_code : (bl : Block ℕ Note) → All P bl.code → All Q (promoted_block n hs bl).code
-  block_code bl h = All-append Q (map (promoted_instr n hs) bl.code) (closing n hs bl.end) (code_all n hs P Q go bl.code h) (closing_all objects Q n hs bl.end scalars store)
+  block_code bl h = All-append Q (promoted_code n hs bl.code) (closing n hs bl.end) (code_all n hs P Q go bl.code h) (closing_all objects Q n hs bl.end scalars store)
 
   pub first_code : (bl : Block ℕ Note) → All P bl.code → All Q (promoted_at n hs 0 bl).code
   first_code bl h = All-append Q (loads n hs) (promoted_block n hs bl).code (loads_all objects Q n hs scalars load) (block_code bl h)
@@ -106,23 +109,45 @@ module _ (n : ℕ) (hs : List Resident) where
   pub wider : (rs : List ℕ) → Low' rs → Within rs
   wider rs h = All-weaker (λ r. r < n) (λ r. r < m) (λ r low. omega (arith, low)) rs h
 
-  load_within : (kind : Kind) (d : ℕ) (a : Address ℕ) (o : Option ℕ) → resident_at n hs a.base ≡ o → RegistersWithin {K = Note} n (Do (Load kind d a)) → RegistersWithin {K = Note} m (Do (load_by o kind d a))
-  load_within kind d a None e h = (wider (registers_in (address_reads a)) h.0, wider (d ∷ []) h.1)
-  load_within kind d a (Some s) e h = (All-cons (λ r. r < m) s [] (base_low n hs a.base s e) (All-nil (λ r. r < m)), wider (d ∷ []) h.1)
+  abbrev Uses : Instr ℕ Note → Type 0
+  Uses i = RegistersWithin m i
 
-  value_low : (x : Operand ℕ) (xs : List (Operand ℕ)) → Low' (registers_in (x ∷ xs)) → Low' (registers_in (x ∷ []))
-  value_low (Register r) xs h = All-cons (λ s. s < n) r [] (All-head (λ s. s < n) r (registers_in xs) h) (All-nil (λ s. s < n))
-  value_low (Constant w) xs h = All-nil (λ s. s < n)
+  -- one instruction
+  alone : (i : Instr ℕ Note) → Uses i → All Uses (i ∷ [])
+  alone i h = All-cons Uses i [] h (All-nil Uses)
 
-  store_within : (kind : Kind) (a : Address ℕ) (x : Operand ℕ) (o : Option ℕ) → resident_at n hs a.base ≡ o → RegistersWithin {K = Note} n (Do (Store kind a x)) → RegistersWithin {K = Note} m (Do (store_by o kind a x))
-  store_within kind a x None e h = (wider (registers_in (x ∷ address_reads a)) h.0, All-nil (λ r. r < m))
-  store_within kind a x (Some s) e h = (wider (registers_in (x ∷ [])) (value_low x (address_reads a) h.0), All-cons (λ r. r < m) s [] (base_low n hs a.base s e) (All-nil (λ r. r < m)))
+  one_within : (r : ℕ) → r < m → Within (r ∷ [])
+  one_within r low = All-cons (λ s. s < m) r [] low (All-nil (λ s. s < m))
+
+  none_within : Within []
+  none_within = All-nil (λ s. s < m)
+
+  load_within : (kind : Kind) (d : ℕ) (a : Address ℕ) (o : Option ℕ) → resident_at n hs a.base ≡ o → RegistersWithin {K = Note} n (Do (Load kind d a)) → All Uses (load_by o kind d a)
+  load_within kind d a None e h = alone (Do (Load kind d a)) (wider (registers_in (address_reads a)) h.0, wider (d ∷ []) h.1)
+  load_within kind d a (Some s) e h = alone (Do (Set d (Register s))) (one_within s (base_low n hs a.base s e), wider (d ∷ []) h.1)
+
+  shifted_within : (back : Alu) (s r k : ℕ) → s < m → r < m → All Uses (shifted back s r k)
+  shifted_within back s r k low few =
+      All-cons Uses (Do (Operate ShiftLeft s (Register r) (Constant k))) (Do (Operate back s (Register s) (Constant k)) ∷ []) (one_within r few, one_within s low)
+      (alone (Do (Operate back s (Register s) (Constant k))) (one_within s low, one_within s low))
+
+  kept_within : (kind : Kind) (s r : ℕ) → s < m → r < m → All Uses (kept_by kind s r)
+  kept_within Unsigned8 s r low few = alone (Do (Operate BitAnd s (Register r) (Constant 255))) (one_within r few, one_within s low)
+  kept_within Signed8 s r low few = shifted_within ShiftRightSigned s r 24 low few
+  kept_within Unsigned16 s r low few = shifted_within ShiftRight s r 16 low few
+  kept_within Signed16 s r low few = shifted_within ShiftRightSigned s r 16 low few
+  kept_within Word s r low few = alone (Do (Set s (Register r))) (one_within r few, one_within s low)
+
+  store_within : (kind : Kind) (a : Address ℕ) (x : Operand ℕ) (o : Option ℕ) → resident_at n hs a.base ≡ o → RegistersWithin {K = Note} n (Do (Store kind a x)) → All Uses (store_by o kind a x)
+  store_within kind a x None e h = alone (Do (Store kind a x)) (wider (registers_in (x ∷ address_reads a)) h.0, none_within)
+  store_within kind a (Constant w) (Some s) e h = alone (Do (Set s (Constant (converted kind w)))) (none_within, one_within s (base_low n hs a.base s e))
+  store_within kind a (Register r) (Some s) e h = let low = All-head (λ s. s < n) r (registers_in (address_reads a)) h.0 in kept_within kind s r (base_low n hs a.base s e) (omega (arith, low))
 
   -- an instruction that stays
-  stays_within : (i : Instr ℕ Note) → RegistersWithin n i → RegistersWithin m i
-  stays_within i h = (wider (read_by i) h.0, wider (option_to_list (written_by i)) h.1)
+  stays_within : (i : Instr ℕ Note) → RegistersWithin n i → All Uses (i ∷ [])
+  stays_within i h = alone i (wider (read_by i) h.0, wider (option_to_list (written_by i)) h.1)
 
-  instr_within : (i : Instr ℕ Note) → RegistersWithin n i → RegistersWithin m (promoted_instr n hs i)
+  instr_within : (i : Instr ℕ Note) → RegistersWithin n i → All Uses (promoted_instr n hs i)
   instr_within (Do (Set d x)) h = stays_within (Do (Set d x)) h
   instr_within (Do (Operate operator d x y)) h = stays_within (Do (Operate operator d x y)) h
   instr_within (Do (Point d a)) h = stays_within (Do (Point d a)) h
@@ -132,17 +157,17 @@ module _ (n : ℕ) (hs : List Resident) where
   instr_within (Do (Get d)) h = stays_within (Do (Get d)) h
   instr_within (Call d f args note) h = stays_within (Call d f args note) h
 
-  filled_within : (s o : ℕ) → s < m → RegistersWithin {K = Note} m (Do (Load Word s (scalar_address o)))
-  filled_within s o low = (All-nil (λ r. r < m), All-cons (λ r. r < m) s [] low (All-nil (λ r. r < m)))
+  filled_within : (kind : Kind) (s o : ℕ) → s < m → Uses (Do (Load kind s (scalar_address o)))
+  filled_within kind s o low = (none_within, one_within s low)
 
-  stored_within : (s o : ℕ) → s < m → RegistersWithin {K = Note} m (Do (Store Word (scalar_address o) (Register s)))
-  stored_within s o low = (All-cons (λ r. r < m) s [] low (All-nil (λ r. r < m)), All-nil (λ r. r < m))
+  stored_within : (kind : Kind) (s o : ℕ) → s < m → Uses (Do (Store kind (scalar_address o) (Register s)))
+  stored_within kind s o low = (one_within s low, none_within)
 
   pub uses_within : (objects : List Object) → AreScalars objects hs → (bs : List (Block ℕ Note)) → All (UsesRegisters n) bs → All (UsesRegisters m) (opened (loads n hs) (map (promoted_block n hs) bs))
   uses_within objects scalars bs h =
       blocks_all n hs (UsesRegisters n) (UsesRegisters m)
-      (λ bl k. (block_code objects n hs scalars (RegistersWithin n) (RegistersWithin m) instr_within (λ s o low there. filled_within s o low) (λ s o low there. stored_within s o low) bl k.0, wider (end_reads bl.end) k.1))
-      (λ bl k. (first_code objects n hs scalars (RegistersWithin n) (RegistersWithin m) instr_within (λ s o low there. filled_within s o low) (λ s o low there. stored_within s o low) bl k.0, wider (end_reads bl.end) k.1))
+      (λ bl k. (block_code objects n hs scalars (RegistersWithin n) (RegistersWithin m) instr_within (λ kind s o low there. filled_within kind s o low) (λ kind s o low there. stored_within kind s o low) bl k.0, wider (end_reads bl.end) k.1))
+      (λ bl k. (first_code objects n hs scalars (RegistersWithin n) (RegistersWithin m) instr_within (λ kind s o low there. filled_within kind s o low) (λ kind s o low there. stored_within kind s o low) bl k.0, wider (end_reads bl.end) k.1))
       bs h
 
   -- where blocks lead
@@ -177,30 +202,86 @@ module _ (hss : List (List Resident)) (q : Low) where
   abbrev q2 : Low
   q2 = promoted_program hss q
 
-  load_named : (kind : Kind) (d : ℕ) (a : Address ℕ) (o : Option ℕ) → IsThere q a → NamesThere {K = Note} q2 (Do (load_by o kind d a))
-  load_named kind d a None h = All-cons (IsThere q2) a [] h (All-nil (IsThere q2))
-  load_named kind d a (Some s) h = All-nil (IsThere q2)
+  abbrev Named : Instr ℕ Note → Type 0
+  Named i = NamesThere q2 i
 
-  store_named : (kind : Kind) (a : Address ℕ) (x : Operand ℕ) (o : Option ℕ) → IsThere q a → NamesThere {K = Note} q2 (Do (store_by o kind a x))
-  store_named kind a x None h = All-cons (IsThere q2) a [] h (All-nil (IsThere q2))
-  store_named kind a x (Some s) h = All-nil (IsThere q2)
+  -- one instruction with an address, or with none
+  one_named : (i : Instr ℕ Note) → NamesThere q i → All Named (i ∷ [])
+  one_named i h = All-cons Named i [] h (All-nil Named)
 
-  names_promoted : (n : ℕ) (hs : List Resident) (i : Instr ℕ Note) → NamesThere q i → NamesThere q2 (promoted_instr n hs i)
-  names_promoted n hs (Do (Set d x)) h = h
-  names_promoted n hs (Do (Operate operator d x y)) h = h
-  names_promoted n hs (Do (Point d a)) h = h
-  names_promoted n hs (Do (Load kind d a)) h = load_named kind d a (resident_at n hs a.base) (All-head (IsThere q) a [] h)
-  names_promoted n hs (Do (Store kind a x)) h = store_named kind a x (resident_at n hs a.base) (All-head (IsThere q) a [] h)
-  names_promoted n hs (Do (Put x)) h = h
-  names_promoted n hs (Do (Get d)) h = h
-  names_promoted n hs (Call d f args note) h = h
+  load_named : (kind : Kind) (d : ℕ) (a : Address ℕ) (o : Option ℕ) → NamesThere {K = Note} q (Do (Load kind d a)) → All Named (load_by o kind d a)
+  load_named kind d a None h = one_named (Do (Load kind d a)) h
+  load_named kind d a (Some s) h = one_named (Do (Set d (Register s))) (All-nil (IsThere q))
+
+  shifted_named : (back : Alu) (s r k : ℕ) → All Named (shifted back s r k)
+  shifted_named back s r k =
+      All-cons Named (Do (Operate ShiftLeft s (Register r) (Constant k))) (Do (Operate back s (Register s) (Constant k)) ∷ []) (All-nil (IsThere q))
+      (one_named (Do (Operate back s (Register s) (Constant k))) (All-nil (IsThere q)))
+
+  kept_named : (kind : Kind) (s r : ℕ) → All Named (kept_by kind s r)
+  kept_named Unsigned8 s r = one_named (Do (Operate BitAnd s (Register r) (Constant 255))) (All-nil (IsThere q))
+  kept_named Signed8 s r = shifted_named ShiftRightSigned s r 24
+  kept_named Unsigned16 s r = shifted_named ShiftRight s r 16
+  kept_named Signed16 s r = shifted_named ShiftRightSigned s r 16
+  kept_named Word s r = one_named (Do (Set s (Register r))) (All-nil (IsThere q))
+
+  store_named : (kind : Kind) (a : Address ℕ) (x : Operand ℕ) (o : Option ℕ) → NamesThere {K = Note} q (Do (Store kind a x)) → All Named (store_by o kind a x)
+  store_named kind a x None h = one_named (Do (Store kind a x)) h
+  store_named kind a (Register r) (Some s) h = kept_named kind s r
+  store_named kind a (Constant w) (Some s) h = one_named (Do (Set s (Constant (converted kind w)))) (All-nil (IsThere q))
+
+  names_promoted : (n : ℕ) (hs : List Resident) (i : Instr ℕ Note) → NamesThere q i → All Named (promoted_instr n hs i)
+  names_promoted n hs (Do (Set d x)) h = one_named (Do (Set d x)) h
+  names_promoted n hs (Do (Operate operator d x y)) h = one_named (Do (Operate operator d x y)) h
+  names_promoted n hs (Do (Point d a)) h = one_named (Do (Point d a)) h
+  names_promoted n hs (Do (Load kind d a)) h = load_named kind d a (resident_at n hs a.base) h
+  names_promoted n hs (Do (Store kind a x)) h = store_named kind a x (resident_at n hs a.base) h
+  names_promoted n hs (Do (Put x)) h = one_named (Do (Put x)) h
+  names_promoted n hs (Do (Get d)) h = one_named (Do (Get d)) h
+  names_promoted n hs (Call d f args note) h = one_named (Call d f args note) h
 
   scalar_there : (o : ℕ) → o < length q.objects → IsThere {R = ℕ} q2 (scalar_address o)
   scalar_there o low = (All-cons (λ x. x < length q.objects) o [] low (All-nil (λ x. x < length q.objects)), All-nil (λ c. c < length q.claims))
 
-  calls_promoted : (f n : ℕ) (hs : List Resident) (i : Instr ℕ Note) → CallsBelow f i → CallsBelow f (promoted_instr n hs i)
-  calls_promoted f n hs (Do i) h = All-nil (λ g. g < f)
-  calls_promoted f n hs (Call d g args note) h = h
+  module _ (f : ℕ) where
+    abbrev Below : Instr ℕ Note → Type 0
+    Below i = CallsBelow f i
+
+    one_below : (i : Instr ℕ Note) → CallsBelow f i → All Below (i ∷ [])
+    one_below i h = All-cons Below i [] h (All-nil Below)
+
+    -- instructions that call nothing
+    plain_below : (i : Plain ℕ) → All Below (Do i ∷ [])
+    plain_below i = one_below (Do i) (All-nil (λ g. g < f))
+
+    shifted_below : (back : Alu) (s r k : ℕ) → All Below (shifted back s r k)
+    shifted_below back s r k = All-cons Below (Do (Operate ShiftLeft s (Register r) (Constant k))) (Do (Operate back s (Register s) (Constant k)) ∷ []) (All-nil (λ g. g < f)) (plain_below (Operate back s (Register s) (Constant k)))
+
+    kept_below : (kind : Kind) (s r : ℕ) → All Below (kept_by kind s r)
+    kept_below Unsigned8 s r = plain_below (Operate BitAnd s (Register r) (Constant 255))
+    kept_below Signed8 s r = shifted_below ShiftRightSigned s r 24
+    kept_below Unsigned16 s r = shifted_below ShiftRight s r 16
+    kept_below Signed16 s r = shifted_below ShiftRightSigned s r 16
+    kept_below Word s r = plain_below (Set s (Register r))
+
+    load_below : (kind : Kind) (d : ℕ) (a : Address ℕ) (o : Option ℕ) → All Below (load_by o kind d a)
+    load_below kind d a None = plain_below (Load kind d a)
+    load_below kind d a (Some s) = plain_below (Set d (Register s))
+
+    store_below : (kind : Kind) (a : Address ℕ) (x : Operand ℕ) (o : Option ℕ) → All Below (store_by o kind a x)
+    store_below kind a x None = plain_below (Store kind a x)
+    store_below kind a (Register r) (Some s) = kept_below kind s r
+    store_below kind a (Constant w) (Some s) = plain_below (Set s (Constant (converted kind w)))
+
+    calls_promoted : (n : ℕ) (hs : List Resident) (i : Instr ℕ Note) → CallsBelow f i → All Below (promoted_instr n hs i)
+    calls_promoted n hs (Do (Set d x)) h = plain_below (Set d x)
+    calls_promoted n hs (Do (Operate operator d x y)) h = plain_below (Operate operator d x y)
+    calls_promoted n hs (Do (Point d a)) h = plain_below (Point d a)
+    calls_promoted n hs (Do (Load kind d a)) h = load_below kind d a (resident_at n hs a.base)
+    calls_promoted n hs (Do (Store kind a x)) h = store_below kind a x (resident_at n hs a.base)
+    calls_promoted n hs (Do (Put x)) h = plain_below (Put x)
+    calls_promoted n hs (Do (Get d)) h = plain_below (Get d)
+    calls_promoted n hs (Call d g args note) h = one_below (Call d g args note) h
 
   function_formed : (f : ℕ) (hs : List Resident) (fn : Function ℕ Note) → AreScalars q.objects hs → IsFunction q f fn → IsFunction q2 f (promoted_function hs fn)
   function_formed f hs fn scalars h =
@@ -213,10 +294,10 @@ module _ (hss : List (List Resident)) (q : Low) where
         parameters = wider n hs fn.parameters h.parameters;
         registers = uses_within n hs q.objects scalars fn.blocks h.registers;
         names = codes_all q.objects n hs scalars (NamesThere q) (NamesThere q2) (names_promoted n hs)
-            (λ s o low there. All-cons (IsThere q2) (scalar_address o) [] (scalar_there o there) (All-nil (IsThere q2)))
-            (λ s o low there. All-cons (IsThere q2) (scalar_address o) [] (scalar_there o there) (All-nil (IsThere q2)))
+            (λ kind s o low there. All-cons (IsThere q2) (scalar_address o) [] (scalar_there o there) (All-nil (IsThere q2)))
+            (λ kind s o low there. All-cons (IsThere q2) (scalar_address o) [] (scalar_there o there) (All-nil (IsThere q2)))
             fn.blocks h.names;
-        calls = codes_all q.objects n hs scalars (CallsBelow f) (CallsBelow f) (calls_promoted f n hs) (λ s o low there. All-nil (λ g. g < f)) (λ s o low there. All-nil (λ g. g < f)) fn.blocks h.calls;
+        calls = codes_all q.objects n hs scalars (CallsBelow f) (CallsBelow f) (calls_promoted f n hs) (λ kind s o low there. All-nil (λ g. g < f)) (λ kind s o low there. All-nil (λ g. g < f)) fn.blocks h.calls;
         stays = λ b m leads.
             let low = h.stays b m (leads_back hs fn b m leads) in
             let a = length_opened (loads n hs) (map (promoted_block n hs) fn.blocks) in

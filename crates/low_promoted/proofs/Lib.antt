@@ -1,7 +1,9 @@
+pub mod Narrow
 pub mod Scalars
 pub mod Tables
 pub mod Memory
 pub mod Filling
+pub mod Keeps
 pub mod Starting
 pub mod Follow
 pub mod Formed

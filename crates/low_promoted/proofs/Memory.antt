@@ -1,20 +1,21 @@
 -- What an instruction does beside two memories that differ at some objects which it doesn't touch.
-use Rattle.std.proofs.Common.{◌≡◌, ◌≢◌, ℕ, zero, suc, ◌+◌, ◌<◌, ◌^◌, Bool, true, false, List, [], ◌∷◌, length, Option, Some, None, refl, sym, ap, ◌∙◌, subst, ⊎_elim, arith}
-use Rattle.std.specs.Prelude.{◌/◌, ◌%◌, ◌==◌, ◌&&◌, nat_lt, slice_get, slice_index_or, slice_set}
-use Rattle.std.proofs.lemmas.Bool.{cases_eq, ltb-true}
+use Rattle.std.proofs.Common.{◌≡◌, ◌≢◌, ℕ, ◌<◌, Bool, true, false, List, [], ◌∷◌, length, Option, Some, refl, sym, ap, ◌∙◌, subst, ⊎_elim, arith}
+use Rattle.std.specs.Prelude.{◌/◌, ◌%◌, ◌==◌, ◌&&◌, nat_lt, slice_get, slice_set}
+use Rattle.std.proofs.lemmas.Bool.{cases_eq, eqb-true, ltb-true}
 use Rattle.std.proofs.lemmas.Option.{slice_get_within}
 use Rattle.rv_core.specs.declared.row.Alu.{Alu}
 use Rattle.rv_core.specs.Arithmetic.{alu_value}
 use Rattle.low_ir.specs.declared.object.Kind.{Kind}
-use Rattle.low_ir.specs.Kinds.{converted, kind_bytes}
+use Rattle.low_ir.specs.declared.object.Storage.TheVariants.{Global}
+use Rattle.low_ir.specs.Kinds.{converted, kind_bytes, kind_number, same_kind}
 use Rattle.low_ir.specs.Code.{Address, Base, Operand, Plain, Set, Operate, Point, Load, Store, Put, Get}
 use Rattle.low_ir.specs.declared.run.Value.{Value}
 use Rattle.low_ir.specs.declared.run.Value.TheVariants.{Word, Pointer}
-use Rattle.low_ir.specs.Effects.{Contents, Did, World, changes, effect, element, gives, got, is_element, loaded, next_byte, put, resolved, stored, takes, there, with_element, with_objects, with_one}
+use Rattle.low_ir.specs.Effects.{Contents, Did, World, changes, effect, element, gives, got, is_element, loaded, next_byte, put, resolved, stored, takes, there, with_element, with_objects}
 use Rattle.low_reloaded.specs.Facts.{Touches}
-use Rattle.low_reloaded.proofs.Places.{Leads, Nowhere, Somewhere, Way, way}
+use Rattle.low_reloaded.proofs.Places.{Nowhere, Somewhere, Way, way}
 use Rattle.low_reloaded.proofs.Effects.{get-set_other, get-set_same, is_met, load_from, none_some, some_same, store_to, there_is}
-use Rattle.low_reloaded.proofs.Words.{converted-small}
+use Rattle.low_promoted.proofs.Narrow.{converted_again, same_kinds}
 use Rattle.low_promoted.proofs.Scalars.{HasWord, scalar, unlike}
 
 -- memories that are the same but for what is hidden
@@ -37,19 +38,35 @@ pub record Alongside (hides : ℕ → Bool) (u : World) (others : List Contents)
   pub alike : AreAlike hides did.world.objects now
   pub still : (o : ℕ) → hides o ≡ true → slice_get did.world.objects o ≡ slice_get u.objects o
   pub still_there : (o : ℕ) → hides o ≡ true → slice_get now o ≡ slice_get others o
-  pub words : (o : ℕ) → HasWord u.objects o → HasWord did.world.objects o
+  pub words : (o : ℕ) (k : Kind) → HasWord u.objects o k → HasWord did.world.objects o k
 
 -- a scalar that was stored to
-new_word : (kind : Kind) (m v w : ℕ) (new : Contents) → with_element kind m v (scalar (Some w)) ≡ Some new → new ≡ scalar (Some (converted kind v))
-new_word kind m v w new e =
-    let d = is_met (takes kind m (scalar (Some w))) (Some (record { kind = (scalar (Some w)).kind; storage = (scalar (Some w)).storage; elements = slice_set (Some w ∷ []) (m / kind_bytes kind) (Some (converted kind v)) })) new e in
-    let few : m / kind_bytes kind < 1 = ltb-true (m / kind_bytes kind) 1 (last (is_element kind m (scalar (Some w))) (nat_lt (m / kind_bytes kind) 1) d.is) in
+pub record IsNew (kind k : Kind) (v : ℕ) (new : Contents) : Type 0 where
+  pub alike : k ≡ kind
+  pub is : new ≡ scalar k (Some (converted kind v))
+
+new_word : (kind k : Kind) (m v w : ℕ) (new : Contents) → with_element kind m v (scalar k (Some w)) ≡ Some new → IsNew kind k v new
+new_word kind k m v w new e =
+    let d = is_met (takes kind m (scalar k (Some w))) (Some (record { kind = k; storage = Global; elements = slice_set (Some w ∷ []) (m / kind_bytes kind) (Some (converted kind v)) })) new e in
+    let here : is_element kind m (scalar k (Some w)) ≡ true = first (is_element kind m (scalar k (Some w))) (nat_lt (m / kind_bytes kind) 1) d.is in
+    let few : m / kind_bytes kind < 1 = ltb-true (m / kind_bytes kind) 1 (last (is_element kind m (scalar k (Some w))) (nat_lt (m / kind_bytes kind) 1) d.is) in
     let at : m / kind_bytes kind ≡ 0 = omega (arith, few) in
-    sym (some_same _ new d.goes) ∙ ap (λ n. record { kind = (scalar (Some w)).kind; storage = (scalar (Some w)).storage; elements = slice_set (Some w ∷ []) n (Some (converted kind v)) }) at
+    record {
+      alike = same_kinds k kind (eqb-true (kind_number k) (kind_number kind) (both (same_kind k kind) (m % kind_bytes kind == 0) here));
+      is = sym (some_same _ new d.goes) ∙ ap (λ n. record { kind = k; storage = Global; elements = slice_set (Some w ∷ []) n (Some (converted kind v)) }) at;
+    }
   where
+    first : (a b : Bool) → (a && true && b) ≡ true → a ≡ true
+    first true b e = refl
+    first false b e = cc
+
     last : (a b : Bool) → (a && true && b) ≡ true → b ≡ true
     last true b e = e
     last false b e = cc
+
+    both : (a b : Bool) → (a && b) ≡ true → a ≡ true
+    both true b e = refl
+    both false b e = cc
 
 module _ (claims : List (List ℕ)) (hides : ℕ → Bool) (u : World) (others : List Contents) (alike : AreAlike hides u.objects others) (did : Did) where
   abbrev v : World
@@ -66,7 +83,7 @@ module _ (claims : List (List ℕ)) (hides : ℕ → Bool) (u : World) (others :
         alike = subst (λ os. AreAlike hides os others) (sym objects) alike;
         still = λ o h. ap (λ os. slice_get os o) objects;
         still_there = λ o h. refl;
-        words = λ o h. subst (λ os. HasWord os o) (sym objects) h;
+        words = λ o k h. subst (λ os. HasWord os o k) (sym objects) h;
       }
 
   set_alongside : (d : ℕ) (x : Operand ℕ) (xs : List Value) → effect claims (Set d x) xs u ≡ Some did → Alongside hides u others did (effect claims (Set d x) xs v)
@@ -117,13 +134,17 @@ module _ (claims : List (List ℕ)) (hides : ℕ → Bool) (u : World) (others :
             (cases_eq y x);
         still = λ y h. ap (λ os. slice_get os y) set ∙ get-set_other u.objects x y new (apart y h);
         still_there = λ y h. get-set_other others x y new (apart y h);
-        words = λ y h.
+        words = λ y k h.
             ⊎_elim
             (λ (z : y ≡ x).
-            let c : a.value ≡ scalar (Some h.word) = some_same a.value (scalar (Some h.word)) (sym a.is ∙ ap (slice_get u.objects) (sym z) ∙ h.is) in
-            let n = new_word kind m w h.word new (ap (with_element kind m w) (sym c) ∙ b.is) in
-            record { word = converted kind w; small = converted-small kind w; is = ap (λ os. slice_get os y) set ∙ ap (slice_get (slice_set u.objects x new)) z ∙ get-set_same u.objects x new here ∙ ap Some n })
-            (λ (z : y ≢ x). record { word = h.word; small = h.small; is = ap (λ os. slice_get os y) set ∙ get-set_other u.objects x y new z ∙ h.is })
+            let c : a.value ≡ scalar k (Some h.word) = some_same a.value (scalar k (Some h.word)) (sym a.is ∙ ap (slice_get u.objects) (sym z) ∙ h.is) in
+            let n = new_word kind k m w h.word new (ap (with_element kind m w) (sym c) ∙ b.is) in
+            record {
+              word = converted kind w;
+              kept = ap (λ x. converted x (converted kind w)) n.alike ∙ converted_again kind w;
+              is = ap (λ os. slice_get os y) set ∙ ap (slice_get (slice_set u.objects x new)) z ∙ get-set_same u.objects x new here ∙ ap Some n.is;
+            })
+            (λ (z : y ≢ x). record { word = h.word; kept = h.kept; is = ap (λ os. slice_get os y) set ∙ get-set_other u.objects x y new z ∙ h.is })
             (cases_eq y x);
       }
 

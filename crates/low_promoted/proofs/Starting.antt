@@ -1,18 +1,18 @@
 -- Where runs start, and blocks.
-use Rattle.std.proofs.Common.{◌≡◌, ℕ, zero, suc, ◌<◌, ◌≤◌, Bool, true, false, List, [], ◌∷◌, ◌++◌, map, Option, Some, None, refl, sym, ap, ◌∙◌, subst, arith}
-use Rattle.std.specs.Prelude.{◌==◌, ◌&&◌, ◌||◌, ◌^◌, All, option_map, slice_get}
+use Rattle.std.proofs.Common.{◌≡◌, ℕ, zero, suc, ◌<◌, Bool, true, false, List, [], ◌∷◌, map, Some, None, refl, sym, ap, ◌∙◌, subst, arith}
+use Rattle.std.specs.Prelude.{◌==◌, ◌&&◌, ◌||◌, All, option_map, slice_get}
 use Rattle.std.proofs.lemmas.Bool.{eqb-true}
 use Rattle.std.proofs.lemmas.List.Elements.{All-head, All-tail}
 use Rattle.std.proofs.lemmas.Option.{slice_get-map}
-use Rattle.low_ir.specs.declared.object.Kind.TheVariants.{Word as WordKind}
+use Rattle.low_ir.specs.declared.object.Kind.{Kind}
 use Rattle.low_ir.specs.declared.object.Storage.TheVariants.{Global}
 use Rattle.low_ir.specs.Kinds.{converted}
-use Rattle.low_ir.specs.Code.{Block, End, Function, Loop, Low, Note, Object}
+use Rattle.low_ir.specs.Code.{Block, Function, Loop, Low, Note, Object}
 use Rattle.low_ir.specs.Effects.{contents}
-use Rattle.low_ir.specs.Formed.{IsFunction, IsLoop, IsLow, LeadsOn, LeadsTo_as, is_back}
+use Rattle.low_ir.specs.Formed.{IsLoop, IsLow, LeadsOn, LeadsTo_as, is_back}
 use Rattle.low_reloaded.proofs.Effects.{some_same}
-use Rattle.low_reloaded.proofs.Words.{converted-small}
 use Rattle.low_promoted.specs.Suiting.{IsScalar}
+use Rattle.low_promoted.proofs.Narrow.{converted_again, converted_zero}
 use Rattle.low_promoted.proofs.Scalars.{HasWord, scalar}
 
 -- what stands at a place
@@ -45,21 +45,26 @@ not_first q f fn low there b bl e leads =
     no_back fn fn.loops b k.loops (k.forward b 0 (subst (λ o. LeadsTo_as o 0) (sym e) leads) (omega arith))
 
 -- at first a scalar holds a word
-global_word : (values : List ℕ) → (w : ℕ) × (w < 2 ^ 32) × (contents (record { kind = WordKind; storage = Global; size = 1; values = values }) ≡ scalar (Some w))
-global_word [] = (0, omega arith, refl)
-global_word (v ∷ values) = (converted WordKind v, converted-small WordKind v, refl)
+record IsGlobal (kind : Kind) (values : List ℕ) : Type 0 where
+  word : ℕ
+  kept : converted kind word ≡ word
+  is : contents (record { kind = kind; storage = Global; size = 1; values = values }) ≡ scalar kind (Some word)
 
-scalar_object : (x : Object) → x.kind ≡ WordKind → x.storage ≡ Global → x.size ≡ 1 → x ≡ record { kind = WordKind; storage = Global; size = 1; values = x.values }
-scalar_object x e f g =
+global_word : (kind : Kind) (values : List ℕ) → IsGlobal kind values
+global_word kind [] = record { word = 0; kept = converted_zero kind; is = refl }
+global_word kind (v ∷ values) = record { word = converted kind v; kept = converted_again kind v; is = refl }
+
+scalar_object : (kind : Kind) (x : Object) → x.kind ≡ kind → x.storage ≡ Global → x.size ≡ 1 → x ≡ record { kind = kind; storage = Global; size = 1; values = x.values }
+scalar_object kind x e f g =
     ap (λ k. record { kind = k; storage = x.storage; size = x.size; values = x.values }) e
-    ∙ ap (λ s. record { kind = WordKind; storage = s; size = x.size; values = x.values }) f
-    ∙ ap (λ n. record { kind = WordKind; storage = Global; size = n; values = x.values }) g
+    ∙ ap (λ s. record { kind = kind; storage = s; size = x.size; values = x.values }) f
+    ∙ ap (λ n. record { kind = kind; storage = Global; size = n; values = x.values }) g
 
-pub first_word : (objects : List Object) (o : ℕ) → IsScalar objects o → HasWord (map contents objects) o
-first_word objects o s =
-    let w = global_word s.object.values in
+pub first_word : (objects : List Object) (o : ℕ) (kind : Kind) → IsScalar objects o kind → HasWord (map contents objects) o kind
+first_word objects o kind s =
+    let w = global_word kind s.object.values in
     record {
-      word = w.0;
-      small = w.1;
-      is = slice_get-map contents objects o ∙ ap (option_map contents) s.there ∙ ap (λ x. Some (contents x)) (scalar_object s.object s.kind s.storage s.size) ∙ ap Some w.2;
+      word = w.word;
+      kept = w.kept;
+      is = slice_get-map contents objects o ∙ ap (option_map contents) s.there ∙ ap (λ x. Some (contents x)) (scalar_object kind s.object s.alike s.storage s.size) ∙ ap Some w.is;
     }

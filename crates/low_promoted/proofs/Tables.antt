@@ -3,7 +3,7 @@ use Rattle.std.proofs.Common.{◌≡◌, ℕ, zero, suc, ◌+◌, List, [], ◌�
 use Rattle.std.specs.Prelude.{map, slice_get}
 use Rattle.low_ir.specs.Code.{Instr, Block, Function, Low, Note}
 use Rattle.low_constants.specs.Holding.{opened}
-use Rattle.low_promoted.specs.Promoting.{Resident, closing, loads, promoted_block, promoted_function, promoted_functions, promoted_instr, promoted_program, residents_at}
+use Rattle.low_promoted.specs.Promoting.{Resident, closing, loads, promoted_block, promoted_code, promoted_function, promoted_functions, promoted_program, residents_at}
 
 -- the code of block b begins with this
 abbrev pub before : ℕ → List (Instr ℕ Note) → List (Instr ℕ Note)
@@ -11,7 +11,7 @@ before zero code = code
 before (suc b) code = []
 
 abbrev pub promoted_at : ℕ → List Resident → ℕ → Block ℕ Note → Block ℕ Note
-promoted_at n hs b bl = record { mark = bl.mark; code = before b (loads n hs) ++ (map (promoted_instr n hs) bl.code ++ closing n hs bl.end); end = bl.end }
+promoted_at n hs b bl = record { mark = bl.mark; code = before b (loads n hs) ++ (promoted_code n hs bl.code ++ closing n hs bl.end); end = bl.end }
 
 map_at : (n : ℕ) (hs : List Resident) (bs : List (Block ℕ Note)) (b : ℕ) (bl : Block ℕ Note) → slice_get bs b ≡ Some bl → slice_get (map (promoted_block n hs) bs) b ≡ Some (promoted_block n hs bl)
 map_at n hs [] b bl e = cc

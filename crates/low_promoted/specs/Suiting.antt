@@ -1,9 +1,8 @@
 -- Which scalars may be in registers.
-use Rattle.std.specs.Prelude.{◌≡◌, ◌⊎◌, ℕ, ◌==◌, ◌≤◌, Bool, true, false, if◌then◌else◌, List, [], ◌∷◌, Option, None, Some, All, slice_get, slice_index_or}
+use Rattle.std.specs.Prelude.{◌≡◌, ◌⊎◌, ℕ, ◌==◌, Bool, true, false, if◌then◌else◌, List, [], ◌∷◌, Option, None, Some, All, slice_get}
 use Rattle.low_ir.specs.declared.object.Kind.{Kind}
-use Rattle.low_ir.specs.declared.object.Kind.TheVariants.{Word}
 use Rattle.low_ir.specs.declared.object.Storage.TheVariants.{Global}
-use Rattle.low_ir.specs.Code.{Operand, Base, Fixed, Through, Address, Plain, Load, Store, Instr, Do, Call, Block, Function, Low, Note, Object}
+use Rattle.low_ir.specs.Code.{Base, Fixed, Through, Address, Plain, Load, Store, Instr, Do, Call, Block, Function, Low, Note, Object}
 use Rattle.low_reloaded.specs.Facts.{Touches}
 use Rattle.low_promoted.specs.Promoting.{Resident, residents_at}
 
@@ -34,15 +33,20 @@ abbrev pub is_only_read : List Resident → ℕ → Bool
 is_only_read [] o = false
 is_only_read (h ∷ hs) o = if h.object == o then (if h.written then false else true) else is_only_read hs o
 
+-- of what kind it is then
+abbrev pub kind_in : List Resident → ℕ → Option Kind
+kind_in [] o = None
+kind_in (h ∷ hs) o = if h.object == o then Some h.kind else kind_in hs o
+
 -- an access of a whole scalar
-pub record IsWhole (kind : Kind) (a : Address ℕ) : Type 0 where
-  pub kind_is : kind ≡ Word
+pub record IsWhole (hs : List Resident) (o : ℕ) (kind : Kind) (a : Address ℕ) : Type 0 where
+  pub kind_is : kind_in hs o ≡ Some kind
   pub offset : a.offset ≡ None
   pub displacement : a.displacement ≡ 0
 
 -- what an access touches has no register, or it is of a whole scalar
 abbrev pub BaseSuits : List (List ℕ) → List Resident → Kind → Address ℕ → Base ℕ → Type 0
-BaseSuits claims hs kind a (Fixed o) = (is_resident hs o ≡ false) ⊎ IsWhole kind a
+BaseSuits claims hs kind a (Fixed o) = (is_resident hs o ≡ false) ⊎ IsWhole hs o kind a
 BaseSuits claims hs kind a (Through r claim) = (o : ℕ) → Touches claims (Through r claim) o → is_resident hs o ≡ false
 
 -- what is stored to is stored back
@@ -60,17 +64,17 @@ abbrev pub InstrSuits : List (List ℕ) → Table → List Resident → Instr �
 InstrSuits claims table hs (Do i) = PlainSuits claims hs i
 InstrSuits claims table hs (Call d g args note) = (o : ℕ) → is_resident hs o ≡ true → table g o ≡ false
 
--- a global word
-pub record IsScalar (objects : List Object) (o : ℕ) : Type 0 where
+-- a global that is no array, of this kind
+pub record IsScalar (objects : List Object) (o : ℕ) (kind : Kind) : Type 0 where
   pub object : Object
   pub there : slice_get objects o ≡ Some object
-  pub kind : object.kind ≡ Word
+  pub alike : object.kind ≡ kind
   pub storage : object.storage ≡ Global
   pub size : object.size ≡ 1
 
 abbrev pub AreScalars : List Object → List Resident → Type 0
 AreScalars objects [] = Unit {0}
-AreScalars objects (h ∷ hs) = IsScalar objects h.object × AreScalars objects hs
+AreScalars objects (h ∷ hs) = IsScalar objects h.object h.kind × AreScalars objects hs
 
 -- each has one register
 abbrev pub AreDistinct : List Resident → Type 0

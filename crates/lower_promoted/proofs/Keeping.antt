@@ -7,10 +7,13 @@ use Rattle.std.proofs.lemmas.List.Elements.{All-cons, All-head, All-nil}
 use Rattle.std.proofs.lemmas.List.Sums.{sum_by-cons}
 use Rattle.high_ir.specs.Runs.{Run, hrun}
 use Rattle.high_ir.specs.Tree as high
+use Rattle.rv_core.specs.declared.row.Alu.{Alu}
+use Rattle.rv_core.specs.declared.row.Alu.TheVariants.{BitAnd, ShiftLeft, ShiftRight, ShiftRightSigned}
 use Rattle.low_ir.specs.declared.object.Kind.{Kind}
-use Rattle.low_ir.specs.declared.object.Kind.TheVariants.{Word}
+use Rattle.low_ir.specs.declared.object.Kind.TheVariants.{Unsigned8, Signed8, Unsigned16, Signed16, Word}
+use Rattle.low_ir.specs.Kinds.{converted}
 use Rattle.low_ir.specs.declared.run.Began.{Began}
-use Rattle.low_ir.specs.Code.{Address, Base, Block, Call, Do, Fixed, Function, Get, Instr, Load, Low, Note, Operand, Operate, Point, Put, Set, Store, Through}
+use Rattle.low_ir.specs.Code.{Address, Base, Block, Call, Constant, Do, Fixed, Function, Get, Instr, Load, Low, Note, Operand, Operate, Point, Put, Register, Set, Store, Through}
 use Rattle.low_ir.specs.Formed.{addresses, mark_of}
 use Rattle.low_ir.specs.Places.{assignment, in_slots}
 use Rattle.low_ir.specs.Room.{room}
@@ -20,7 +23,7 @@ use Rattle.low_places.proofs.Follow.{carried as placed_carried}
 use Rattle.low_places.proofs.Ways.{all_safe}
 use Rattle.low_constants.specs.Holding.{opened}
 use Rattle.low_promoted.specs.Paying.{IsPromoted, MayBePromoted}
-use Rattle.low_promoted.specs.Promoting.{Resident, load_by, loads, promoted_block, promoted_function, promoted_functions, promoted_instr, promoted_program, resident_at, residents_at, scalar_address, store_by}
+use Rattle.low_promoted.specs.Promoting.{Resident, kept_by, load_by, loads, promoted_block, promoted_function, promoted_functions, promoted_instr, promoted_program, resident_at, residents_at, scalar_address, shifted, store_by}
 use Rattle.low_promoted.specs.Suiting.{AreScalars}
 use Rattle.low_promoted.proofs.Costs.{reach_less, weight_less}
 use Rattle.low_promoted.proofs.Follow.{carried}
@@ -99,29 +102,48 @@ module _ (p : high.Program) (q : Low) (hss : List (List Resident)) where
     one_kept : (a : Address ℕ) → All (λ (x : Address ℕ). IsAccess p q f h fn x.base) (a ∷ []) → All Begins (a ∷ [])
     one_kept a all = All-cons Begins a [] (base_kept a.base (All-head (λ (x : Address ℕ). IsAccess p q f h fn x.base) a [] all)) (All-nil Begins)
 
-    load_kept : (kind : Kind) (d : ℕ) (a : Address ℕ) (o : Option ℕ) → Old (Do (Load kind d a)) → New (Do (load_by o kind d a))
-    load_kept kind d a None all = one_kept a all
-    load_kept kind d a (Some s) all = All-nil Begins
+    one_new : (i : Instr ℕ Note) → New i → All New (i ∷ [])
+    one_new i h = All-cons New i [] h (All-nil New)
 
-    store_kept : (kind : Kind) (a : Address ℕ) (x : Operand ℕ) (o : Option ℕ) → Old (Do (Store kind a x)) → New (Do (store_by o kind a x))
-    store_kept kind a x None all = one_kept a all
-    store_kept kind a x (Some s) all = All-nil Begins
+    -- an instruction without an address
+    without : (i : Instr ℕ Note) → addresses i ≡ [] → All New (i ∷ [])
+    without i e = one_new i (subst (All Begins) (sym e) (All-nil Begins))
 
-    instr_kept : (i : Instr ℕ Note) → Old i → New (promoted_instr fn.size hs i)
-    instr_kept (Do (Set d x)) all = All-nil Begins
-    instr_kept (Do (Operate operator d x y)) all = All-nil Begins
-    instr_kept (Do (Point d a)) all = one_kept a all
+    shifted_kept : (back : Alu) (s x k : ℕ) → All New (shifted back s x k)
+    shifted_kept back s x k =
+        All-cons New (Do (Operate ShiftLeft s (Register x) (Constant k))) (Do (Operate back s (Register s) (Constant k)) ∷ []) (All-nil Begins) (without (Do (Operate back s (Register s) (Constant k))) refl)
+
+    kept_kept : (kind : Kind) (s x : ℕ) → All New (kept_by kind s x)
+    kept_kept Unsigned8 s x = without (Do (Operate BitAnd s (Register x) (Constant 255))) refl
+    kept_kept Signed8 s x = shifted_kept ShiftRightSigned s x 24
+    kept_kept Unsigned16 s x = shifted_kept ShiftRight s x 16
+    kept_kept Signed16 s x = shifted_kept ShiftRightSigned s x 16
+    kept_kept Word s x = without (Do (Set s (Register x))) refl
+
+    load_kept : (kind : Kind) (d : ℕ) (a : Address ℕ) (o : Option ℕ) → Old (Do (Load kind d a)) → All New (load_by o kind d a)
+    load_kept kind d a None all = one_new (Do (Load kind d a)) (one_kept a all)
+    load_kept kind d a (Some s) all = without (Do (Set d (Register s))) refl
+
+    store_kept : (kind : Kind) (a : Address ℕ) (x : Operand ℕ) (o : Option ℕ) → Old (Do (Store kind a x)) → All New (store_by o kind a x)
+    store_kept kind a x None all = one_new (Do (Store kind a x)) (one_kept a all)
+    store_kept kind a (Register x) (Some s) all = kept_kept kind s x
+    store_kept kind a (Constant w) (Some s) all = without (Do (Set s (Constant (converted kind w)))) refl
+
+    instr_kept : (i : Instr ℕ Note) → Old i → All New (promoted_instr fn.size hs i)
+    instr_kept (Do (Set d x)) all = without (Do (Set d x)) refl
+    instr_kept (Do (Operate operator d x y)) all = without (Do (Operate operator d x y)) refl
+    instr_kept (Do (Point d a)) all = one_new (Do (Point d a)) (one_kept a all)
     instr_kept (Do (Load kind d a)) all = load_kept kind d a (resident_at fn.size hs a.base) all
     instr_kept (Do (Store kind a x)) all = store_kept kind a x (resident_at fn.size hs a.base) all
-    instr_kept (Do (Put x)) all = All-nil Begins
-    instr_kept (Do (Get d)) all = All-nil Begins
-    instr_kept (Call d g args note) all = All-nil Begins
+    instr_kept (Do (Put x)) all = without (Do (Put x)) refl
+    instr_kept (Do (Get d)) all = without (Do (Get d)) refl
+    instr_kept (Call d c args note) all = without (Call d c args note) refl
 
     accesses_kept : AreScalars q.objects hs → length q.objects ≡ length p.objects → All (AccessesOf p q f h fn) fn.blocks → All (AccessesOf p r f h g) g.blocks
     accesses_kept scalars count all =
         codes_all q.objects fn.size hs scalars Old New instr_kept
-        (λ s o low there. All-cons Begins (scalar_address o) [] (omega (arith, there, count)) (All-nil Begins))
-        (λ s o low there. All-cons Begins (scalar_address o) [] (omega (arith, there, count)) (All-nil Begins))
+        (λ kind s o low there. All-cons Begins (scalar_address o) [] (omega (arith, there, count)) (All-nil Begins))
+        (λ kind s o low there. All-cons Begins (scalar_address o) [] (omega (arith, there, count)) (All-nil Begins))
         fn.blocks all
 
 module _ (p : high.Program) (q r : Low) (h : IsPromoted q r) (k : KeepsProgram p q) (spares : SparesRegisters p q) where

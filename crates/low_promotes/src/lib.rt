@@ -1,0 +1,21 @@
+//! Keeps global scalars in registers.
+//!
+//! Which ones is free (`choosing`): of each function the eight that its loops use most, in loops to which each run comes. They are
+//! checked (`suiting`, `paying`), function by function, and then the program is made over them (`making`, `program`). What functions
+//! may touch is a table that is filled in one sweep, as calls go to lower numbers. The time is linear, but for the table, which has an
+//! entry for each function and array.
+//!
+//! Proved: [`promoted`] gives a program of which `low_promoted` speaks, or the program as it is. That scalars are found is not proved.
+//!
+//! The crate knows no machine register and no high form.
+#![tactic(auto)]
+
+mod choosing;
+mod making;
+mod paying;
+mod program;
+mod residents;
+mod suiting;
+
+pub use program::promoted;
+pub use residents::Resident;
