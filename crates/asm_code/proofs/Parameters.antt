@@ -13,7 +13,7 @@ use Rattle.low_ir.specs.Places.{Placed, no_placing}
 use Rattle.low_ir.specs.Placings.{placings_of, assignment_of, placed_of}
 use Rattle.low_ir.specs.Programs.{low_of}
 use Rattle.asm_program.specs.Functions.{PlacedFunction, no_function, function_in}
-use Rattle.asm_sound.specs.Ranges.{IsRegister, InProgram}
+use Rattle.asm_program.specs.Ranges.{IsRegister, InProgram}
 use Rattle.asm_sound.proofs.Programs as sound
 use Rattle.asm_emission.specs.declared.placed.PlacedOperand.{PlacedOperand}
 use Rattle.asm_emission.specs.View.{operand_of, place_at}

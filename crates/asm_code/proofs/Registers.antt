@@ -11,7 +11,7 @@ use Rattle.low_ir.specs.Effects.{base_reads, offset_reads, address_reads, reads,
 use Rattle.low_ir.specs.Formed.{registers_in, end_reads, RegistersWithin, UsesRegisters, IsLow}
 use Rattle.low_ir.specs.Places.{Assignment, place_operand, place_base, place_plain, place_end, place_instr, place_code, place_block, place_blocks, place_function, place_functions, placed}
 use Rattle.low_ir.specs.Spacing.{is_inside, IsAssignment}
-use Rattle.asm_sound.specs.Ranges.{IsRegister, InOperand, InBase, InPlain, InInstr, InEnd, InBlock, InFunction, InProgram}
+use Rattle.asm_program.specs.Ranges.{IsRegister, InOperand, InBase, InPlain, InInstr, InEnd, InBlock, InFunction, InProgram}
 
 inside_is : (slots : ℕ) (p : Place) → is_inside slots p ≡ true → IsRegister p
 inside_is slots (InRegister q) h = grind (arith, nat_tests)

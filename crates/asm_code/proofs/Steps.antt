@@ -18,7 +18,7 @@ use Rattle.low_ir.specs.Placings.{placings_of, assignment_of, placed_of}
 use Rattle.low_ir.specs.Programs.{low_of}
 use Rattle.asm_program.specs.Frames.{Memory}
 use Rattle.asm_program.specs.Functions.{PlacedBlock, PlacedFunction, no_function, function_in, instr_items, opening_items, end_items, body_items, filled, block_items, blocks_from, functions_from}
-use Rattle.asm_sound.specs.Ranges.{InInstr, InBlock, InProgram}
+use Rattle.asm_program.specs.Ranges.{InInstr, InBlock, InProgram}
 use Rattle.asm_sound.proofs.Programs as sound
 use Rattle.asm_emission.specs.View.{place_at}
 use Rattle.asm_code.specs.declared.scope.Scope.{Scope}

@@ -3,7 +3,7 @@ use Rattle.low_ir.specs.Formed.{IsLow}
 use Rattle.low_ir.specs.Code.{Low}
 use Rattle.low_ir.specs.Places.{Assignment, placed}
 use Rattle.low_ir.specs.Spacing.{IsAssignment}
-use Rattle.asm_sound.specs.Ranges.{InProgram}
+use Rattle.asm_program.specs.Ranges.{InProgram}
 
 -- the places of a program's registers are among the registers that hold values
 abbrev pub PlacesAreThere : Type 0

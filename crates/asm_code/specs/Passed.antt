@@ -5,7 +5,7 @@ use Rattle.low_ir.specs.Code.{Operand}
 use Rattle.low_ir.specs.Places.{Placed}
 use Rattle.asm_program.specs.Emission.{kept_among}
 use Rattle.asm_program.specs.Functions.{function_in}
-use Rattle.asm_sound.specs.Ranges.{IsRegister, InOperand}
+use Rattle.asm_program.specs.Ranges.{IsRegister, InOperand}
 use Rattle.asm_emission.specs.View.{operand_of}
 use Rattle.asm_code.specs.declared.passed.Passing.{Passing}
 

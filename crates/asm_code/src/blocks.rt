@@ -2,7 +2,7 @@
 ghost use Rattle.std.specs.Prelude.{◌≡◌, suc, ◌+◌, ◌<◌, ◌^◌, ◌++◌, All, length, map, true, IfOk, OnOk};
 ghost use Rattle.low_ir.specs.View.{instr_of, block_of};
 ghost use Rattle.asm_program.specs.Functions.{function_in, opening_items, leave_items, block_items, blocks_from, function_items};
-ghost use Rattle.asm_sound.specs.Ranges.{InInstr, InBlock, InProgram};
+ghost use Rattle.asm_program.specs.Ranges.{InInstr, InBlock, InProgram};
 ghost use Rattle.asm_code.specs.Scopes.{IsScope, memory, program, placed_code, placed_block, placed_blocks};
 ghost use Rattle.asm_code.specs.Bodies.{filled_items, instrs_items};
 

@@ -4,7 +4,7 @@ ghost use Rattle.std.specs.Option.{option_to_list};
 ghost use Rattle.asm_program.specs.Frames.{frame_of};
 ghost use Rattle.asm_program.specs.Emission.{home_code, return_code, pass_code, late_code, value_code};
 ghost use Rattle.asm_program.specs.Functions.{singles};
-ghost use Rattle.asm_sound.specs.Ranges.{IsRegister};
+ghost use Rattle.asm_program.specs.Ranges.{IsRegister};
 ghost use Rattle.asm_emission.specs.View.{operand_of, place_at};
 ghost use Rattle.asm_code.specs.Calls.{call_items};
 ghost use Rattle.asm_code.specs.Passed.{IsPassing};

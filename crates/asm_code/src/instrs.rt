@@ -4,7 +4,7 @@ ghost use Rattle.low_ir.specs.Code.{Do};
 ghost use Rattle.low_ir.specs.View.{instr_of, end_of};
 ghost use Rattle.asm_program.specs.Frames.{frame_of};
 ghost use Rattle.asm_program.specs.Functions.{instr_items, end_items, leave_items};
-ghost use Rattle.asm_sound.specs.Ranges.{InOperand, InPlain, InInstr, InEnd, InProgram};
+ghost use Rattle.asm_program.specs.Ranges.{InOperand, InPlain, InInstr, InEnd, InProgram};
 ghost use Rattle.asm_emission.specs.View.{operand_of, plain_of};
 ghost use Rattle.asm_code.specs.Ends.{branch_items, jump_to};
 ghost use Rattle.asm_code.specs.Scopes.{IsScope, memory, program, placed_instr, placed_end};

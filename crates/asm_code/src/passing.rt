@@ -4,7 +4,7 @@ ghost use Rattle.low_ir.specs.View as view;
 ghost use Rattle.low_ir.specs.Places.{place_operand, no_placing};
 ghost use Rattle.low_ir.specs.Placings.{placings_of, placed_of};
 ghost use Rattle.asm_program.specs.Functions.{function_in};
-ghost use Rattle.asm_sound.specs.Ranges.{InOperand, InProgram};
+ghost use Rattle.asm_program.specs.Ranges.{InOperand, InProgram};
 ghost use Rattle.asm_emission.specs.View.{operand_of, place_at};
 ghost use Rattle.asm_code.specs.Passed.{IsPassing, Passes};
 ghost use Rattle.asm_code.specs.Scopes.{kept_at, program};

@@ -9,7 +9,7 @@ use Rattle.low_ir.specs.declared.places.Place.TheVariants.{Register as InRegiste
 use Rattle.low_ir.specs.Effects.{is_member}
 use Rattle.low_ir.specs.Places.{registers_of}
 use Rattle.asm_program.specs.Emission.{kept_among}
-use Rattle.asm_sound.specs.Ranges.{IsRegister}
+use Rattle.asm_program.specs.Ranges.{IsRegister}
 use Rattle.asm_sound.proofs.Calls.{Below, kept_below}
 use Rattle.asm_emission.proofs.Passing.{drop-next}
 

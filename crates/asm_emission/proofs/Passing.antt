@@ -14,7 +14,7 @@ use Rattle.low_ir.specs.Code.{Operand}
 use Rattle.asm_program.specs.Frames.{Frame}
 use Rattle.asm_program.specs.Emission.{pass_code, late_code}
 use Rattle.asm_program.specs.Functions.{singles}
-use Rattle.asm_sound.specs.Ranges.{InOperand}
+use Rattle.asm_program.specs.Ranges.{InOperand}
 use Rattle.asm_emission.specs.declared.placed.PlacedOperand.{PlacedOperand}
 use Rattle.asm_emission.specs.View.{operand_of}
 use Rattle.asm_emission.specs.Passing.{goes_at_once, passed_code, loaded_code}

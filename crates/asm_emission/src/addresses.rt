@@ -7,7 +7,7 @@ ghost use Rattle.asm_program.specs.Frames.{object_at};
 ghost use Rattle.asm_program.specs.Numbers.{is_short, lower_of, object_register, object_code, object_offset};
 ghost use Rattle.asm_program.specs.Operands.{offset_code, offset_register, far_code, far_register, address_code, address_register, address_offset};
 ghost use Rattle.asm_program.specs.Functions.{singles};
-ghost use Rattle.asm_sound.specs.Ranges.{IsRegister, InBase, InAddress};
+ghost use Rattle.asm_program.specs.Ranges.{IsRegister, InBase, InAddress};
 ghost use Rattle.asm_emission.specs.View.{address_of};
 ghost use Rattle.asm_emission.specs.Reaching.{pointer_code, pointer_register};
 

@@ -5,7 +5,7 @@ ghost use Rattle.low_ir.specs.Effects.{is_member};
 ghost use Rattle.low_ir.specs.Places.{machine_registers, registers_of};
 ghost use Rattle.asm_program.specs.Emission.{reads_register, registers_among, is_once, kept_among, home_code, return_code, pass_code, late_code, value_code};
 ghost use Rattle.asm_program.specs.Functions.{singles};
-ghost use Rattle.asm_sound.specs.Ranges.{IsRegister, InOperand};
+ghost use Rattle.asm_program.specs.Ranges.{IsRegister, InOperand};
 ghost use Rattle.asm_emission.specs.View.{operand_of};
 ghost use Rattle.asm_emission.specs.Passing.{is_in, goes_at_once, argument_code, passed_code, loaded_code};
 

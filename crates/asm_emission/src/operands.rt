@@ -2,7 +2,7 @@
 ghost use Rattle.std.specs.Prelude.{◌≡◌, ◌<◌, ◌++◌, OnOk};
 ghost use Rattle.asm_program.specs.Operands.{place_register, fetch_code, operand_register, operand_code, into_code, result_code, put_code};
 ghost use Rattle.asm_program.specs.Functions.{singles};
-ghost use Rattle.asm_sound.specs.Ranges.{IsRegister, InOperand};
+ghost use Rattle.asm_program.specs.Ranges.{IsRegister, InOperand};
 ghost use Rattle.asm_emission.specs.View.{operand_of};
 
 use super::numbers::{FIRST_FREE, machine_register};

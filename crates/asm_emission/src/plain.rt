@@ -4,7 +4,7 @@ ghost use Rattle.rv_core.specs.Instructions.{instruction, addi, is_within};
 ghost use Rattle.asm_program.specs.Operands.{place_register, operand_register, operand_code, result_code};
 ghost use Rattle.asm_program.specs.Emission.{load_op, store_op, set_code, operate_by, immediate_of, plain_code};
 ghost use Rattle.asm_program.specs.Functions.{singles};
-ghost use Rattle.asm_sound.specs.Ranges.{IsRegister, InOperand, InPlain};
+ghost use Rattle.asm_program.specs.Ranges.{IsRegister, InOperand, InPlain};
 ghost use Rattle.asm_emission.specs.View.{operand_of, plain_of};
 ghost use Rattle.asm_emission.specs.Fitting.{FormFits};
 

@@ -1,3 +1,4 @@
 pub mod Graphs
 pub mod Laid
 pub mod Placed
+pub mod Promised

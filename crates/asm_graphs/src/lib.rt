@@ -4,7 +4,8 @@
 //! A graph (`specs/Graphs.antt`) says which blocks of a function may follow one another, which functions
 //! it may call, and which ranges of blocks are loops; it is reducible, and calls go to lower numbers.
 //! Laid code (`specs/Laid.antt`) has each block's items in their place, in the order of the blocks, and
-//! each function in a place of its own, in any segments of the image.
+//! each function in a place of its own, in any segments of the image. Items keep to a graph, wherever they
+//! lie, by `specs/Promised.antt`.
 //!
 //! Proved, each by a call with an empty body: [`placed_is_laid`], that code is laid where the items of each
 //! function stand in a row, wherever that is (`specs/Placed.antt`); [`reached_is_code`], that a flow system of

@@ -6,7 +6,7 @@ use Rattle.asm_items.specs.declared.item.Item.TheVariants.{Jump}
 use Rattle.asm_items.specs.Placings.{Blocks}
 use Rattle.asm_writing.specs.Forms.{AreLike}
 use Rattle.asm_forms.specs.Laid.{BlocksLike, FunctionsLike}
-use Rattle.asm_placed.specs.Promised.{blocks_in, block_in}
+use Rattle.asm_graphs.specs.Promised.{blocks_in, block_in}
 
 pub functions_long : (fs gs : List Blocks) → FunctionsLike fs gs → length gs ≡ length fs
 functions_long [] gs h = ap length h

@@ -16,7 +16,7 @@ use Rattle.asm_forms.specs.Shorter.{functions_longest}
 use Rattle.asm_forms.proofs.Formed.{formed_longest}
 use Rattle.asm_forms.proofs.SizeLemmas.{functions_most}
 use Rattle.asm_placed.specs.Exits.{items_exits, blocks_exits, functions_exits, exits_of}
-use Rattle.asm_placed.specs.Promised.{blocks_in, block_in}
+use Rattle.asm_graphs.specs.Promised.{blocks_in, block_in}
 use Rattle.asm_placed.specs.Written.{RowsApart, placing_of}
 use Rattle.asm_placed.proofs.Spread.{all_apart, two_apart}
 

@@ -24,7 +24,7 @@ use Rattle.asm_forms.proofs.LikeLemmas.{formed_like}
 use Rattle.asm_forms.proofs.SizeLemmas.{functions_most}
 use Rattle.asm_graphs.specs.Graphs.{Graph}
 use Rattle.asm_graphs.specs.Placed.{IsPlaced}
-use Rattle.asm_placed.specs.Promised.{Promised, blocks_in, block_in}
+use Rattle.asm_graphs.specs.Promised.{Promised, blocks_in, block_in}
 use Rattle.asm_placed.specs.Written.{IsWritten, Holds, HasSegment, RowsApart, placing_of, flash_words, scratchpad_words, in_scratchpad}
 use Rattle.asm_placed.proofs.Alike.{functions_long, blocks_long, blocks_alike, block_alike, some_alike, jump_alike}
 use Rattle.asm_placed.proofs.Linked.{BlocksKeep, row_links}

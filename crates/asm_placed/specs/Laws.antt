@@ -12,7 +12,7 @@ use Rattle.asm_forms.specs.Regions.{Rows}
 use Rattle.asm_forms.specs.Sound.{FunctionsSound}
 use Rattle.asm_graphs.specs.Graphs.{Graph}
 use Rattle.asm_graphs.specs.Placed.{IsPlaced}
-use Rattle.asm_placed.specs.Promised.{Promised, blocks_in, block_in}
+use Rattle.asm_graphs.specs.Promised.{Promised, blocks_in, block_in}
 use Rattle.asm_placed.specs.Exits.{exits_of}
 use Rattle.asm_placed.specs.Written.{IsWritten, RowsApart, placing_of}
 

@@ -1,4 +1,3 @@
-pub mod Promised
 pub mod Written
 pub mod Exits
 pub mod Laws

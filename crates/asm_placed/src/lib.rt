@@ -1,7 +1,7 @@
 //! Code that is written in the chosen forms lies as its graph says.
 //!
-//! `specs/Promised.antt` says when the items of functions keep to a graph, and `specs/Written.antt` when an image holds
-//! them in two rows, one in flash and one in the scratchpad. The law [`code_is_placed`] joins both with the choice of
+//! `specs/Written.antt` says when an image holds the items of functions in two rows, one in flash and one in the
+//! scratchpad; that they keep to a graph is said by `asm_graphs`. The law [`code_is_placed`] joins both with the choice of
 //! forms: then each function's instructions stand in a row from its base on, each of its blocks keeps what it promises,
 //! functions have no address in common, and no return is taken for a far jump. By [`exits_are_listed`] blocks list their
 //! exits where the claims on the image list those of `specs/Exits.antt`. From there on it is known that every

@@ -6,13 +6,14 @@ use Rattle.asm_items.specs.Items.{total}
 use Rattle.asm_items.specs.Promises.{Keeps}
 use Rattle.asm_graphs.specs.Graphs as graphs
 use Rattle.asm_graphs.specs.Graphs.{IsShaped}
+use Rattle.asm_graphs.specs.Promised.{Promised}
 use Rattle.low_ir.specs.Places.{Assignment, Placed, placed}
 use Rattle.low_ir.specs.declared.places.Place.{Place}
 use Rattle.low_ir.specs.Code.{Plain, Set, Operate, Point, Load, Store, Put, Get, Instr, Do, Call, End, Low}
 use Rattle.low_ir.specs.Room.{instr_room, end_room}
 use Rattle.low_ir.specs.Formed.{IsLow}
 use Rattle.asm_program.specs.Frames.{Memory}
-use Rattle.asm_program.specs.Functions.{instr_items, end_items, block_count, items_at, graph_of}
+use Rattle.asm_program.specs.Functions.{instr_items, end_items, block_count, items_at, graph_of, program_items}
 use Rattle.asm_program.specs.Formed.{IsProgram}
 
 -- the graph is reducible, and its calls go to lower numbers
@@ -26,6 +27,10 @@ ItemsKeep = (m : Memory) (p : Placed) → IsProgram p → (f b : ℕ) → f < su
 -- a loop's latch is the one jump back to its header
 abbrev pub LatchesJump : Type 0
 LatchesJump = (m : Memory) (p : Placed) → IsProgram p → (f : ℕ) (k : graphs.Loop) → Contains ((graph_of m p).loops f) k → items_at m p f k.latch ≡ items.Jump true k.header ∷ []
+
+-- the items of a program keep to its graph, where no frame belongs to no function
+abbrev pub ItemsArePromised : Type 0
+ItemsArePromised = (m : Memory) (p : Placed) → IsProgram p → length m.frames ≤ length p.functions → Promised (graph_of m p) (program_items m p)
 
 -- displacements are words
 abbrev pub HasWords : Plain Place → Type 0

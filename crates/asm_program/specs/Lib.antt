@@ -3,5 +3,7 @@ pub mod Frames
 pub mod Operands
 pub mod Emission
 pub mod Functions
+pub mod Marked
 pub mod Formed
+pub mod Ranges
 pub mod Laws

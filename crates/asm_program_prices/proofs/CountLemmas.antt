@@ -20,7 +20,7 @@ use Rattle.asm_program.proofs.GraphLemmas.{below_of, function_at}
 use Rattle.asm_program.proofs.ItemLemmas.{of_block}
 use Rattle.asm_program_prices.specs.Bounds.{bounds_of, HasCode, CountsBelowWeight}
 use Rattle.asm_program_prices.proofs.LongLemmas.{like_once}
-use Rattle.asm_program_prices.proofs.EmissionLemmas.{beside, start_long, start_total, start_calls, block_long, block_calls, block_total, leaving_long, leaving_total, leaving_calls}
+use Rattle.asm_room.proofs.EmissionLemmas.{beside, start_long, start_total, start_calls, block_long, block_calls, block_total, leaving_long, leaving_total, leaving_calls}
 use Rattle.asm_program_prices.proofs.WeightLemmas.{called_le, in_le, weights_more}
 use Rattle.asm_program_prices.proofs.WorthLemmas.{found, among, not_start, leaving_at, start_at, within_count, count_of, start_count, function_sum, start_sum, are_worths}
 

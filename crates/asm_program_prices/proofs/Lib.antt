@@ -1,5 +1,4 @@
 pub mod LongLemmas
-pub mod EmissionLemmas
 pub mod WeightLemmas
 pub mod WorthLemmas
 pub mod CountLemmas

@@ -33,7 +33,7 @@ use Rattle.asm_program.specs.Functions.{PlacedBlock, PlacedFunction, no_function
 use Rattle.asm_program.proofs.GraphLemmas.{below_of}
 use Rattle.asm_program_prices.specs.Bounds.{bounds_of, IsLaidProgram, IsMarked, AreMarked, CountsBelowReach}
 use Rattle.asm_program_prices.proofs.LongLemmas.{like_calls, first_free}
-use Rattle.asm_program_prices.proofs.EmissionLemmas.{beside, start_calls, block_calls, leaving_calls}
+use Rattle.asm_room.proofs.EmissionLemmas.{beside, start_calls, block_calls, leaving_calls}
 use Rattle.asm_program_prices.proofs.WeightLemmas.{called_le, in_le, reaches_more}
 use Rattle.asm_program_prices.proofs.WorthLemmas.{found, within_count, start_count, function_sum, start_sum, are_worths}
 use Rattle.asm_program_prices.proofs.CountLemmas.{all_of, calls_fall, like_block, like_leaving, like_start, leaving_there, by_number, own_number, start_number, either_function}

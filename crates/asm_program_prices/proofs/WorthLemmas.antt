@@ -17,7 +17,7 @@ use Rattle.asm_program.specs.Formed.{IsFunction}
 use Rattle.asm_program.proofs.GraphLemmas.{below_of, function_at, with_loops}
 use Rattle.asm_program.proofs.ItemLemmas.{of_function, of_start, blocks_length}
 use Rattle.asm_program_prices.specs.Bounds.{bound_of, bounds_of, HasCode}
-use Rattle.asm_program_prices.proofs.EmissionLemmas.{beside}
+use Rattle.asm_room.proofs.EmissionLemmas.{beside}
 use Rattle.asm_program_prices.proofs.WeightLemmas.{times_same, times_first, times_behind, split_repeated, repeated_le}
 
 -- lists

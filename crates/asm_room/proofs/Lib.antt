@@ -1,2 +1,4 @@
+pub mod LongLemmas
+pub mod EmissionLemmas
 pub mod SizeLemmas
 pub mod FunctionLemmas

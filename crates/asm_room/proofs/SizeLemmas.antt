@@ -16,8 +16,8 @@ use Rattle.low_ir.specs.Room.{block_room, function_room, room}
 use Rattle.asm_program.specs.Frames.{Memory, frame_of}
 use Rattle.asm_program.specs.Functions.{PlacedBlock, PlacedFunction, no_function, function_in, at_once, blocks_from, leaving_blocks, function_items, start_items, functions_from, program_items}
 use Rattle.asm_program.specs.Laws.{AreWords}
-use Rattle.asm_program_prices.proofs.LongLemmas.{IsLong, AreLong}
-use Rattle.asm_program_prices.proofs.EmissionLemmas.{start_long, start_total, block_long, block_total, leaving_long, leaving_total}
+use Rattle.asm_room.proofs.LongLemmas.{IsLong, AreLong}
+use Rattle.asm_room.proofs.EmissionLemmas.{start_long, start_total, block_long, block_total, leaving_long, leaving_total}
 use Rattle.asm_room.specs.Sizes.{IsSmall, LongestHasRoom, ChosenHasRoom}
 
 -- longest forms stay as they are

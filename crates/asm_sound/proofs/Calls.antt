@@ -12,7 +12,7 @@ use Rattle.asm_program.specs.Numbers.{result, first_free, second_free, machine_r
 use Rattle.asm_program.specs.Frames.{Frame, slot_at, home_at}
 use Rattle.asm_program.specs.Operands.{load_code, store_code, operand_register, operand_code, into_code}
 use Rattle.asm_program.specs.Emission.{is_direct, kept_among, home_code, return_code, store_argument, pass_code, late_code, value_code, before_call, behind_call}
-use Rattle.asm_sound.specs.Ranges.{IsRegister, InOperand}
+use Rattle.asm_program.specs.Ranges.{IsRegister, InOperand}
 use Rattle.asm_sound.proofs.Words.{rows_if}
 use Rattle.asm_sound.proofs.Operands.{machine_small, load_rows, store_rows, operand_small, operand_rows, into_rows, put_rows}
 

@@ -18,7 +18,7 @@ use Rattle.asm_program.specs.Numbers.{result, service, first_free, second_free, 
 use Rattle.asm_program.specs.Frames.{Frame, Memory, slot_at}
 use Rattle.asm_program.specs.Operands.{store_code, place_register, operand_register, operand_code, into_code, result_code, address_code, address_register, address_offset}
 use Rattle.asm_program.specs.Emission.{register_op, load_op, store_op, immediate_form, immediate_of, set_code, operate_by, plain_code}
-use Rattle.asm_sound.specs.Ranges.{IsRegister, InOperand, InAddress, InPlain}
+use Rattle.asm_program.specs.Ranges.{IsRegister, InOperand, InAddress, InPlain}
 use Rattle.asm_sound.proofs.Words.{alone, before, addi_row, lower_in}
 use Rattle.asm_sound.proofs.Operands.{machine_small, place_small, operand_small, operand_rows, into_rows, result_rows, put_rows, store_rows, address_rows, address_small, address_in}
 

@@ -3,4 +3,3 @@ pub mod Operands
 pub mod Instructions
 pub mod Calls
 pub mod Programs
-pub mod Promises

@@ -15,7 +15,7 @@ use Rattle.low_ir.specs.Code.{Operand, Register, Constant, Base, Fixed, Through,
 use Rattle.asm_program.specs.Numbers.{first_free, second_free, machine_register, reach_code, reach_register, reach_offset, object_code, object_register, constant_code, load_word, store_word, is_short, load_upper}
 use Rattle.asm_program.specs.Frames.{Frame, Memory, slot_at, object_at}
 use Rattle.asm_program.specs.Operands.{load_code, store_code, place_register, fetch_code, operand_register, operand_code, into_code, result_code, put_code, offset_code, offset_register, far_code, far_register, code_to, register_to, offset_to, address_code, address_register, address_offset}
-use Rattle.asm_sound.specs.Ranges.{IsRegister, InOperand, InBase, InAddress}
+use Rattle.asm_program.specs.Ranges.{IsRegister, InOperand, InBase, InAddress}
 use Rattle.asm_sound.proofs.Words.{alone, before, rows_if, small_if, upper_row, load_row, store_row, lower_in, reach_in, reach_small, reach_rows, object_in, object_small, object_rows, constant_rows, move_rows}
 
 pub machine_small : (q : ℕ) → q < 24 → machine_register q < 32

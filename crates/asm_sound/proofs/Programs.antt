@@ -20,7 +20,7 @@ use Rattle.asm_program.specs.Frames.{Frame, Memory, no_frame, frame_of, position
 use Rattle.asm_program.specs.Operands.{operand_register, operand_code, into_code}
 use Rattle.asm_program.specs.Emission.{plain_code, before_call, behind_call}
 use Rattle.asm_program.specs.Functions.{singles, PlacedBlock, PlacedFunction, no_function, function_in, is_leaf, is_frame_near, frame_code, frame_register, frame_offset, link_store, link_load, saves, loads, saves_nothing, entry_code, exit_code, own_frame, own_function, at_once, passed_in, instr_items, jump_items, two_way_items, leave_items, end_items, body_items, filled, opening_items, block_items, blocks_from, leaving_blocks, function_items, based, second_code, bases_code, main_items, start_items, functions_from, program_items}
-use Rattle.asm_sound.specs.Ranges.{IsRegister, InInstr, InEnd, InBlock, InFunction, InProgram, IsSaving, AreSaving}
+use Rattle.asm_program.specs.Ranges.{IsRegister, InInstr, InEnd, InBlock, InFunction, InProgram, IsSaving, AreSaving}
 use Rattle.asm_sound.proofs.Words.{alone, before, rows_if, addi_row, load_row, store_row, upper_row, lower_in, near_in}
 use Rattle.asm_sound.proofs.Operands.{machine_small, operand_small, operand_rows, into_rows}
 use Rattle.asm_sound.proofs.Instructions.{plain_rows}

@@ -1,6 +1,5 @@
 //! The items of a program in the low form over places have instructions of RV32IM: each keeps the ranges of its fields.
 //!
-//! By [`items_are_promised`] they keep to the graph of the program, as code asks that is written in two rows.
 //! The law [`items_are_sound`] asks that the places which are registers are among the 24 that hold values, and that a
 //! function saves no other registers. Addresses and words may be any: what an immediate can't say comes into a register.
 //!
@@ -9,4 +8,4 @@
 
 mod laws;
 
-pub use laws::{items_are_promised, items_are_sound};
+pub use laws::items_are_sound;

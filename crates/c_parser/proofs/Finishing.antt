@@ -3,7 +3,7 @@ use Rattle.std.specs.Prelude.{Vec, IfErr, IfOk}
 use Rattle.std.specs.Global.{Global}
 use Rattle.std.proofs.Common.{Result, Ok, Err, ◌≡◌, ℕ, ◌+◌, ◌<◌, ◌≤◌, ◌^◌, List, [], length, map, refl, sym, ◌∙◌, ap, subst, arith}
 use Rattle.c_tree.specs.declared.external.External as externals
-use Rattle.c_tree.specs.Formed.{EachOf, IsFirstPlace, IsFormedExternal, IsFormedUnit, external_place}
+use Rattle.c_tree.specs.Formed.{EachOf, IsFirstPlace, IsFormedExternal, IsFormedUnit, external_place, IsTreeOf}
 use Rattle.c_tree.specs.Named.{map_row, named_external}
 use Rattle.c_tree.specs.Size.{size_external, size_row, size_unit}
 use Rattle.std.proofs.lemmas.List.{length-map}
@@ -32,7 +32,7 @@ use Rattle.c_parser.specs.declared.fault.ParseFault.{ParseFault}
 use Rattle.c_parser.specs.declared.fault.ParseFault.TheVariants.{Syntax}
 use Rattle.c_parser.proofs.Listing.{as_bytes, listed}
 use Rattle.c_parser.specs.Led.{Led}
-use Rattle.c_parser.specs.Refused.{IsTreeOf, Stops}
+use Rattle.c_parser.specs.Refused.{Stops}
 
 -- the items with their names
 abbrev named_row : Names → Row (External ℕ) → Row (External Bytes)

@@ -13,7 +13,8 @@ use Rattle.parse_grammar.proofs.ReadUnit.{one_unit, read_unit}
 use Rattle.parse_grammar.specs.Law.{BeginsWith, DeepensTrue, GoesTrue, ReadsBack, StopsTrue, run}
 use Rattle.c_parser.specs.declared.fault.ParseFault.{ParseFault}
 use Rattle.c_parser.specs.declared.fault.ParseFault.TheVariants.{Syntax, Deep, Memory}
-use Rattle.c_parser.specs.Refused.{IsTreeOf, IsRefused, Stops}
+use Rattle.c_parser.specs.Refused.{IsRefused, Stops}
+use Rattle.c_tree.specs.Formed.{IsTreeOf}
 
 pub take_all : (tokens : List Spoken) (n : ℕ) → length tokens ≤ n → n ≤ length tokens → take n tokens ≡ tokens
 take_all tokens n h k = let e : n ≡ length tokens = omega arith in ap (λ n. take n tokens) e ∙ take-length tokens

@@ -1,8 +1,8 @@
 -- What the parser promises of its answer (C11 6.4 to 6.9).
 use Rattle.std.specs.Prelude.{◌≡◌, ℕ, ◌+◌, ◌<◌, ◌≤◌, List, length, take}
-use Rattle.c_tree.specs.Formed.{IsFormedUnit}
+use Rattle.c_tree.specs.Formed.{IsTreeOf}
 use Rattle.c_tree.specs.Size.{size_unit}
-use Rattle.c_tree.specs.Spelling.{Spoken, Agree, spell_unit}
+use Rattle.c_tree.specs.Spelling.{Spoken}
 use Rattle.c_tree.specs.Tree.{Nothing, TranslationUnit}
 use Rattle.parse_grammar.specs.Begun.{Bytes, State, File}
 use Rattle.parse_grammar.specs.Machine.{Moved, Goes, Stuck}
@@ -10,10 +10,6 @@ use Rattle.parse_grammar.specs.Depth.{deep}
 use Rattle.parse_grammar.specs.Law.{BeginsWith, run}
 use Rattle.c_parser.specs.declared.fault.ParseFault.{ParseFault}
 use Rattle.c_parser.specs.declared.fault.ParseFault.TheVariants.{Syntax, Deep, Memory}
-
--- a well-formed tree, and these tokens are its spelling
-abbrev pub IsTreeOf : TranslationUnit Bytes → List Spoken → Type 0
-IsTreeOf unit tokens = IsFormedUnit unit × Agree (spell_unit unit) tokens
 
 -- some well-formed unit's spelling begins with these tokens
 abbrev pub SomeBegins : List Spoken → Type 0

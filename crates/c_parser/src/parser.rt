@@ -3,7 +3,8 @@ ghost use Rattle.c_tree.specs.Size.{size_unit};
 ghost use Rattle.c_tree.specs.Spelling.{spoken};
 ghost use Rattle.c_tree.specs.Tree.{TranslationUnit};
 ghost use Rattle.c_tree.specs.Units.{named_tree_of};
-ghost use Rattle.c_parser.specs.Refused.{IsRefused, IsTreeOf, Stops};
+ghost use Rattle.c_parser.specs.Refused.{IsRefused, Stops};
+ghost use Rattle.c_tree.specs.Formed.{IsTreeOf};
 ghost use Rattle.c_parser.specs.declared.fault.ParseFault.TheVariants.{Memory};
 
 use super::fault::ParseFault;

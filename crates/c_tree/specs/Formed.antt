@@ -1,7 +1,8 @@
--- Well-formed trees: no operand binds weaker than its place, and an `else` belongs to the nearest `if` (C11 6.5, 6.8.4.1).
+-- Well-formed trees: no operand binds weaker than its place, and an `else` belongs to the nearest `if` (C11 6.5, 6.8.4.1); and tokens that spell one.
 use Rattle.std.specs.Prelude.{◌≡◌, ℕ, ◌-◌, ◌≤◌, List, [], ◌∷◌, Option, Some, None, Bool, true, false}
 use Rattle.c_tree.specs.declared.expression.BinaryOperator.{BinaryOperator}
 use Rattle.c_tree.specs.declared.expression.BinaryOperator.TheVariants as binary
+use Rattle.c_tree.specs.Spelling.{Agree, Spoken, spell_unit}
 use Rattle.c_tree.specs.Tree.{Row, Nothing, Then, Expr, Number, Character, Name, Paren, Index, Call, Postfix, Prefix, Cast, Binary, Conditional, Assign, Exprs, NoExpr, AndExpr, Shape, Scalar, Unsized, Sized, Initial, Absent, Value, Listed, Object, Declared, Param, Parameter, Declaration, Objects, Prototype, Label, Case, Default, ForStart, NoStart, StartValue, StartDeclaration, Statement, Block, Empty, Evaluate, Marker, If, IfElse, While, Do, For, Switch, Break, Continue, Return, Items, NoItem, AndDeclaration, AndStatement, AndRestriction, AndLabel, External, Restriction, Declaring, Function, TranslationUnit, Whole}
 
 -- how tightly an operator binds: the least level binds the most
@@ -173,3 +174,7 @@ IsFirstPlace at (Then (Then front middle) last) = IsFirstPlace at (Then front mi
 
 abbrev pub IsFormedUnit : {N : Type 0} → TranslationUnit N → Type 0
 IsFormedUnit (Whole items at) = IsFirstPlace at items × EachOf IsFormedExternal items
+
+-- a well-formed tree of names by their bytes, and these tokens are its spelling
+abbrev pub IsTreeOf : TranslationUnit (List ℕ) → List Spoken → Type 0
+IsTreeOf unit tokens = IsFormedUnit unit × Agree (spell_unit unit) tokens

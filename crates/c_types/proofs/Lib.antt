@@ -1,7 +1,5 @@
 pub mod Tallies
 pub mod Outlines
 pub mod Functions
-pub mod OutlineKept
-pub mod CallsBelow
 pub mod Seals
 pub mod Definitions

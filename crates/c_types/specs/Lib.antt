@@ -1,4 +1,4 @@
-pub mod Typed
+pub mod Draft
 pub mod Outline
 pub mod Tally
 pub mod Unit

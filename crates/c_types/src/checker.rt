@@ -8,7 +8,8 @@ ghost use Rattle.types_tree.specs.View.{program_of};
 ghost use Rattle.types_rules.specs.Limits.{broken, limits_before, tally_unit};
 ghost use Rattle.types_rules.specs.Sights.{has_main, is_main};
 ghost use Rattle.types_rules.specs.declared.fault.Rule.TheVariants as rules;
-ghost use Rattle.c_types.specs.Typed.{IsDraft, Refuses, fault_of, typed_of};
+ghost use Rattle.types_rules.specs.Typed.{Refuses, fault_of, typed_of};
+ghost use Rattle.c_types.specs.Draft.{IsDraft};
 
 use super::limits::{fault_or, limits_before, limits_behind};
 use super::outline::outline;

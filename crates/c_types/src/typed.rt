@@ -1,5 +1,6 @@
 ghost use Rattle.std.specs.Prelude.{◌≡◌};
-ghost use Rattle.c_types.specs.Typed.{CallsDefined, IsTypedTree};
+ghost use Rattle.types_rules.specs.Typed.{IsTypedTree};
+ghost use Rattle.types_calls.specs.Calls.{CallsDefined};
 ghost use Rattle.types_tree.specs.View.{program_of};
 
 use types_tree::program::Program;

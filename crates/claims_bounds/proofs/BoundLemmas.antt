@@ -18,7 +18,7 @@ use Rattle.asm_program.specs.Functions.{graph_of}
 use Rattle.claims_definition.specs.Listed.{Laid, claims_of, placing}
 use Rattle.claims_bounds.specs.Flows.{HasFlows}
 use Rattle.claims_bounds.proofs.FlowLemmas.{flows_keep_bounds}
-use Rattle.claims_shapes.proofs.Fitting.{claims_fit}
+use Rattle.claims_definition.proofs.Fitting.{claims_fit}
 use Rattle.path_places.specs.Reached.{AreFilled}
 use Rattle.path_counts.specs.Laws.{HasBounds}
 use Rattle.claims_bounds.specs.Bounds.{LaidCanBound}

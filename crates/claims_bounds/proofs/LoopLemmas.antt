@@ -23,11 +23,12 @@ use Rattle.claims_definition.specs.Laws.{IsClaimOf}
 use Rattle.claims_definition.specs.Listed.{Laid, claims_of, loops_of, placing}
 use Rattle.claims_definition.proofs.Claimed.{are_claims}
 use Rattle.claims_bounds.specs.Flows.{HasFlows}
-use Rattle.claims_shapes.specs.Shapes.{AreShaped}
+use Rattle.claims_definition.specs.Shapes.{AreShaped}
 use Rattle.path_fit.specs.Loops.{HeadsOwnLoop}
 use Rattle.path_places.proofs.FunctionLemmas.{is_back_at}
 use Rattle.path_counts.specs.Laws.{HasBounds}
-use Rattle.claims_bounds.specs.Bounds.{CanTurn, IsBounded}
+use Rattle.claims_bounds.specs.Bounds.{IsBounded}
+use Rattle.low_ir.specs.Turns.{CanTurn}
 
 same_test : (a b : ℕ) → (a == b) ≡ true → a ≡ b
 same_test a b t = grind (arith, nat_tests, t)

@@ -1,22 +1,18 @@
 -- The greatest flow of a laid program can be searched for.
-use Rattle.std.specs.Prelude.{◌≡◌, ◌⊎◌, suc, ◌*◌, ◌^◌, ◌<◌, ◌≤◌, List, length, All}
+use Rattle.std.specs.Prelude.{suc, ◌*◌, ◌^◌, ◌<◌, List, length, All}
 use Rattle.rv_core.specs.Images.{Image}
 use Rattle.rv_core.specs.Table.{Table}
 use Rattle.code_flow_system.specs.declared.shapes.LoopShape.{LoopShape}
 use Rattle.code_flow_system.specs.Systems.{System}
 use Rattle.asm_graphs.specs.Laid.{spans_from}
-use Rattle.low_ir.specs.Code.{Loop}
 use Rattle.low_ir.specs.Places.{Placed}
 use Rattle.low_ir.specs.Room.{weight}
+use Rattle.low_ir.specs.Turns.{CanTurn}
 use Rattle.asm_program.specs.Functions.{PlacedFunction}
 use Rattle.claims_definition.specs.Listed.{Laid, claims_of, placing}
 use Rattle.claims_bounds.specs.Flows.{HasFlows}
-use Rattle.claims_shapes.specs.Shapes.{AreShaped}
+use Rattle.claims_definition.specs.Shapes.{AreShaped}
 use Rattle.path_conditions.specs.Bounding.{CanBound}
-
--- a loop has to start no more often than it may, or may not start
-abbrev pub CanTurn : Loop → Type 0
-CanTurn k = (k.least ≤ k.most) ⊎ (k.most ≡ 0)
 
 -- what the form of a program does not say: bounds of loops can be kept, and numbers of a search stay small
 pub record IsBounded (p : Placed) : Type 0 where

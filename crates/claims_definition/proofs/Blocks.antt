@@ -11,10 +11,10 @@ use Rattle.asm_items.proofs.MoveLemmas.{size_some}
 use Rattle.asm_forms.proofs.LikeLemmas.{formed_like}
 use Rattle.asm_graphs.specs.Laid.{last_of}
 use Rattle.asm_placed.specs.Written.{in_scratchpad}
-use Rattle.asm_placed.specs.Promised.{Promised, block_in, blocks_in}
+use Rattle.asm_graphs.specs.Promised.{Promised, block_in, blocks_in}
 use Rattle.asm_placed.proofs.Alike.{block_alike, blocks_alike, blocks_long, functions_long, some_alike}
 use Rattle.asm_program.specs.Functions.{at_once, block_count, function_in, graph_of, program_items}
-use Rattle.asm_sound.proofs.Promises.{promised}
+use Rattle.asm_program.proofs.Promises.{promised}
 use Rattle.claims_accesses.proofs.Spaces.{items_fours}
 use Rattle.claims_definition.specs.Laws.{IsSettled}
 use Rattle.claims_definition.specs.Listed.{Laid, by_address, functions_of, placing}

@@ -18,7 +18,7 @@ use Rattle.asm_forms.specs.Laid.{BlocksLike}
 use Rattle.asm_forms.specs.Regions.{bases_of}
 use Rattle.asm_forms.proofs.LikeLemmas.{formed_like}
 use Rattle.asm_placed.specs.Exits.{blocks_exits, exits_of, functions_exits, items_exits}
-use Rattle.asm_placed.specs.Promised.{blocks_in}
+use Rattle.asm_graphs.specs.Promised.{blocks_in}
 use Rattle.asm_placed.proofs.Alike.{blocks_alike}
 use Rattle.asm_placed.proofs.Spread.{bases_fours}
 use Rattle.low_ir.specs.declared.places.Place.{Place}

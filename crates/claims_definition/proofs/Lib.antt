@@ -6,6 +6,7 @@ pub mod Regions
 pub mod Loops
 pub mod Marks
 pub mod Claimed
+pub mod Fitting
 pub mod Exits
 pub mod Sound
 pub mod Ranges

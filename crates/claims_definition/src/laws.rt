@@ -9,6 +9,7 @@ ghost use Rattle.claims_definition.specs.Laws.{
   PlacesAreApart,
   RangesHold,
 };
+ghost use Rattle.claims_definition.specs.Shapes.{ClaimsFit};
 
 /// None of the claims is bad by itself: exits, lines of regions and loops stand in the order of their
 /// addresses, each at a multiple of 4.
@@ -52,4 +53,10 @@ pub fn claims_are_few()
 /// Whatever an item of a block may access is among the accesses, at the item's address.
 pub fn accesses_are_listed()
     ensures { AccessesAreListed }
+{}
+
+/// Where an image holds a laid program, and its loop claims have their shapes, loops and functions lie
+/// as a search for the greatest flow wants them.
+pub fn claims_fit()
+    ensures { ClaimsFit }
 {}

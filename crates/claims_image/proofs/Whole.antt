@@ -10,7 +10,7 @@ use Rattle.low_ir.specs.Places.{Placed}
 use Rattle.asm_program.specs.Formed.{IsProgram}
 use Rattle.asm_program.specs.Functions.{graph_of}
 use Rattle.asm_program.specs.Numbers.{ram}
-use Rattle.asm_sound.specs.Ranges.{InProgram}
+use Rattle.asm_program.specs.Ranges.{InProgram}
 use Rattle.image_frames.specs.Memories.{Placement, memory_of}
 use Rattle.image_frames.proofs.FrameLemmas.{frames_count}
 use Rattle.image_definition.specs.Images.{FitsImage, image_in, items_in, rows_in}
@@ -19,7 +19,7 @@ use Rattle.claims_accesses.specs.Laws.{IsNamed}
 use Rattle.claims_definition.specs.Laws.{IsSettled}
 use Rattle.claims_definition.specs.Listed.{claims_of, placing}
 use Rattle.claims_definition.proofs.Sound.{claims_sound}
-use Rattle.claims_shapes.proofs.Fitting.{claims_fit}
+use Rattle.claims_definition.proofs.Fitting.{claims_fit}
 use Rattle.claims_image.specs.Images.{HasClaims, laid_of}
 
 module _ (pl : Placement) (p : Placed) (fits : FitsImage pl p) where

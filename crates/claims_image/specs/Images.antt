@@ -11,13 +11,13 @@ use Rattle.asm_graphs.specs.Laid.{IsImageOf, spans_from}
 use Rattle.low_ir.specs.Places.{Placed}
 use Rattle.asm_program.specs.Formed.{IsProgram}
 use Rattle.asm_program.specs.Functions.{graph_of}
-use Rattle.asm_sound.specs.Ranges.{InProgram}
+use Rattle.asm_program.specs.Ranges.{InProgram}
 use Rattle.image_frames.specs.Memories.{Placement, memory_of, regions_of}
 use Rattle.image_definition.specs.Images.{FitsImage, image_in, rows_in}
 use Rattle.claims_accesses.specs.Laws.{IsNamed}
 use Rattle.claims_definition.specs.Laws.{IsSettled}
 use Rattle.claims_definition.specs.Listed.{Laid, claims_of, placing}
-use Rattle.claims_shapes.specs.Shapes.{AreShaped}
+use Rattle.claims_definition.specs.Shapes.{AreShaped}
 
 abbrev pub laid_of : Placement → Placed → Laid
 laid_of pl p = record { program = p; memory = memory_of pl p; regions = regions_of pl p; rows = rows_in pl p }

@@ -13,7 +13,7 @@ use Rattle.asm_writing.specs.Forms.{AreLike, IsLike}
 use Rattle.asm_forms.specs.Laid.{BlocksLike}
 use Rattle.asm_forms.specs.Shorter.{blocks_longest, items_longest, longest}
 use Rattle.asm_forms.proofs.LikeLemmas.{formed_like}
-use Rattle.asm_placed.specs.Promised.{blocks_in}
+use Rattle.asm_graphs.specs.Promised.{blocks_in}
 use Rattle.asm_placed.proofs.Alike.{blocks_alike}
 use Rattle.asm_placed.proofs.Spread.{bases_fours}
 use Rattle.low_ir.specs.Code.{Object}

@@ -14,6 +14,7 @@ use Rattle.low_ir.specs.Code.{Object}
 use Rattle.asm_room.specs.Functions.{function_size}
 use Rattle.claims_accesses.specs.Touches.{Touch, Nothing, OfFrame, OfArrays, program_touches}
 use Rattle.claims_definition.specs.Listed.{Laid, by_address, placing}
+use Rattle.claims_items.specs.declared.item.LaidItem as items
 
 -- at: the addresses of its instructions, or of the loads and stores that touch this array alone
 pub record Movable : Type 0 where
@@ -22,6 +23,10 @@ pub record Movable : Type 0 where
   pub code : Bool
   pub region : Region
   pub at : List ℕ
+
+-- as it stands in a list
+abbrev pub movable_of : items.LaidItem → Movable
+movable_of i = record { id = i.id; size = i.size; code = i.code; region = i.region; at = i.at }
 
 abbrev pub code_region : Bool → Region
 code_region true = Spm

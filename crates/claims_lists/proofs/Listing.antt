@@ -22,7 +22,7 @@ use Rattle.asm_program.specs.Frames.{Memory}
 use Rattle.asm_program.specs.Functions.{PlacedBlock, PlacedFunction, function_in, functions_from, program_items, start_items}
 use Rattle.claims_definition.specs.Listed.{CodeRange, Laid, by_address, code_range, functions_of, loop_claim, loops_at, loops_from, loops_in, places_in, placing}
 use Rattle.claims_definition.specs.Listed as listed
-use Rattle.claims_shapes.specs.Shapes.{AreShaped}
+use Rattle.claims_definition.specs.Shapes.{AreShaped}
 use Rattle.claims_lists.specs.declared.laying.Laying.{Laying}
 use Rattle.claims_lists.specs.Lists.{IsOf, first_mark, range_in}
 use Rattle.claims_lists.specs.Loops.{claim_in, claims_in, loops_under}

@@ -3,7 +3,7 @@
 //!
 //! `order` puts functions in the order of their addresses, `laying` reads a layout, and one file makes each list.
 //!
-//! Proved: the lists are those that `claims_definition` and `claims_shapes` define of each laid program that has this code and
+//! Proved: the lists are those that `claims_definition` defines of each laid program that has this code and
 //! layout, or memory ran out. Time and memory are linear in blocks, loops and items.
 //!
 //! The crate knows no instruction, and not what an item touches.

@@ -2,7 +2,7 @@
 ghost use Rattle.std.specs.Prelude.{◌≡◌, ◌++◌, ◌∷◌, [], suc, length, map, IfOk, OnOk};
 ghost use Rattle.asm_graphs.specs.Laid.{spans_from};
 ghost use Rattle.claims_definition.specs.Listed.{Laid, placing};
-ghost use Rattle.claims_shapes.specs.Shapes.{AreShaped};
+ghost use Rattle.claims_definition.specs.Shapes.{AreShaped};
 ghost use Rattle.claims_lists.specs.Lists.{IsOf};
 ghost use Rattle.claims_lists.specs.Places.{IsRoomy};
 ghost use Rattle.claims_lists.specs.Spans.{shape_in, span_in, spans_in};

@@ -12,11 +12,7 @@ use Rattle.claims_items.specs.Movables.{Movable, code_region, is_local, only_in,
 use Rattle.claims_definition.specs.Listed.{Laid, by_address}
 use Rattle.claims_lists.specs.declared.laying.Laying.{Laying}
 use Rattle.claims_lists.specs.Places.{base_in, blocks_in}
-use Rattle.claims_movables.specs.declared.item.LaidItem as items
 use Rattle.claims_movables.specs.Near.{blocks_near}
-
-abbrev pub movable_of : items.LaidItem → Movable
-movable_of i = record { id = i.id; size = i.size; code = i.code; region = i.region; at = i.at }
 
 -- the addresses of the accesses that touch an array alone, of the arrays below n
 abbrev pub lists_below : Laid → ℕ → List (List ℕ)

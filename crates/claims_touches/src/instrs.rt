@@ -5,7 +5,7 @@ ghost use Rattle.asm_program.specs.Numbers.{first_free, second_free};
 ghost use Rattle.asm_program.specs.Frames.{frame_of};
 ghost use Rattle.asm_program.specs.Operands.{address_code, operand_code, result_code};
 ghost use Rattle.asm_program.specs.Functions.{instr_items, singles};
-ghost use Rattle.asm_sound.specs.Ranges.{InAddress, InInstr, InProgram};
+ghost use Rattle.asm_program.specs.Ranges.{InAddress, InInstr, InProgram};
 ghost use Rattle.asm_emission.specs.View.{address_of, operand_of};
 ghost use Rattle.asm_code.specs.Scopes.{IsScope, memory, program, placed_instr};
 ghost use Rattle.claims_touches.specs.Named.{instr_names, item_names, load_names, store_names};

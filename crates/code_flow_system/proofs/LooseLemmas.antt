@@ -13,6 +13,8 @@ use Rattle.code_flow_system.specs.Systems.{System}
 use Rattle.code_flow_system.specs.Counts.{Amounts, amount, each_with, arrivals, count, inflow, KeepsLoop}
 use Rattle.code_flow_system.specs.Flows.{IsFlow}
 use Rattle.code_flow_system.specs.Loose.{moves_elsewhere, KeepsTurns, GoesBack, FlowsAreLoose}
+use Rattle.code_flow_system.specs.declared.shapes.LoopShape.{LoopShape}
+use Rattle.code_flow_system.specs.Shapes.{AreShapesOf, IsLoop}
 
 -- what arrives at the header comes from elsewhere, or by the back jump
 arrivals_split : (x : Amounts) (h b : ℕ) (ms : List Move) → All (λ m. m.at ≡ b → destinations m ≡ h ∷ []) ms →
@@ -87,3 +89,11 @@ flows_are_loose s back unit x flow = record {
   kept = λ a. let e = flow.conserved a in omega (arith, ints);
   loops = turns_kept s unit x flow s.claims.loops back flow.claims.loops;
 }
+
+-- each claim's jump back goes to its header alone
+pub goes_back : (s : System) (cs : List LoopClaim) (ks : List LoopShape) → AreShapesOf cs ks → All (IsLoop s) ks → All (GoesBack s.moves) cs
+goes_back s [] ks are h = All-nil (GoesBack s.moves)
+goes_back s (c ∷ cs) [] are h = absurd are
+goes_back s (c ∷ cs) (l ∷ ks) are h = All-cons (GoesBack s.moves) c cs
+    (subst (λ a. All (λ m. m.at ≡ c.back → destinations m ≡ a ∷ []) s.moves) are.0 (subst (λ b. All (λ m. m.at ≡ b → destinations m ≡ l.header ∷ []) s.moves) are.1 (All-head (IsLoop s) l ks h).goes_back))
+    (goes_back s cs ks are.2 (All-tail (IsLoop s) l ks h))

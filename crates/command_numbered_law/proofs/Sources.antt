@@ -5,11 +5,11 @@ use Rattle.c_tree.specs.Named.{named_unit}
 use Rattle.c_tree.specs.Size.{size_unit}
 use Rattle.c_tree.specs.Spelling.{spoken}
 use Rattle.c_tree.specs.Tree.{TranslationUnit}
-use Rattle.c_parser.specs.Refused.{IsTreeOf}
+use Rattle.c_tree.specs.Formed.{IsTreeOf}
 use Rattle.types_tree.specs.Tree.{Program}
 use Rattle.types_rules.specs.Typing.{typed_unit}
 use Rattle.facts_definitions.specs.declared.facts.Facts.{Facts}
-use Rattle.facts_front.specs.Fronts.{HasFacts, HasProgram, HasUnit, IsSourceBy}
+use Rattle.facts_sources.specs.Sources.{HasFacts, HasProgram, HasUnit, IsSourceBy}
 use Rattle.meaning_semantics.specs.Runs.{meaning}
 use Rattle.meaning_semantics.specs.declared.source_run.SourceRun.TheVariants.{Done}
 use Rattle.command_numbered.specs.Text.{numbered_text}

@@ -5,7 +5,7 @@ use Rattle.wcc_base.specs.Outside.{Files, StoreState, bytes_of}
 use Rattle.wcc_base.specs.declared.status.Status.{Status}
 use Rattle.meaning_semantics.specs.declared.source_run.SourceRun.{SourceRun}
 use Rattle.meaning_semantics.specs.Runs.{meaning}
-use Rattle.facts_front.specs.Fronts.{derived_for}
+use Rattle.facts_sources.specs.Sources.{derived_for}
 use Rattle.facts_laws.proofs.Sources as laws
 use Rattle.facts_definitions.specs.FlowFacts.{bounds_in, facts_of, first_fault, flow_facts, known_of, most_main, unless_faulty, unless_too_often}
 use Rattle.facts_definitions.specs.Most.{cut}

@@ -13,7 +13,7 @@ use Rattle.rv_sim.specs.Simulation.{Simulation}
 use Rattle.rv_sim.specs.declared.ending.Ending.{Ending}
 use Rattle.rv_sim.specs.declared.ending.Ending.TheVariants.{Exit, Trap, CycleLimit, OutputFull}
 use Rattle.facts_definitions.specs.declared.facts.Facts.{Facts}
-use Rattle.facts_front.specs.Fronts.{IsSourceBy}
+use Rattle.facts_sources.specs.Sources.{IsSourceBy}
 use Rattle.meaning_semantics.specs.Runs.{meaning}
 use Rattle.meaning_semantics.specs.declared.source_run.SourceRun.{SourceRun}
 use Rattle.types_tree.specs.Tree.{Program}

@@ -5,7 +5,7 @@ use Rattle.wcc_base.specs.declared.status.Status.TheVariants as status
 use Rattle.rv_core.specs.Table.{Table}
 use Rattle.facts_definitions.specs.declared.facts.Facts.{Facts}
 use Rattle.types_tree.specs.Tree.{Program}
-use Rattle.facts_front.specs.Fronts.{IsSourceBy}
+use Rattle.facts_sources.specs.Sources.{IsSourceBy}
 use Rattle.report_text.specs.Reports.{Report}
 use Rattle.promise_compiler.specs.declared.refusal.Refusal.{Refusal}
 use Rattle.promise_compiler.specs.declared.refusal.Refusal.TheVariants.{Front, Memory}

@@ -13,7 +13,7 @@ use Rattle.meaning_semantics.specs.declared.source_run.Unkept.TheVariants as unk
 use Rattle.meaning_semantics.specs.Runs.{meaning}
 use Rattle.meaning_laws.specs.Told.{IsTold}
 use Rattle.counting_laws.specs.Wider.{OnlyDerived}
-use Rattle.facts_front.specs.Fronts.{IsSourceBy}
+use Rattle.facts_sources.specs.Sources.{IsSourceBy}
 use Rattle.command_words.specs.Requests.{EvalRequest}
 use Rattle.command_perform.specs.Lines.{value_line, undefined_line, broken_line}
 use Rattle.command_perform.specs.Outputs.{Outputs}

@@ -1,6 +1,6 @@
 // The command `eval SOURCE INPUT OUTPUT [--derive]`.
 ghost use Rattle.std.specs.Prelude.{◌≡◌, ◌⊎◌, ℕ, Bool, List, [], ◌∷◌, length, IfOk, MatchResult};
-ghost use Rattle.facts_front.specs.Fronts.{IsSourceBy};
+ghost use Rattle.facts_sources.specs.Sources.{IsSourceBy};
 ghost use Rattle.types_tree.specs.View.{program_of};
 ghost use Rattle.command_perform.specs.Lines.{all_shown, value_line, undefined_line};
 ghost use Rattle.wcc_base.specs.declared.status.Status.TheVariants as status;

@@ -16,7 +16,7 @@ use Rattle.code_flow.specs.declared.finding.CodeFault.{CodeFault}
 use Rattle.code_flow.specs.declared.finding.CodeFault.TheVariants.{Memory}
 use Rattle.facts_definitions.specs.FlowFacts.{AreFacts}
 use Rattle.facts_definitions.specs.declared.facts.Facts.{Facts}
-use Rattle.facts_front.specs.Fronts.{IsSource}
+use Rattle.facts_sources.specs.Sources.{IsSource}
 use Rattle.facts_restrictions.specs.Limits.{AreLimited}
 use Rattle.facts_restrictions.proofs.Limited.{are_limited}
 use Rattle.types_tree.specs.Tree as c

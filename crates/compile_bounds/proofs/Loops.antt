@@ -4,7 +4,7 @@ use Rattle.std.proofs.lemmas.List.Elements.{All-contains, All-map, All-nil, All-
 use Rattle.code_flow_system.specs.Claims.{Claims}
 use Rattle.code_flow_system.specs.declared.claims.LoopClaim.{LoopClaim}
 use Rattle.facts_definitions.specs.declared.facts.Facts.{Facts}
-use Rattle.facts_front.specs.Fronts.{IsSource}
+use Rattle.facts_sources.specs.Sources.{IsSource}
 use Rattle.types_tree.specs.Tree as c
 use Rattle.plan_carried.specs.Sources.{source_behaviour}
 use Rattle.high_ir.specs.Formed.{IsHigh}
@@ -30,7 +30,8 @@ use Rattle.claims_image.specs.Images.{laid_of}
 use Rattle.compile_made.specs.declared.made.Made.{Made}
 use Rattle.compile_made.specs.Made.{IsInMemory, IsLowered, IsMade, copies_of, high_of}
 use Rattle.image_frames.specs.Memories.{Placement}
-use Rattle.compile_carried.proofs.Loops.{source_loops_few}
+use Rattle.plan_checked.proofs.Sources.{checked}
+use Rattle.compile_turns.proofs.Few.{source_loops_few}
 use Rattle.compile_turns.proofs.Lowering.{EachLoop, lowered_each, placed_each}
 use Rattle.compile_bounds.specs.Laws.{CanBeNamed}
 
@@ -74,7 +75,7 @@ module _ (source : List ℕ) (names : List (List ℕ)) (program : c.Program) (fa
   loops = (source_behaviour program names facts).loops
 
   few : All (λ x. x < 2 ^ 26) (map number_of loops)
-  few = All-map (λ x. x < 2 ^ 26) number_of loops (source_loops_few source names program facts is)
+  few = All-map (λ x. x < 2 ^ 26) number_of loops (source_loops_few names program facts (checked source names program facts is))
 
   -- copies are listed by the loops of the source
   old_small : All (λ (e : LoopCopies). e.old < 2 ^ 26) m.stages.last.copies.loops.items

@@ -8,7 +8,7 @@ use Rattle.code_flow.specs.CodeFaults.{IsFault}
 use Rattle.code_flow.specs.declared.finding.CodeFault.{CodeFault}
 use Rattle.code_flow.specs.declared.finding.CodeFault.TheVariants.{Memory}
 use Rattle.facts_definitions.specs.declared.facts.Facts.{Facts}
-use Rattle.facts_front.specs.Fronts.{IsSource}
+use Rattle.facts_sources.specs.Sources.{IsSource}
 use Rattle.types_tree.specs.Tree.{Program}
 use Rattle.high_ir.specs.declared.copies.LoopCopies.{LoopCopies}
 use Rattle.high_ir.specs.declared.copies.NeverMark.{NeverMark}

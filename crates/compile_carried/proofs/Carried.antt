@@ -1,23 +1,22 @@
 -- What a plan keeps of its source, and what one more pass keeps of it.
 use Rattle.std.proofs.Common.{ℕ, suc, ◌^◌, ◌<◌, ◌≤◌, List, sym, subst, arith, All, pow-suc}
 use Rattle.facts_definitions.specs.declared.facts.Facts.{Facts}
-use Rattle.facts_front.specs.Fronts.{IsSource}
+use Rattle.facts_sources.specs.Sources.{IsSource}
 use Rattle.types_tree.specs.Tree as c
 use Rattle.plan_carried.specs.Sources.{planned_listing, source_behaviour}
 use Rattle.plan_checked.proofs.Sources.{checked}
-use Rattle.plan_elements.specs.Elements.{HasElements}
+use Rattle.high_ir.specs.Whole.{HasElements, IsWhole}
 use Rattle.plan_elements.proofs.Programs.{plan_some}
 use Rattle.plan_law.specs.Plans.{KeepsSource}
 use Rattle.plan_law.proofs.Law.{planned_keeps}
 use Rattle.high_ir.specs.Formed.{IsHigh}
 use Rattle.high_ir.specs.Tree.{Object, Program}
-use Rattle.high_ir.specs.Whole.{IsWhole}
 use Rattle.high_pass.specs.Composing.{Continues}
 use Rattle.high_pass.specs.Law.{FactorsWithin, IsLawful}
 use Rattle.high_pass.specs.Listing.{Listing}
 use Rattle.compile_words.proofs.Sources.{source_is_whole}
 use Rattle.compile_kept.specs.Limits.{IsLimited}
-use Rattle.compile_sizes.proofs.Plans.{pass_limited, source_limited}
+use Rattle.compile_carried.proofs.Plans.{pass_limited, source_limited}
 use Rattle.compile_kept.specs.Carried.{IsCarried, IsPassed, IsPlanned}
 
 pub planned_carried : (source : List ℕ) (names : List (List ℕ)) (program : c.Program) (facts : Facts) (p : Program) (listing : Listing) → IsSource source names program facts → IsPlanned names program facts p listing → IsCarried names program facts 0 p listing

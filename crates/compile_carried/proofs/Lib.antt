@@ -1,3 +1,3 @@
+pub mod Units
+pub mod Plans
 pub mod Carried
-pub mod Nodes
-pub mod Loops

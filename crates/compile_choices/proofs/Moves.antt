@@ -9,13 +9,12 @@ use Rattle.low_ir.specs.Arrays.{array_size}
 use Rattle.low_ir.specs.Code.{Object}
 use Rattle.low_ir.specs.Places.{Placed}
 use Rattle.image_frames.specs.Memories.{Placement}
+use Rattle.image_frames.specs.Placings.{is_among, MovesItems}
 use Rattle.image_sizes.specs.Sizes.{HasRoom, array_sizes, code_size, function_sizes, sizes_placed}
 use Rattle.claims_definition.specs.Listed.{Laid}
 use Rattle.claims_image.specs.Images.{laid_of}
 use Rattle.claims_items.specs.Movables.{is_local}
-use Rattle.layout_sizes.specs.Items.{MovesItems}
 use Rattle.spm_placement.specs.declared.item.Item.{Item}
-use Rattle.spm_placement.specs.Placings.{is_among}
 use Rattle.spm_placement.specs.Sets.{AreBest, bytes, number}
 use Rattle.spm_placement.proofs.Taking.{not_among, taken}
 use Rattle.compile_made.specs.Placed.{CanBePlaced, Fits, HasNumbers, placed_bytes}

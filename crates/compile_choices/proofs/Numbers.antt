@@ -8,10 +8,11 @@ use Rattle.code_flow_system.specs.declared.cert.Part.{Part}
 use Rattle.low_ir.specs.declared.object.Storage.{Storage}
 use Rattle.low_ir.specs.declared.object.Storage.TheVariants.{Constant, Global, Local}
 use Rattle.low_ir.specs.Code.{Object}
+use Rattle.image_frames.specs.Placings.{is_among}
 use Rattle.claims_definition.specs.Listed.{Laid}
 use Rattle.claims_items.specs.Movables.{Movable, array_item, arrays_from, function_item, is_local, movables_of, unless}
 use Rattle.spm_placement.specs.Gains.{gained}
-use Rattle.spm_placement.specs.Placings.{AreApart, is_among}
+use Rattle.spm_placement.specs.Placings.{AreApart}
 use Rattle.spm_placement.specs.Sets.{number}
 
 -- numbers rise from one on

@@ -18,7 +18,7 @@ use Rattle.claims_definition.specs.Listed.{Laid}
 use Rattle.claims_image.specs.Images.{laid_of}
 use Rattle.claims_items.specs.Movables.{Movable, array_item, arrays_from, function_item, is_local, movables_of, unless}
 use Rattle.claims_items.proofs.Movables.{array_movable, function_movable}
-use Rattle.layout_sizes.specs.Items.{arrays_sized, sized}
+use Rattle.layout_kept.specs.Items.{arrays_sized, sized}
 use Rattle.layout_sizes.proofs.Keeping.{sizes_stay}
 use Rattle.spm_placement.specs.declared.item.Item.{Item}
 use Rattle.spm_placement.specs.Gains.{gained}

@@ -4,12 +4,13 @@ use Rattle.rv_core.specs.Table.{Table}
 use Rattle.code_flow_system.specs.declared.cert.Part.{Part}
 use Rattle.low_ir.specs.Places.{Placed}
 use Rattle.image_frames.specs.Memories.{Placement}
-use Rattle.image_sizes.specs.Sizes.{HasRoom}
+use Rattle.image_sizes.specs.Sizes.{HasRoom, globals_size}
 use Rattle.claims_definition.specs.Laws.{IsSettled}
 use Rattle.claims_definition.specs.Listed.{Laid}
 use Rattle.claims_image.specs.Images.{laid_of}
 use Rattle.claims_items.specs.Movables.{movables_of}
-use Rattle.layout_sizes.specs.Items.{HasElements, MovesItems, globals_size}
+use Rattle.layout_kept.specs.Items.{HasElements}
+use Rattle.image_frames.specs.Placings.{MovesItems}
 use Rattle.spm_placement.specs.declared.item.Item.{Item}
 use Rattle.spm_placement.specs.Gains.{gained}
 use Rattle.spm_placement.specs.Placings.{AreApart}

@@ -22,9 +22,9 @@ use Rattle.claims_image.specs.Images.{laid_of}
 use Rattle.claims_places.specs.Places.{places_below}
 use Rattle.image_frames.specs.Memories.{Placement}
 use Rattle.image_definition.specs.Images.{image_in}
-use Rattle.image_sizes.specs.Sizes.{HasRoom}
+use Rattle.image_sizes.specs.Sizes.{HasRoom, globals_size}
 use Rattle.layout_laid.specs.declared.laid.Laid as lays
-use Rattle.layout_sizes.specs.Items.{globals_size, instructions_in}
+use Rattle.layout_kept.specs.Items.{instructions_in}
 use Rattle.lower_definition.specs.Objects.{object_of}
 use Rattle.simulation_marks.specs.Laws.{blocks_standing, functions_standing, has_mark}
 use Rattle.simulation_marks.proofs.Standing.{all_few, all_stand}
@@ -32,7 +32,8 @@ use Rattle.compile_made.specs.Made.{IsInMemory, IsLowered}
 use Rattle.compile_kept.specs.Limits.{IsLimited}
 use Rattle.compile_sizes.proofs.Functions.{functions_few}
 use Rattle.compile_sizes.proofs.Sizes.{limited_fit}
-use Rattle.compile_counts.proofs.Images.{globals_few, text_length}
+use Rattle.compile_counts.proofs.Images.{text_length}
+use Rattle.compile_sizes.proofs.Arrays.{globals_few}
 
 -- each loop is an operation
 mutual

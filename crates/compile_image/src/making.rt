@@ -1,6 +1,6 @@
 // From a source to its image, a function for each stage.
 ghost use Rattle.std.specs.Prelude.{◌≡◌, ℕ, List, IfOk};
-ghost use Rattle.facts_front.specs.Fronts.{IsSource};
+ghost use Rattle.facts_sources.specs.Sources.{IsSource};
 ghost use Rattle.types_tree.specs.View.{program_of as source_of};
 ghost use Rattle.high_ir.specs.Programs.{program_of};
 ghost use Rattle.high_pass.specs.Listing.{listing_of};
@@ -22,6 +22,7 @@ use low_make::lower;
 use low_promotes::promoted;
 use low_registers::allocate;
 use low_reloads::without_reloads;
+use low_threads::threaded;
 use spm_placement::placement;
 use std::alloc::Global;
 use wcc_base::Memory;
@@ -34,15 +35,17 @@ pub fn planned(alloc: Global, source: &Source) -> Result<Carried, Memory>
     make(alloc, &source.typed, &source.facts)
 }
 
-/// A program in the low form with global scalars in registers, without needless loads and copies, with machine registers for its
-/// registers, and slots where there are too few.
+/// A program in the low form with global scalars in registers, on short ways and without needless loads and copies, with machine
+/// registers for its registers, and slots where there are too few.
 fn code_of(alloc: Global, program: &High) -> Result<LowReg, Memory>
     ensures { IfOk result (IsLowered (program_of program.now)) }
 {
     let plain = lower(alloc, program)?;
     let held = promoted(alloc, plain)?;
-    let loaded = without_reloads(alloc, held)?;
-    let low = without_copies(alloc, loaded)?;
+    let short = threaded(alloc, held)?;
+    let loaded = without_reloads(alloc, short)?;
+    let brief = without_copies(alloc, loaded)?;
+    let low = threaded(alloc, brief)?;
     let live = live(alloc, &low)?;
     let code = allocate(alloc, low, &live)?;
     Ok(code)

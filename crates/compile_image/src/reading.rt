@@ -1,6 +1,6 @@
 // The source.
 ghost use Rattle.std.specs.Prelude.{IfErr, IfOk};
-ghost use Rattle.facts_front.specs.Fronts.{IsSourceBy};
+ghost use Rattle.facts_sources.specs.Sources.{IsSourceBy};
 ghost use Rattle.types_tree.specs.View.{program_of};
 ghost use Rattle.promise_compiler.specs.Refusals.{Fails};
 

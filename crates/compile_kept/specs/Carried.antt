@@ -5,11 +5,10 @@ use Rattle.facts_definitions.specs.declared.facts.Facts.{Facts}
 use Rattle.types_tree.specs.Tree as c
 use Rattle.plan_carried.specs.Sources.{planned_listing, source_behaviour}
 use Rattle.plan_definition.specs.Programs.{program_planned}
-use Rattle.plan_elements.specs.Elements.{HasElements}
+use Rattle.high_ir.specs.Whole.{HasElements, IsWhole}
 use Rattle.high_ir.specs.Formed.{IsHigh}
 use Rattle.high_ir.specs.Tree.{Program}
 use Rattle.high_ir.specs.Weight.{weight}
-use Rattle.high_ir.specs.Whole.{IsWhole}
 use Rattle.high_pass.specs.Carries.{Carries}
 use Rattle.high_pass.specs.Composing.{Continues, composed}
 use Rattle.high_pass.specs.Law.{FactorsWithin, IsLawful, ReachWithin}

@@ -12,7 +12,7 @@ use Rattle.facts_definitions.specs.declared.facts.FlowFault.{FlowFault}
 use Rattle.facts_definitions.specs.declared.facts.FlowFault.TheVariants.{BadPragma}
 use Rattle.facts_definitions.specs.declared.site.Site.{Site}
 use Rattle.facts_definitions.specs.declared.site.Site.TheVariants as sites
-use Rattle.facts_front.specs.Fronts.{IsSource, derived_for}
+use Rattle.facts_sources.specs.Sources.{IsSource, derived_for}
 use Rattle.facts_names.specs.Laws.{names_length}
 use Rattle.facts_names.proofs.Sources.{fit}
 use Rattle.c_tree.specs.Names.{name_of}

@@ -11,7 +11,7 @@ use Rattle.code_flow_system.specs.Claims.{Claims}
 use Rattle.code_flow_sizes.specs.Laws.{EndsWithin, HasFew, Words, count}
 use Rattle.code_flow_sizes.proofs.Few.{has_few}
 use Rattle.facts_definitions.specs.declared.facts.Facts.{Facts}
-use Rattle.facts_front.specs.Fronts.{IsSource}
+use Rattle.facts_sources.specs.Sources.{IsSource}
 use Rattle.facts_restrictions.proofs.Limited.{are_limited}
 use Rattle.types_tree.specs.Tree.{Program}
 use Rattle.high_pass.specs.Listing.{LoopEntry}

@@ -11,7 +11,7 @@ use Rattle.low_ir.specs.Programs.{low_of}
 use Rattle.low_registers.specs.Spills.{HaveFewSlots, SpillWhereCrowded}
 use Rattle.lower_law.specs.Programs.{KeepsProgram}
 use Rattle.image_frames.specs.Memories.{Placement}
-use Rattle.layout_sizes.specs.Items.{MovesItems}
+use Rattle.image_frames.specs.Placings.{MovesItems}
 use Rattle.layout_laid.specs.declared.laid.Laid.{Laid}
 use Rattle.layout_laid.specs.Laid.{IsLaid}
 use Rattle.layout_kept.specs.Kept.{KeepsLow}

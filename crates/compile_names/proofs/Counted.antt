@@ -9,14 +9,14 @@ use Rattle.facts_definitions.specs.Sites.{sites_of}
 use Rattle.facts_definitions.specs.declared.facts.Facts.{Facts}
 use Rattle.facts_definitions.specs.declared.site.Site.{Site}
 use Rattle.facts_definitions.specs.declared.site.Site.TheVariants as sites
-use Rattle.facts_front.specs.Fronts.{HasProgram, IsSource, derived_for}
+use Rattle.facts_sources.specs.Sources.{HasProgram, IsSource, derived_for}
 use Rattle.types_rules.specs.Sights.{outline_of}
 use Rattle.c_tree.specs.Formed.{EachOf}
 use Rattle.c_tree.specs.Holding.{HoldsExternal}
 use Rattle.c_tree.specs.Names.{AreNames, HasNameForm, name_of}
 use Rattle.c_tree.specs.Tree.{TranslationUnit, Whole}
 use Rattle.types_tree.specs.Tree.{Defined, Function, Program}
-use Rattle.c_types.specs.Typed.{typed_of}
+use Rattle.types_rules.specs.Typed.{typed_of}
 use Rattle.plan_formed.proofs.Facts.{says}
 use Rattle.compile_names.specs.Laws.{IsNamed}
 use Rattle.compile_names.proofs.Markers.{marker_among, numbered}

@@ -17,12 +17,12 @@ use Rattle.c_lexer.specs.Cut.{HasTokens}
 use Rattle.facts_definitions.specs.FlowFacts.{name_id}
 use Rattle.types_tree.specs.Tree.{function_name}
 use Rattle.facts_definitions.specs.declared.facts.Facts.{Facts}
-use Rattle.facts_front.specs.Fronts.{IsSource, derived_for}
+use Rattle.facts_sources.specs.Sources.{IsSource, derived_for}
 use Rattle.types_rules.specs.Limits.{broken, limits_before, limits_behind, tally_unit, variables_of}
 use Rattle.types_rules.specs.Scope.{started, with_number}
 use Rattle.types_rules.specs.Sights.{SeenUnit, definitions, externals_nodes, first_fault, outline_of, unit_nodes}
 use Rattle.types_tree.specs.Tree.{Program}
-use Rattle.c_types.specs.Typed.{fault_behind, fault_of, typed_of}
+use Rattle.types_rules.specs.Typed.{fault_behind, fault_of, typed_of}
 use Rattle.types_seen.proofs.Rules.{none_first, none_second, parts_keep}
 use Rattle.types_seen.proofs.Lists.{slice_get-cases, slice_get-one}
 use Rattle.types_seen.proofs.Units.{not_broken}

@@ -1,7 +1,7 @@
 -- The names of a source's tree stand in its list, and have the form of names.
 use Rattle.std.proofs.Common.{◌≡◌, ℕ, List, [], ◌∷◌, ◌++◌, map, sym, ap, ◌∙◌, subst}
 use Rattle.std.specs.List.{All, Contains}
-use Rattle.facts_front.specs.Fronts.{HasUnit}
+use Rattle.facts_sources.specs.Sources.{HasUnit}
 use Rattle.c_tree.specs.Formed.{EachOf}
 use Rattle.c_tree.specs.Holding.{HoldsExternal}
 use Rattle.c_tree.specs.Named.{map_row, named_external, named_unit}

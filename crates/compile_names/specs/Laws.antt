@@ -1,7 +1,7 @@
 -- What is counted in a source has a name.
 use Rattle.std.specs.Prelude.{ℕ, List, ◌++◌, All}
 use Rattle.facts_definitions.specs.declared.facts.Facts.{Facts}
-use Rattle.facts_front.specs.Fronts.{IsSource}
+use Rattle.facts_sources.specs.Sources.{IsSource}
 use Rattle.c_tree.specs.Names.{HasNameForm, name_of}
 use Rattle.c_tree.specs.declared.expression.NameId.{NameId}
 use Rattle.types_tree.specs.Tree.{Program}

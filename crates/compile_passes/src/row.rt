@@ -1,6 +1,6 @@
 // One pass after another.
 ghost use Rattle.std.specs.Prelude.{◌≡◌, ◌+◌, ◌≤◌, ℕ, List, [], ◌∷◌, ◌++◌, length, IfOk};
-ghost use Rattle.facts_front.specs.Fronts.{IsSource};
+ghost use Rattle.facts_sources.specs.Sources.{IsSource};
 ghost use Rattle.types_tree.specs.View.{program_of as source_of};
 ghost use Rattle.high_ir.specs.Programs.{program_of};
 ghost use Rattle.high_ir.specs.Tree.{Program};

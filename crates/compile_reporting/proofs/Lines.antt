@@ -4,7 +4,7 @@ use Rattle.std.proofs.lemmas.List.{length-map}
 use Rattle.facts_definitions.specs.FlowFacts.{name_id}
 use Rattle.types_tree.specs.Tree.{function_name}
 use Rattle.facts_definitions.specs.declared.facts.Facts.{Facts}
-use Rattle.facts_front.specs.Fronts.{IsSource}
+use Rattle.facts_sources.specs.Sources.{IsSource}
 use Rattle.types_tree.specs.Tree.{Program}
 use Rattle.plan_carried.specs.Sources.{source_marks}
 use Rattle.plan_checked.proofs.Sources.{checked}

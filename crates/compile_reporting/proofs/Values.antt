@@ -12,8 +12,7 @@ use Rattle.code_flow_system.specs.Bounds.{KeepsPromise}
 use Rattle.code_flow_system.specs.Certificates.{Accepts, FitsMark, IsInForm, KeepsMark, listed, potential, whole_part}
 use Rattle.code_flow_system.specs.Flows.{value}
 use Rattle.code_flow_system.specs.Systems.{System}
-use Rattle.code_flow_system.proofs.LooseLemmas.{flows_are_loose}
-use Rattle.path_bound.proofs.BoundLemmas.{goes_back}
+use Rattle.code_flow_system.proofs.LooseLemmas.{flows_are_loose, goes_back}
 use Rattle.path_answer.specs.declared.bounded.Column.{Column}
 use Rattle.path_answer.specs.declared.bounded.Kind.{Kind}
 use Rattle.path_answer.specs.declared.bounded.Kind.TheVariants as kinds

@@ -2,7 +2,7 @@
 use Rattle.std.specs.Prelude.{ℕ, Bool, List, map}
 use Rattle.rv_core.specs.Table.{Table}
 use Rattle.facts_front.specs.declared.reading.Source.{Source}
-use Rattle.facts_front.specs.Fronts.{IsSource, IsSourceBy}
+use Rattle.facts_sources.specs.Sources.{IsSource, IsSourceBy}
 use Rattle.types_tree.specs.Tree.{Program}
 use Rattle.types_tree.specs.View.{program_of}
 use Rattle.compile_lines.specs.Shares.{share_of}

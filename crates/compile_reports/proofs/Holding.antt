@@ -17,7 +17,7 @@ use Rattle.report_text.specs.Lines.{report_text}
 use Rattle.report_text.specs.Reports.{Report}
 use Rattle.report_text.specs.declared.entries.Share.{Share}
 use Rattle.facts_definitions.specs.declared.facts.Facts.{Facts}
-use Rattle.facts_front.specs.Fronts.{IsSource}
+use Rattle.facts_sources.specs.Sources.{IsSource}
 use Rattle.types_tree.specs.Tree.{Program}
 use Rattle.low_ir.specs.Placings.{assignment_of}
 use Rattle.low_ir.specs.Programs.{low_of}

@@ -6,7 +6,7 @@ use Rattle.std.proofs.lemmas.Option.{get_or_from_slice_get, slice_get_within}
 use Rattle.facts_definitions.specs.FlowFacts.{name_id}
 use Rattle.types_tree.specs.Tree.{function_name}
 use Rattle.facts_definitions.specs.declared.facts.Facts.{Facts}
-use Rattle.facts_front.specs.Fronts.{IsSource, derived_for}
+use Rattle.facts_sources.specs.Sources.{IsSource, derived_for}
 use Rattle.types_tree.specs.Tree as c
 use Rattle.high_ir.specs.Tree.{Program}
 use Rattle.plan_formed.proofs.Facts.{says}

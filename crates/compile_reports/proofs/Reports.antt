@@ -19,7 +19,7 @@ use Rattle.report_text.specs.declared.entries.Share.{Share}
 use Rattle.report_shares.specs.Shares.{share_sum}
 use Rattle.report_shares.proofs.FillLemmas.{sum_small}
 use Rattle.facts_definitions.specs.declared.facts.Facts.{Facts}
-use Rattle.facts_front.specs.Fronts.{IsSource}
+use Rattle.facts_sources.specs.Sources.{IsSource}
 use Rattle.facts_restrictions.proofs.Limited.{are_limited}
 use Rattle.types_tree.specs.Tree.{Program}
 use Rattle.high_pass.specs.Listing.{Listing}

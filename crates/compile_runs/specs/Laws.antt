@@ -4,7 +4,7 @@ use Rattle.rv_core.specs.Table.{Table}
 use Rattle.report_text.specs.Reports.{Report}
 use Rattle.promise_report.specs.Runs.{RunsAsSource}
 use Rattle.facts_definitions.specs.declared.facts.Facts.{Facts}
-use Rattle.facts_front.specs.Fronts.{IsSource}
+use Rattle.facts_sources.specs.Sources.{IsSource}
 use Rattle.types_tree.specs.Tree.{Program}
 use Rattle.compile_made.specs.declared.made.Made.{Made}
 use Rattle.compile_made.specs.Made.{IsMade}

@@ -10,7 +10,7 @@ use Rattle.low_ir.specs.Arrays.{array_size}
 use Rattle.low_ir.specs.Effects.{can_store}
 use Rattle.lower_definition.specs.Objects.{object_of, storage_of}
 use Rattle.lower_law.proofs.Totals.{array_same}
-use Rattle.image_sizes.specs.Sizes.{constants_room, variables_room}
+use Rattle.image_sizes.specs.Sizes.{constants_room, globals_size, unless_local, variables_room}
 use Rattle.compile_kept.specs.Limits.{global_bytes, global_object_bytes}
 
 constant_few : (s : Storage) (o : Object) (n : ℕ) → n ≡ object_bytes o → (if can_store (storage_of s) then 0 else n) ≤ global_object_bytes s o
@@ -42,3 +42,17 @@ variables_few (o ∷ os) =
     let globals = sum_by-cons (λ (x : Object). global_object_bytes x.storage x) o os in
     let locals = sum_by-cons (λ (x : Object). local_object_bytes x.storage x) o os in
     omega (arith, rest, this, globals, locals)
+
+-- arrays that aren't local
+global_few : (s : Storage) (o : Object) (n : ℕ) → n ≡ object_bytes o → unless_local (storage_of s) n ≤ global_object_bytes s o
+global_few Constant o n e = omega (arith, e)
+global_few Global o n e = omega (arith, e)
+global_few Local o n e = omega arith
+
+pub globals_few : (os : List Object) → globals_size (map object_of os) ≤ global_bytes os
+globals_few [] = omega arith
+globals_few (o ∷ os) =
+    let one = global_few o.storage o (array_size (object_of o)) (array_same o) in
+    let rest = globals_few os in
+    let all = sum_by-cons (λ (x : Object). global_object_bytes x.storage x) o os in
+    omega (arith, one, rest, all)

@@ -7,12 +7,12 @@
 //! registers, 32 for eight registers that a pass may add, and a word for each variable and for two temporaries of each operation: with
 //! all arrays that are no constants that is at most 1,631,232 bytes, of 2,097,152.
 //!
-//! The plan of a source is such a program by the limits of the language ([`plans_keep_limits`]), and passes leave it one
-//! ([`passes_keep_limits`]). So whatever passes make of a source has room, over any places with no more slots than registers.
+//! The plan of a source is such a program by the limits of the language, and passes leave it one (`compile_carried`). So
+//! whatever passes make of a source has room, over any places with no more slots than registers.
 //!
 //! The crate knows no runs and no image.
 #![tactic(auto)]
 
 mod laws;
 
-pub use laws::{limited_programs_fit, passes_keep_limits, plans_keep_limits};
+pub use laws::limited_programs_fit;

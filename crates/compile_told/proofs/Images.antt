@@ -23,7 +23,7 @@ use Rattle.lower_definition.specs.Objects.{object_of}
 use Rattle.image_definition.specs.Images.{image_in}
 use Rattle.claims_definition.specs.Listed.{Laid, claims_of, regions_of}
 use Rattle.claims_image.specs.Images.{laid_of}
-use Rattle.layout_sizes.specs.Items.{HasElements}
+use Rattle.layout_kept.specs.Items.{HasElements}
 use Rattle.report_text.specs.Reports.{Report}
 use Rattle.compile_claims.specs.Laws.{under}
 use Rattle.compile_claims.specs.Named.{named}

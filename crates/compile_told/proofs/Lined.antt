@@ -16,7 +16,7 @@ use Rattle.asm_items.specs.Placings.{block_of, start_of}
 use Rattle.asm_forms.proofs.LikeLemmas.{formed_like}
 use Rattle.asm_graphs.specs.Graphs.{Graph}
 use Rattle.asm_graphs.proofs.ReachedLemmas.{reached}
-use Rattle.asm_placed.specs.Promised.{block_in}
+use Rattle.asm_graphs.specs.Promised.{block_in}
 use Rattle.asm_placed.proofs.Alike.{block_alike}
 use Rattle.asm_program.specs.Functions.{graph_of, program_items}
 use Rattle.claims_accesses.specs.Laws.{AreLines, AreTouched, HasLine}
@@ -26,7 +26,7 @@ use Rattle.claims_accesses.proofs.Matching.{program_touched}
 use Rattle.claims_definition.specs.Listed.{Laid, accesses_of, claims_of, functions_of, placing, regions_of, touches_at}
 use Rattle.claims_image.specs.Images.{HasClaims}
 use Rattle.layout_kept.specs.Kept.{IsListed}
-use Rattle.layout_sizes.specs.Segments.{AreFilled}
+use Rattle.layout_kept.specs.Segments.{AreFilled}
 use Rattle.promise_report.specs.Compiled.{HasSegmentIn, IsLined}
 use Rattle.compile_names.proofs.Lists.{all_got, contained, got}
 use Rattle.compile_told.proofs.Loading.{Loads, LoadsAt, among_own, found, loads_by, touched_at, touched_like}

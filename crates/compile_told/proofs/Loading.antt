@@ -24,7 +24,7 @@ use Rattle.asm_items.specs.Outcomes.{BranchWord, IsWord, IsWordOf, JumpWord}
 use Rattle.asm_items.specs.Placings.{Blocks}
 use Rattle.asm_items.specs.Standing.{HasItems, HasWords}
 use Rattle.asm_writing.specs.Forms.{AreLike, IsLike}
-use Rattle.asm_placed.specs.Promised.{block_in, blocks_in}
+use Rattle.asm_graphs.specs.Promised.{block_in, blocks_in}
 use Rattle.claims_accesses.specs.Laws.{AreTouched, BlocksTouched, FunctionsTouched}
 use Rattle.claims_accesses.specs.Touches.{Touch, frame_touch, item_touch, touches_memory}
 

@@ -22,9 +22,9 @@ use Rattle.claims_accesses.specs.Lines.{same_region}
 use Rattle.claims_definition.specs.Listed.{Laid}
 use Rattle.claims_image.specs.Images.{laid_of}
 use Rattle.claims_items.specs.Movables.{Movable, array_item, arrays_from, code_region, function_item, is_local, movables_of, unless}
-use Rattle.layout_sizes.specs.Items.{scratchpad_size}
-use Rattle.layout_sizes.specs.Laws.{AreSmall}
-use Rattle.layout_sizes.specs.Segments.{taken_in}
+use Rattle.layout_kept.specs.Items.{scratchpad_size}
+use Rattle.layout_kept.specs.Images.{AreSmall}
+use Rattle.layout_kept.specs.Segments.{taken_in}
 use Rattle.promise_report.specs.Compiled.{scratchpad_taken}
 use Rattle.compile_made.specs.Placed.{placed_bytes}
 

@@ -6,7 +6,7 @@ use Rattle.report_text.specs.Reports.{Report}
 use Rattle.promise_report.specs.Compiled.{AreLined, scratchpad_taken}
 use Rattle.promise_report.specs.Facts.{TellsFacts}
 use Rattle.facts_definitions.specs.declared.facts.Facts.{Facts}
-use Rattle.facts_front.specs.Fronts.{IsSource}
+use Rattle.facts_sources.specs.Sources.{IsSource}
 use Rattle.types_tree.specs.Tree.{Program}
 use Rattle.compile_made.specs.declared.made.Made.{Made}
 use Rattle.low_ir.specs.Placings.{placed_of}

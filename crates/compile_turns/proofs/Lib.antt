@@ -1,3 +1,5 @@
+pub mod Nodes
+pub mod Few
 pub mod Ordered
 pub mod Loops
 pub mod Carrying

@@ -4,16 +4,22 @@ use Rattle.facts_definitions.specs.FlowFacts.{AreFacts}
 use Rattle.facts_definitions.specs.declared.facts.Facts.{Facts}
 use Rattle.types_tree.specs.Tree as c
 use Rattle.high_ir.specs.Formed.{IsHigh}
+use Rattle.high_ir.specs.Standing.{Bounded}
 use Rattle.high_ir.specs.Tree as high
 use Rattle.high_ir.specs.Weight.{weight as high_weight}
 use Rattle.high_pass.specs.Carries.{Behaviour, Carries}
 use Rattle.high_pass.specs.Listing.{Listing}
 use Rattle.plan_carried.specs.Sources.{source_behaviour}
+use Rattle.plan_formed.specs.Checked.{IsChecked}
 use Rattle.low_ir.specs.Code.{Low}
 use Rattle.low_ir.specs.Places.{Assignment, placed}
 use Rattle.low_ir.specs.Room.{weight}
 use Rattle.lower_law.specs.Programs.{KeepsProgram}
 use Rattle.compile_turns.specs.Turns.{IsKeepable, HighTurns, LowTurns}
+
+-- a source has few loops, so their numbers are small
+abbrev pub SourcesHaveFewLoops : Type 0
+SourcesHaveFewLoops = (names : List (List ℕ)) (program : c.Program) (facts : Facts) → IsChecked names program facts → All (λ (l : Bounded). l.id < 2 ^ 26) (source_behaviour program names facts).loops
 
 -- the bounds that a source has are derived, written or those of fillings
 abbrev pub SourcesTurn : Type 0

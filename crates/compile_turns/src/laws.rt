@@ -1,5 +1,10 @@
 // The laws of turns.
-ghost use Rattle.compile_turns.specs.Laws.{AllAreLight, AllTurn, CarriedTurn, LoweredTurn, PlacedTurn, SourcesTurn};
+ghost use Rattle.compile_turns.specs.Laws.{AllAreLight, AllTurn, CarriedTurn, LoweredTurn, PlacedTurn, SourcesHaveFewLoops, SourcesTurn};
+
+/// The loops of a source have small numbers.
+pub fn sources_have_few_loops()
+    ensures { SourcesHaveFewLoops }
+{}
 
 /// Each loop of a source has bounds that can be kept.
 pub fn sources_turn()

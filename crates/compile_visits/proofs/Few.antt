@@ -15,8 +15,7 @@ use Rattle.code_flow_system.specs.Counts.{Amounts}
 use Rattle.code_flow_system.specs.Loose.{IsLoose, KeepsTurns}
 use Rattle.code_flow_system.specs.Systems.{System, IsSystemOf}
 use Rattle.code_flow_system.proofs.DualityLemmas.{keeps_promise}
-use Rattle.code_flow_system.proofs.LooseLemmas.{flows_are_loose}
-use Rattle.path_bound.proofs.BoundLemmas.{goes_back}
+use Rattle.code_flow_system.proofs.LooseLemmas.{flows_are_loose, goes_back}
 use Rattle.path_conditions.specs.Searching.{CanSearch}
 use Rattle.low_ir.specs.Code.{Object}
 use Rattle.low_ir.specs.Places.{Placed}
@@ -26,12 +25,11 @@ use Rattle.image_definition.specs.Images.{image_in}
 use Rattle.claims_definition.specs.Listed.{Laid, claims_of}
 use Rattle.claims_definition.specs.Laws.{Rise}
 use Rattle.claims_image.specs.Images.{laid_of}
-use Rattle.claims_items.specs.Movables.{Movable, array_item, arrays_from, function_item, is_local, movables_of, unless}
-use Rattle.claims_movables.specs.Listed.{movable_of}
+use Rattle.claims_items.specs.Movables.{Movable, array_item, arrays_from, function_item, is_local, movables_of, unless, movable_of}
 use Rattle.high_pass.specs.Listing.{LoopEntry}
 use Rattle.high_pass.proofs.Elements.{All-map_back}
 use Rattle.facts_definitions.specs.declared.facts.Facts.{Facts}
-use Rattle.facts_front.specs.Fronts.{IsSource}
+use Rattle.facts_sources.specs.Sources.{IsSource}
 use Rattle.types_tree.specs.Tree.{Program}
 use Rattle.report_text.specs.Reports.{Report}
 use Rattle.spm_placement.specs.Gains.{HasFewVisits, all_parts}

@@ -2,10 +2,10 @@
 use Rattle.std.specs.Prelude.{ℕ, List, All}
 use Rattle.rv_core.specs.declared.costs.Costs.{Costs}
 use Rattle.rv_core.specs.Table.{table_of}
-use Rattle.claims_movables.specs.Listed.{movable_of}
+use Rattle.claims_items.specs.Movables.{movable_of}
 use Rattle.spm_placement.specs.Gains.{HasFewVisits}
 use Rattle.facts_definitions.specs.declared.facts.Facts.{Facts}
-use Rattle.facts_front.specs.Fronts.{IsSource}
+use Rattle.facts_sources.specs.Sources.{IsSource}
 use Rattle.types_tree.specs.Tree.{Program}
 use Rattle.report_text.specs.Reports.{Report}
 use Rattle.compile_made.specs.declared.made.Made.{Made}

@@ -3,7 +3,7 @@ use Rattle.std.proofs.Common.{ℕ, List, sym, subst}
 use Rattle.high_ir.specs.Whole.{IsWhole}
 use Rattle.facts_definitions.specs.FlowFacts.{main_of}
 use Rattle.facts_definitions.specs.declared.facts.Facts.{Facts}
-use Rattle.facts_front.specs.Fronts.{IsSource}
+use Rattle.facts_sources.specs.Sources.{IsSource}
 use Rattle.c_tree.specs.Named.{named_unit}
 use Rattle.c_tree.specs.Names.{name_of}
 use Rattle.c_tree.specs.Said.{AreTokens}

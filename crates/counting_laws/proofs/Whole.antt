@@ -21,8 +21,9 @@ use Rattle.meaning_semantics.specs.declared.source_run.SourceRun.TheVariants.{Do
 use Rattle.meaning_semantics.specs.declared.source_run.Unkept.TheVariants as unkept
 use Rattle.c_tree.specs.declared.expression.NameId.{NameId}
 use Rattle.c_tree.specs.Tree.{TranslationUnit, Whole}
-use Rattle.c_types.specs.Typed.{CallsDefined, fault_of, typed_of}
-use Rattle.c_types.proofs.Seals.{calls_defined}
+use Rattle.types_rules.specs.Typed.{fault_of, typed_of}
+use Rattle.types_calls.specs.Calls.{CallsDefined}
+use Rattle.types_seen.proofs.Calls.{calls_defined}
 use Rattle.types_seen.specs.Units.{HasTree}
 use Rattle.types_tree.specs.Tree.{Function, Program}
 use Rattle.types_tree.specs.declared.variable.Variable.{Variable}

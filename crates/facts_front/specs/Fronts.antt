@@ -1,72 +1,29 @@
--- The typed program of a source and its facts, or why it has none, in the order of these equations.
-use Rattle.std.specs.Prelude.{◌≡◌, ◌≢◌, ℕ, ◌≤◌, ◌<◌, Bool, true, false, List, [], length, Option, None, Some, Ok, slice_get}
+-- Why a source has no typed program with facts, in the order of these equations.
+use Rattle.std.specs.Prelude.{◌≡◌, ◌≢◌, ℕ, ◌<◌, Bool, List, length, Option, None, Some, slice_get}
 use Rattle.c_tree.specs.declared.token.Token.{Token}
-use Rattle.c_tree.specs.Names.{name_of, names_of_unit}
-use Rattle.c_tree.specs.Named.{named_unit}
 use Rattle.c_tree.specs.Said.{TokenList}
-use Rattle.c_tree.specs.Size.{size_unit}
 use Rattle.c_tree.specs.Spelling.{spoken}
 use Rattle.c_tree.specs.Tree.{TranslationUnit}
 use Rattle.c_lexer.specs.Cut.{HasTokens, StopsAt}
 use Rattle.c_lexer.specs.declared.LexFault.TheVariants as lexing
-use Rattle.c_parser.specs.Refused.{IsTreeOf, IsRefused, Stops}
+use Rattle.c_parser.specs.Refused.{IsRefused, Stops}
 use Rattle.c_parser.specs.declared.fault.ParseFault.{ParseFault}
 use Rattle.c_parser.specs.declared.fault.ParseFault.TheVariants as parsing
 use Rattle.types_tree.specs.Tree.{Program, Function, Defined}
-use Rattle.c_types.specs.Typed.{fault_of, typed_of, Refuses}
+use Rattle.types_rules.specs.Typed.{Refuses}
 use Rattle.types_rules.specs.declared.fault.TypeFault.{TypeFault}
 use Rattle.types_rules.specs.declared.fault.TypeFault.TheVariants as typing
 use Rattle.types_calls.specs.Calls.{graph_of}
 use Rattle.types_calls.specs.Chains.{AreRanks, IsCallFault}
 use Rattle.facts_definitions.specs.FlowFacts.{flow_facts, IsFlowFault}
-use Rattle.facts_definitions.specs.declared.facts.Derived.{Derived}
-use Rattle.facts_definitions.specs.declared.facts.Facts.{Facts}
 use Rattle.facts_definitions.specs.declared.facts.FlowFault.{FlowFault}
 use Rattle.facts_definitions.specs.declared.facts.FlowFault.TheVariants as flowing
-use Rattle.facts_counting.specs.Loops.{derived_of}
 use Rattle.types_calls.specs.declared.ranks.CallFault.{CallFault}
 use Rattle.types_calls.specs.declared.ranks.CallFault.TheVariants as calling
 use Rattle.types_calls.specs.declared.ranks.Ranks.{Ranks}
+use Rattle.facts_sources.specs.Sources.{HasProgram, HasUnit, derived_for}
 use Rattle.facts_front.specs.declared.refusal.Refusal.{Refusal}
 use Rattle.facts_front.specs.declared.refusal.Refusal.TheVariants.{TooLong, Lex, Parse, Types, Calls, Flow, Memory}
-
--- the source's tokens are the spelling of this well-formed tree, which is at most 256 deep; its names are numbered in the order in which they first stand
-pub record HasUnit (source : List ℕ) (names : List (List ℕ)) (unit : TranslationUnit ℕ) : Type 0 where
-  pub tokens : TokenList
-  pub of_source : tokens.source ≡ source
-  pub has : HasTokens source tokens.list
-  pub tree : IsTreeOf (named_unit (name_of names) unit) (spoken tokens)
-  pub shallow : (size_unit (named_unit (name_of names) unit)).depth ≤ 256
-  pub in_order : names ≡ names_of_unit (named_unit (name_of names) unit)
-
--- the tree fails no rule and is within the limits, and this is its typed form
-pub record HasProgram (source : List ℕ) (names : List (List ℕ)) (program : Program) : Type 0 where
-  pub unit : TranslationUnit ℕ
-  pub has : HasUnit source names unit
-  pub passes : fault_of names unit ≡ None
-  pub program_is : program ≡ typed_of names unit
-
--- the bounds that are derived for counting loops without a pragma, where they are asked for
-abbrev pub derived_for : (derive : Bool) → Program → List Derived
-derived_for true program = derived_of program
-derived_for false program = []
-
--- no function of the program reaches itself, each of its loops has a bound, and these are its facts
-pub record HasFacts (derive : Bool) (program : Program) (names : List (List ℕ)) (facts : Facts) : Type 0 where
-  pub ranks : Ranks
-  pub are_ranks : AreRanks (graph_of program) ranks.of_functions
-  pub facts_are : flow_facts program names ranks (derived_for derive program) ≡ Ok facts
-
--- where bounds are derived, or aren't
-pub record IsSourceBy (derive : Bool) (source : List ℕ) (names : List (List ℕ)) (program : Program) (facts : Facts) : Type 0 where
-  pub has_program : HasProgram source names program
-  pub has_facts : HasFacts derive program names facts
-
--- in one of these ways
-pub record IsSource (source : List ℕ) (names : List (List ℕ)) (program : Program) (facts : Facts) : Type 0 where
-  pub derive : Bool
-  pub has_program : HasProgram source names program
-  pub has_facts : HasFacts derive program names facts
 
 -- the place of a token, or the end where there is no such token
 abbrev pub place_or : Option Token → (end : ℕ) → ℕ

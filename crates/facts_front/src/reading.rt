@@ -6,7 +6,8 @@ ghost use Rattle.types_tree.specs.View.{program_of};
 ghost use Rattle.types_calls.specs.Calls.{graph_of};
 ghost use Rattle.types_calls.specs.Chains.{AreRanks};
 ghost use Rattle.facts_definitions.specs.FlowFacts.{flow_facts};
-ghost use Rattle.facts_front.specs.Fronts.{cycle_place, derived_for, fault_place, HasUnit, HasProgram, HasFacts, IsSourceBy, Fails};
+ghost use Rattle.facts_front.specs.Fronts.{cycle_place, fault_place, Fails};
+ghost use Rattle.facts_sources.specs.Sources.{derived_for, HasUnit, HasProgram, HasFacts, IsSourceBy};
 
 use crate::refusal::Refusal;
 use bound_finder::derive as derive_bounds;

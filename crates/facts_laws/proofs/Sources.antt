@@ -6,11 +6,12 @@ use Rattle.c_tree.specs.Names.{name_of}
 use Rattle.c_tree.specs.Spelling.{spoken}
 use Rattle.c_tree.specs.Tree.{TranslationUnit}
 use Rattle.types_tree.specs.Tree.{Program}
-use Rattle.c_types.specs.Typed.{fault_of, typed_of, Refuses}
+use Rattle.types_rules.specs.Typed.{fault_of, typed_of, Refuses}
 use Rattle.c_lexer.specs.Cut.{HasTokens}
 use Rattle.c_lexer.specs.declared.LexFault.{LexFault}
 use Rattle.c_lexer.proofs.Unique.{one_fault, tokens_or_fault}
-use Rattle.c_parser.specs.Refused.{IsTreeOf, Stops}
+use Rattle.c_parser.specs.Refused.{Stops}
+use Rattle.c_tree.specs.Formed.{IsTreeOf}
 use Rattle.c_parser.specs.declared.fault.ParseFault.{ParseFault}
 use Rattle.c_parser.specs.declared.fault.ParseFault.TheVariants as parsing
 use Rattle.c_parser.proofs.Refusals.{only_memory}
@@ -27,7 +28,8 @@ use Rattle.types_calls.specs.declared.ranks.CallFault.TheVariants as calling
 use Rattle.types_calls.specs.declared.ranks.Ranks.{Ranks}
 use Rattle.facts_front.specs.declared.refusal.Refusal.{Refusal}
 use Rattle.facts_front.specs.declared.refusal.Refusal.TheVariants.{TooLong, Lex, Parse, Types, Calls, Flow, Memory}
-use Rattle.facts_front.specs.Fronts.{HasUnit, HasProgram, HasFacts, IsSourceBy, RefusesTokens, RefusesUnit, RefusesCalls, RefusesFlow, RefusesSource, fault_place, cycle_place, derived_for}
+use Rattle.facts_front.specs.Fronts.{RefusesTokens, RefusesUnit, RefusesCalls, RefusesFlow, RefusesSource, fault_place, cycle_place}
+use Rattle.facts_sources.specs.Sources.{HasUnit, HasProgram, HasFacts, IsSourceBy, derived_for}
 use Rattle.facts_laws.proofs.Ranking.{one_cycle, one_ranks, ranks_free}
 use Rattle.facts_laws.proofs.Stopping.{one_stop}
 use Rattle.facts_laws.proofs.Units.{one_tokens, one_unit}

@@ -8,9 +8,9 @@ use Rattle.c_tree.specs.Spelling.{mark_said, spell_unit, spoken}
 use Rattle.c_tree.specs.Tree.{TranslationUnit}
 use Rattle.c_lexer.specs.Cut.{HasTokens}
 use Rattle.c_lexer.proofs.Unique.{one_list}
-use Rattle.c_parser.specs.Refused.{IsTreeOf}
+use Rattle.c_tree.specs.Formed.{IsTreeOf}
 use Rattle.c_parser.proofs.Refusals.{one_tree}
-use Rattle.facts_front.specs.Fronts.{HasUnit}
+use Rattle.facts_sources.specs.Sources.{HasUnit}
 use Rattle.facts_laws.proofs.Cutting.{list_tokens}
 use Rattle.facts_laws.proofs.Naming.{HasName, IsPragma, named_each}
 use Rattle.facts_laws.proofs.Numbering.{AreOnce, number_of, once_all, once_none, within_names}

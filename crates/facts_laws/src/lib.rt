@@ -13,7 +13,8 @@ ghost use Rattle.c_tree.specs.Tree.{TranslationUnit};
 ghost use Rattle.types_tree.specs.Tree.{Program};
 ghost use Rattle.facts_definitions.specs.declared.facts.Facts.{Facts};
 ghost use Rattle.facts_front.specs.declared.refusal.Refusal.{Refusal};
-ghost use Rattle.facts_front.specs.Fronts.{HasUnit, IsSourceBy, RefusesSource};
+ghost use Rattle.facts_front.specs.Fronts.{RefusesSource};
+ghost use Rattle.facts_sources.specs.Sources.{HasUnit, IsSourceBy};
 
 /// A source is the spelling of one tree, whose names are numbered in one way.
 pub fn one_unit()

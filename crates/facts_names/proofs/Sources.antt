@@ -18,7 +18,7 @@ use Rattle.c_lexer.specs.declared.pieces.Kind.TheVariants as kinds
 use Rattle.c_lexer.specs.declared.pieces.Piece.{Piece}
 use Rattle.c_lexer.specs.Cut.{IsCut, tokens_of, with_token}
 use Rattle.c_lexer.proofs.Tokens.{stands_token}
-use Rattle.facts_front.specs.Fronts.{HasUnit}
+use Rattle.facts_sources.specs.Sources.{HasUnit}
 use Rattle.facts_names.specs.Laws.{names_length}
 use Rattle.facts_names.proofs.Pragmas.{names_in_size, pragma_size, range_size}
 

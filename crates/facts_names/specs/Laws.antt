@@ -1,6 +1,6 @@
 -- How long names are, all together.
 use Rattle.std.specs.Prelude.{ℕ, ◌+◌, ◌≤◌, List, [], ◌∷◌, length}
-use Rattle.facts_front.specs.Fronts.{HasUnit}
+use Rattle.facts_sources.specs.Sources.{HasUnit}
 use Rattle.c_tree.specs.Tree.{TranslationUnit}
 
 abbrev pub names_length : List (List ℕ) → ℕ

@@ -7,7 +7,7 @@ use Rattle.std.proofs.lemmas.List.Elements.{All-cons, All-nil}
 use Rattle.std.proofs.lemmas.Option.{none-some}
 use Rattle.c_tree.specs.Size.{size_unit}
 use Rattle.c_tree.specs.Tree.{Whole}
-use Rattle.c_types.specs.Typed.{fault_behind}
+use Rattle.types_rules.specs.Typed.{fault_behind}
 use Rattle.facts_definitions.specs.FlowFacts.{Known, and_one, are_counted, facts_of, first_fault, gathered, id_in, is_among, is_counted, known_of, numbered_restriction, or_else as fault_or, restriction_at, restriction_fault, restriction_of, site_fault, term_of, when_not}
 use Rattle.facts_definitions.specs.PragmaTexts.{Written, WrittenTerm, restriction}
 use Rattle.facts_definitions.specs.Sites.{sites_of}
@@ -18,7 +18,7 @@ use Rattle.facts_definitions.specs.declared.facts.FlowFault.TheVariants.{Unknown
 use Rattle.facts_definitions.specs.declared.facts.Restriction.{Restriction}
 use Rattle.facts_definitions.specs.declared.site.Site.{Site}
 use Rattle.facts_definitions.specs.declared.site.Site.TheVariants as sites
-use Rattle.facts_front.specs.Fronts.{IsSource, derived_for}
+use Rattle.facts_sources.specs.Sources.{IsSource, derived_for}
 use Rattle.types_calls.specs.declared.ranks.Ranks.{Ranks}
 use Rattle.types_rules.specs.Limits.{Tally, limit, limits_before, over, tally_unit}
 use Rattle.types_rules.specs.Scope.{or_else}

@@ -1,7 +1,7 @@
 -- The restrictions of a source are few, and of few and small terms.
 use Rattle.std.specs.Prelude.{ℕ, List}
 use Rattle.facts_definitions.specs.declared.facts.Facts.{Facts}
-use Rattle.facts_front.specs.Fronts.{IsSource}
+use Rattle.facts_sources.specs.Sources.{IsSource}
 use Rattle.types_tree.specs.Tree.{Program}
 use Rattle.facts_restrictions.specs.Limits.{AreLimited}
 

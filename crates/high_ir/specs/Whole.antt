@@ -1,4 +1,4 @@
--- Programs of words: their constants are, and the bytes of their arrays have addresses.
+-- Programs of words: their constants are, the bytes of their arrays have addresses, and their arrays have elements.
 use Rattle.std.specs.Prelude.{◌*◌, ◌<◌, ◌≤◌, ◌^◌, List, [], ◌∷◌, All}
 use Rattle.high_ir.specs.Tree.{Expr, Constant, Variable, Element, Unary, Binary, Function, Object, Program, Statement, Set, Put, Get, Keep, Mark, Seq, If, Loop, Block, Leave, Call, Return, Statements, End, Then}
 use Rattle.high_ir.specs.Words.{kind_bytes}
@@ -43,3 +43,7 @@ pub record IsSmall (o : Object) : Type 0 where
 pub record IsWhole (p : Program) : Type 0 where
   pub words : All (λ (f : Function). HasWords f.body) p.functions
   pub objects : All IsSmall p.objects
+
+-- each array has at least one
+abbrev pub HasElements : Program → Type 0
+HasElements p = All (λ (o : Object). 0 < o.size) p.objects

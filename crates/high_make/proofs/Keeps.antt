@@ -6,7 +6,7 @@ use Rattle.facts_definitions.specs.FlowFacts.{AreFacts, main_of}
 use Rattle.facts_definitions.specs.declared.facts.Facts.{Facts}
 use Rattle.facts_definitions.specs.declared.facts.Bounds.{Bounds}
 use Rattle.types_tree.specs.Tree.{Program}
-use Rattle.c_types.specs.Typed.{IsTypedTree}
+use Rattle.types_rules.specs.Typed.{IsTypedTree}
 use Rattle.high_ir.specs.Formed.{IsHigh}
 use Rattle.high_ir.specs.Tree as high
 use Rattle.plan_carried.specs.Sources.{planned_listing}

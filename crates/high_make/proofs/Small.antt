@@ -5,7 +5,7 @@ use Rattle.facts_definitions.specs.FlowFacts.{AreFacts}
 use Rattle.facts_definitions.specs.declared.facts.Bounds.{Bounds}
 use Rattle.facts_definitions.specs.declared.facts.Facts.{Facts}
 use Rattle.types_tree.specs.Tree.{Program}
-use Rattle.c_types.specs.Typed.{IsTypedTree}
+use Rattle.types_rules.specs.Typed.{IsTypedTree}
 use Rattle.make_statement.specs.Planned.{IsSmall}
 use Rattle.plan_bounds.specs.Small.{Small}
 use Rattle.plan_bounds.proofs.Bounds.{bounds_small}

@@ -3,7 +3,7 @@ use Rattle.std.specs.Prelude.{◌≡◌, ℕ, ◌*◌, ◌≤◌, List, None}
 use Rattle.c_tree.specs.Size.{size_unit}
 use Rattle.c_tree.specs.Tree.{TranslationUnit}
 use Rattle.types_tree.specs.Tree as c
-use Rattle.c_types.specs.Typed.{fault_of, typed_of}
+use Rattle.types_rules.specs.Typed.{fault_of, typed_of}
 use Rattle.high_ir.specs.Size.{program_operations}
 use Rattle.high_ir.specs.Tree.{Program}
 

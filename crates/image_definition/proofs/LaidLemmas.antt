@@ -17,7 +17,7 @@ use Rattle.asm_forms.specs.Layouts.{starts_of}
 use Rattle.asm_forms.specs.Sound.{FunctionsSound}
 use Rattle.asm_forms.proofs.Formed.{formed_longest}
 use Rattle.asm_forms.proofs.LikeLemmas.{formed_like}
-use Rattle.asm_placed.specs.Promised.{Promised, blocks_in, block_in}
+use Rattle.asm_graphs.specs.Promised.{Promised, blocks_in, block_in}
 use Rattle.asm_placed.specs.Written.{in_scratchpad, flash_words, scratchpad_words, Holds, HasSegment, IsWritten, RowsApart}
 use Rattle.asm_placed.proofs.Alike.{functions_long, blocks_long, blocks_alike}
 use Rattle.asm_placed.proofs.Placed.{is_placed}
@@ -30,9 +30,9 @@ use Rattle.low_ir.specs.Places.{Placed}
 use Rattle.asm_program.specs.Formed.{IsProgram}
 use Rattle.asm_program.specs.Functions.{graph_of}
 use Rattle.asm_program.proofs.GraphLemmas.{shaped}
-use Rattle.asm_sound.specs.Ranges.{InProgram}
+use Rattle.asm_program.specs.Ranges.{InProgram}
 use Rattle.asm_sound.proofs.Programs.{program_sound}
-use Rattle.asm_sound.proofs.Promises.{promised}
+use Rattle.asm_program.proofs.Promises.{promised}
 use Rattle.image_segments.proofs.EvenLemmas.{spots_even, room_even}
 use Rattle.image_segments.specs.Starts.{constants_start, placed_end}
 use Rattle.image_segments.specs.Segments.{code_segment, spots_in, all_segments, FitSegments}

@@ -6,7 +6,7 @@ use Rattle.asm_graphs.specs.Laid.{IsImageOf}
 use Rattle.low_ir.specs.Places.{Placed}
 use Rattle.asm_program.specs.Formed.{IsProgram}
 use Rattle.asm_program.specs.Functions.{graph_of}
-use Rattle.asm_sound.specs.Ranges.{InProgram}
+use Rattle.asm_program.specs.Ranges.{InProgram}
 use Rattle.image_frames.specs.Memories.{Placement, memory_of}
 use Rattle.image_definition.specs.Images.{placing_in, image_in, exits_in, FitsImage}
 

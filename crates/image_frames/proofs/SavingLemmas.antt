@@ -6,7 +6,7 @@ use Rattle.low_ir.specs.Places.{Placed, machine_registers}
 use Rattle.asm_program.specs.Numbers.{ram}
 use Rattle.asm_program.specs.Frames.{frame_end}
 use Rattle.asm_program.specs.Functions.{PlacedFunction}
-use Rattle.asm_sound.specs.Ranges.{IsSaving, AreSaving}
+use Rattle.asm_program.specs.Ranges.{IsSaving, AreSaving}
 use Rattle.image_frames.specs.Registers.{holds, chosen}
 use Rattle.image_frames.specs.Needs.{written, is_needed}
 use Rattle.image_frames.specs.Frames.{frame_at, frames_from}

@@ -3,7 +3,7 @@ use Rattle.std.specs.Prelude.{◌≡◌, ◌≤◌, length}
 use Rattle.rv_core.specs.declared.regions.Region.TheVariants.{Ram}
 use Rattle.rv_core.specs.Regions.{region_start}
 use Rattle.low_ir.specs.Places.{Placed}
-use Rattle.asm_sound.specs.Ranges.{AreSaving}
+use Rattle.asm_program.specs.Ranges.{AreSaving}
 use Rattle.image_frames.specs.Frames.{frames_end}
 use Rattle.image_frames.specs.Memories.{Placement, memory_of}
 

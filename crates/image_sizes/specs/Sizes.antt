@@ -1,6 +1,8 @@
 -- When a program is so small that its image has room.
 use Rattle.std.specs.Prelude.{◌≡◌, ℕ, suc, ◌+◌, ◌*◌, ◌^◌, ◌≤◌, Bool, false, if◌then◌else◌, List, [], ◌∷◌, length, map, All, slice_index_or}
 use Rattle.std.specs.List.{range_with_len}
+use Rattle.low_ir.specs.declared.object.Storage.{Storage}
+use Rattle.low_ir.specs.declared.object.Storage.TheVariants.{Constant as Fixed', Global, Local}
 use Rattle.low_ir.specs.Arrays.{array_size}
 use Rattle.low_ir.specs.Code.{Object}
 use Rattle.low_ir.specs.Effects.{can_store}
@@ -22,6 +24,16 @@ constants_room (x ∷ xs) = (if can_store x.storage then 0 else array_size x) + 
 abbrev pub variables_room : List Object → ℕ
 variables_room [] = 0
 variables_room (x ∷ xs) = (if can_store x.storage then array_size x else 0) + variables_room xs
+
+-- the bytes of arrays that aren't local
+abbrev pub unless_local : Storage → ℕ → ℕ
+unless_local Fixed' n = n
+unless_local Global n = n
+unless_local Local n = 0
+
+abbrev pub globals_size : List Object → ℕ
+globals_size [] = 0
+globals_size (x ∷ xs) = unless_local x.storage (array_size x) + globals_size xs
 
 -- the bytes of arrays, and those that functions take at most, wherever arrays lie (`asm_room`)
 abbrev pub array_sizes : Placed → List ℕ

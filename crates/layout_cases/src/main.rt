@@ -25,7 +25,7 @@ use claims_lists::by_address;
 use image_memory::Placement;
 use layout_fitting::{lay_placed, sizes_of};
 use low_ir::{LowReg, all_slots};
-use low_layout::Laid;
+use layout_laid::Laid;
 use std::alloc::Global;
 use std::io;
 use wcc_base::Memory;

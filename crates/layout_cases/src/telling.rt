@@ -1,7 +1,7 @@
 // What is said of a laid program.
 use claims_lists::CodeRange;
 use code_flow_system::{Claims, LoopClaim, LoopShape, Span, Within};
-use low_layout::Laid;
+use layout_laid::Laid;
 use rv_core::Segment;
 use std::alloc::{AllocError, Global};
 

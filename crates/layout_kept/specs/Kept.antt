@@ -14,11 +14,12 @@ use Rattle.asm_items.specs.Items.{total}
 use Rattle.asm_items.specs.Placings.{block_of, blocks_of, start_of}
 use Rattle.asm_forms.specs.Regions.{functions_size}
 use Rattle.asm_graphs.specs.Laid.{spans_from}
+use Rattle.asm_program.specs.Marked.{functions_marked}
 use Rattle.low_ir.specs.Code.{Function, Low, Note, Object}
 use Rattle.low_ir.specs.Effects.{World}
 use Rattle.low_ir.specs.Formed.{IsLow}
 use Rattle.low_ir.specs.Runs.{lrun}
-use Rattle.low_ir.specs.Turns.{IsGood, mark_count}
+use Rattle.low_ir.specs.Turns.{IsGood, mark_count, CanTurn}
 use Rattle.low_ir.specs.Places.{Placed, Placing, assignment, placed}
 use Rattle.low_ir.specs.Room.{room, weight}
 use Rattle.low_ir.specs.Spacing.{IsAssignment}
@@ -34,13 +35,12 @@ use Rattle.claims_definition.specs.Laws.{AreLoopClaims, AreRanges, HasPlaces, Is
 use Rattle.claims_definition.specs.Listed.{Laid, accesses_of, claims_of, functions_of, places_of, placing, regions_of, touches_at}
 use Rattle.claims_items.specs.Laws.{IsMovable}
 use Rattle.claims_items.specs.Movables.{array_item, movables_of}
-use Rattle.claims_bounds.specs.Flows.{KeepsBounds}
-use Rattle.claims_shapes.specs.Shapes.{AreShaped}
-use Rattle.claims_bounds.specs.Bounds.{CanTurn}
-use Rattle.simulation_marks.specs.Laws.{functions_marked}
-use Rattle.layout_sizes.specs.Segments.{AreFilled}
-use Rattle.layout_sizes.specs.Items.{HasElements, MovesItems, item_sizes, sized}
-use Rattle.layout_sizes.specs.Laws.{AreCounted, AreSmall, LieWherePlaced}
+use Rattle.claims_definition.specs.Flows.{KeepsBounds}
+use Rattle.claims_definition.specs.Shapes.{AreShaped}
+use Rattle.layout_kept.specs.Segments.{AreFilled}
+use Rattle.layout_kept.specs.Items.{HasElements, item_sizes, sized}
+use Rattle.image_frames.specs.Placings.{MovesItems}
+use Rattle.layout_kept.specs.Images.{AreCounted, AreSmall, LieWherePlaced}
 use Rattle.claims_image.specs.Images.{HasClaims, laid_of}
 use Rattle.path_conditions.specs.Bounding.{CanBound}
 use Rattle.layout_kept.specs.Rooms.{KeepsRoom}

@@ -1,2 +1,5 @@
 pub mod Rooms
+pub mod Segments
+pub mod Items
+pub mod Images
 pub mod Kept

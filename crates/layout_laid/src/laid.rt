@@ -1,6 +1,6 @@
 // A program that is laid.
 use claims_lists::CodeRange;
-use claims_movables::LaidItem;
+use claims_items::LaidItem;
 use code_flow_system::{Claims, LoopShape, Span};
 use rv_core::Image;
 use wcc_base::Items;

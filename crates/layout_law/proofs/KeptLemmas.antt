@@ -12,7 +12,7 @@ use Rattle.low_ir.specs.Spacing.{IsAssignment}
 use Rattle.asm_program.specs.Frames.{Frame, frame_of, no_frame}
 use Rattle.asm_program.specs.Formed.{IsProgram}
 use Rattle.asm_program.proofs.FormedLemmas.{program}
-use Rattle.asm_sound.specs.Ranges.{IsSaving, InProgram}
+use Rattle.asm_program.specs.Ranges.{IsSaving, InProgram}
 use Rattle.low_places.proofs.Ways.{all_safe}
 use Rattle.low_places.proofs.Follow.{carried}
 use Rattle.asm_code.proofs.Registers.{placed_there}

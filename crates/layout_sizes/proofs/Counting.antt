@@ -11,7 +11,7 @@ use Rattle.asm_placed.specs.Written.{flash_words, in_scratchpad, scratchpad_word
 use Rattle.low_ir.specs.Places.{Placed}
 use Rattle.low_ir.specs.Room.{room}
 use Rattle.asm_program.specs.Frames.{Frame, no_frame}
-use Rattle.asm_sound.specs.Ranges.{IsSaving}
+use Rattle.asm_program.specs.Ranges.{IsSaving}
 use Rattle.image_frames.specs.Memories.{Placement, memory_of}
 use Rattle.image_frames.proofs.SavingLemmas.{saving}
 use Rattle.image_definition.specs.Images.{flash_bytes, formed_in, rows_in, row_size, scratchpad_bytes}
@@ -21,8 +21,8 @@ use Rattle.asm_room.proofs.SizeLemmas.{chosen_has_room}
 use Rattle.claims_definition.specs.Laws.{IsSettled}
 use Rattle.claims_definition.proofs.Counts.{claims_few}
 use Rattle.claims_image.specs.Images.{laid_of}
-use Rattle.layout_sizes.specs.Items.{instructions_in}
-use Rattle.layout_sizes.specs.Laws.{AreCounted}
+use Rattle.layout_kept.specs.Items.{instructions_in}
+use Rattle.layout_kept.specs.Images.{AreCounted}
 
 -- both rows together have all functions
 rows_all : (here : ℕ → Bool) (f : ℕ) (fs : List Blocks) → row_size (λ g. not (here g)) f fs + row_size here f fs ≡ functions_size fs

@@ -40,8 +40,9 @@ use Rattle.claims_definition.specs.Laws.{IsSettled}
 use Rattle.claims_definition.specs.Listed.{placing, regions_of as lines_of}
 use Rattle.claims_definition.proofs.Blocks.{block_some}
 use Rattle.claims_image.specs.Images.{laid_of}
-use Rattle.layout_sizes.specs.Segments.{AreFilled, IsFilled}
-use Rattle.layout_sizes.specs.Items.{HasElements, MovesItems}
+use Rattle.layout_kept.specs.Segments.{AreFilled, IsFilled}
+use Rattle.layout_kept.specs.Items.{HasElements}
+use Rattle.image_frames.specs.Placings.{MovesItems}
 use Rattle.layout_sizes.proofs.Counting.{flash_row}
 use Rattle.layout_sizes.proofs.Lying.{InRow, function_in_row}
 use Rattle.layout_sizes.proofs.Quiet.{IsQuiet, quiet}

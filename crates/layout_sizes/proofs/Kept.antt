@@ -13,8 +13,10 @@ use Rattle.image_rows.proofs.ContentLemmas.{row_length}
 use Rattle.image_segments.specs.Segments.{Data, present, all_segments, values_in}
 use Rattle.image_frames.specs.Memories.{Placement}
 use Rattle.image_definition.specs.Images.{data_in, flash_bytes, image_in, scratchpad_bytes}
-use Rattle.layout_sizes.specs.Segments.{bytes_kept}
-use Rattle.layout_sizes.specs.Items.{MovesItems, globals_size, instructions_in, unless_local}
+use Rattle.layout_kept.specs.Segments.{bytes_kept}
+use Rattle.layout_kept.specs.Items.{instructions_in}
+use Rattle.image_sizes.specs.Sizes.{globals_size, unless_local}
+use Rattle.image_frames.specs.Placings.{MovesItems}
 use Rattle.layout_sizes.proofs.Counting.{flash_length, scratchpad_length}
 
 bytes_present : (ss : List Segment) → bytes_kept (present ss) ≤ bytes_kept ss

@@ -1,3 +1,1 @@
-pub mod Segments
-pub mod Items
 pub mod Laws

@@ -1,11 +1,5 @@
 // The laws of sizes and places.
-ghost use Rattle.layout_sizes.specs.Laws.{
-  ClaimsAreCounted,
-  ItemsKeepSizes,
-  ItemsLie,
-  RegionsAreFilled,
-  SegmentsAreSmall,
-};
+ghost use Rattle.layout_sizes.specs.Laws.{ClaimsAreCounted, ItemsKeepSizes, ItemsLie, RegionsAreFilled, SegmentsAreSmall};
 
 /// An image has a segment that isn't empty in each region that a line of regions names, where each array
 /// has elements (C11 6.7.6.2).

@@ -1,7 +1,6 @@
 //! How much the image of a program takes, and where its items lie.
 //!
-//! `specs/` has the segments of an image with what they keep and take (`Segments`), placements of items and what those take
-//! (`Items`), and what is promised of them (`Laws`).
+//! What segments and items take is said in `layout_kept`; `specs/Laws` has what is promised of it.
 //!
 //! Proved, each by a call with an empty body: [`regions_are_filled`], that an image has a segment which isn't empty in
 //! each region that a line of regions names; [`segments_are_small`], that its segments keep no more bytes than those of its

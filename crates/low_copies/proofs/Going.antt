@@ -2,7 +2,8 @@
 use Rattle.std.proofs.Common.{◌≡◌, ◌≢◌, ◌<◌, ℕ, zero, suc, ◌+◌, false, arith, List, [], ◌∷◌, ◌++◌, drop, length, map, Some, None, refl, sym, ap, ◌∙◌, subst, inl, inr}
 use Rattle.std.specs.Prelude.{slice_get, slice_index_or}
 use Rattle.std.proofs.lemmas.List.{append_assoc}
-use Rattle.low_ir.specs.Code.{Do, End, Instr, Note, Register, Set}
+use Rattle.std.proofs.lemmas.Option.{none-some}
+use Rattle.low_ir.specs.Code.{Constant, Do, End, Instr, Note, Operand, Register, Set}
 use Rattle.low_ir.specs.Formed.{written_by}
 use Rattle.low_copied.specs.Copies.{Becomes, Beginnings, Code, Copied, Follows, Standing}
 use Rattle.low_copies.specs.Knowing.{Knowing, copied, delivered, stands}
@@ -42,8 +43,8 @@ carried size out end new k into i j rest js now h becomes follows =
       goes_on = follows;
     })
 
-left_out : (size : ℕ) (out : Beginnings) (end new : End ℕ) (at : Standing) (d x : ℕ) (rest js : Code) (now : Standing) → Copied d (Register x) at now → Follows size out end new rest now js → Follows size out end new (Do (Set d (Register x)) ∷ rest) at js
-left_out size out end new at d x rest js now copied follows = inr (record { into = d; value = Register x; is = refl; now = now; copied = copied; goes_on = follows })
+left_out : (size : ℕ) (out : Beginnings) (end new : End ℕ) (at : Standing) (d : ℕ) (x : Operand ℕ) (rest js : Code) (now : Standing) → Copied d x at now → Follows size out end new rest now js → Follows size out end new (Do (Set d x) ∷ rest) at js
+left_out size out end new at d x rest js now copied follows = inr (record { into = d; value = x; is = refl; now = now; copied = copied; goes_on = follows })
 
 -- an instruction behind what was made
 behind : (made more js : Code) (j : Instr ℕ Note) → more ≡ made ++ j ∷ [] → made ++ j ∷ js ≡ more ++ js
@@ -87,7 +88,7 @@ delivered_goes k t x i rest made more writes apart brief few own put size lastin
           (m.follows new (put.new ∷ js)
           (carried size out end new k x i put.new (Do (Set x (Register t)) ∷ rest) js (between n t x) put.renamed
           (subst (λ o. Becomes size o x (stands k) (between n t x)) (sym writes) (inside, delivers size lasting k t x m.known inside source brief apart))
-          (left_out size out end new (between n t x) x t rest js (stands n) (copy_delivered size lasting k t x m.known inside source brief apart) h)));
+          (left_out size out end new (between n t x) x (Register t) rest js (stands n) (copy_delivered size lasting k t x m.known inside source brief apart) h)));
     }
 
 -- a copy that is left out
@@ -98,7 +99,18 @@ left_goes k d x place rest made brief own found size lasting out first end whole
       known = known_copied size lasting k d place m.known;
       follows = λ new js h.
           m.follows new js
-          (left_out size out end new (stands k) d x rest js (stands (copied k d place)) (copy_left size lasting k d x place m.known inside brief found) h);
+          (left_out size out end new (stands k) d (Register x) rest js (stands (copied k d place)) (copy_left size lasting k d x place m.known inside brief found) h);
+    }
+
+-- a word is left out of a register that stands nowhere
+pub word_goes : (k : Knowing) (d w : ℕ) (rest made : Code) → stands k d ≡ None → Goes (Do (Set d (Constant w)) ∷ rest) k made rest k made
+word_goes k d w rest made nowhere size lasting out first end whole m =
+    record {
+      known = m.known;
+      follows = λ new js h.
+          m.follows new js
+          (left_out size out end new (stands k) d (Constant w) rest js (stands k)
+          (λ v place e. inr (λ same. none-some place (sym nowhere ∙ subst (λ x. stands k x ≡ Some place) same e), e)) h);
     }
 
 -- one instruction is done, or two

@@ -1,5 +1,5 @@
 // What becomes of each copy of a block. Nothing is proved of it: a choice that can't be followed leaves the program as it is.
-use super::copy::{Copied, copy_at};
+use super::copy::{Copied, copy_at, word_at};
 use super::known::Known;
 use super::reading::{Reader, read_end, read_instr};
 use super::renaming::{writes, written};
@@ -15,6 +15,8 @@ pub enum Choice {
     Delivered,
     /// A copy: what reads it reads what it is a copy of.
     LeftOut,
+    /// A word to which a register is set that nothing reads.
+    Unread,
 }
 
 /// What lies behind an instruction, of each register. Places of the code are counted from block to block, so that nothing has to be
@@ -135,9 +137,23 @@ impl Behind {
         }
     }
 
+    /// What becomes of what is set at a place, if it is a word.
+    fn choice_of_word(&self, known: &Known, code: &[Instr], at: usize) -> Choice {
+        match word_at(code, at) {
+            None => Choice::Stays,
+            Some(set) => {
+                if known.is_lasting(set.into) || place_of(&self.read, set.into) >= self.first {
+                    Choice::Stays
+                } else {
+                    Choice::Unread
+                }
+            }
+        }
+    }
+
     fn choice_of(&self, known: &Known, code: &[Instr], at: usize) -> Choice {
         match copy_at(code, at) {
-            None => Choice::Stays,
+            None => self.choice_of_word(known, code, at),
             Some(copy) => self.choice(known, code, at, copy),
         }
     }

@@ -1,5 +1,5 @@
 // A program without its copies.
-ghost use Rattle.std.specs.Prelude.{◌≡◌, ◌<◌, true, [], ◌∷◌, Some, length, map, IfOk, IfSome};
+ghost use Rattle.std.specs.Prelude.{◌≡◌, ◌<◌, ◌+◌, true, [], ◌∷◌, Some, length, map, IfOk, IfSome};
 ghost use Rattle.std.specs.List.{AllZip};
 ghost use Rattle.low_ir.specs.Code.{Do, Register, Set};
 ghost use Rattle.low_ir.specs.Formed.{written_by};
@@ -11,7 +11,7 @@ ghost use Rattle.low_copies.specs.Making.{AreBlocks, Continues, Goes, IsBlock, I
 
 use super::beginning::{begin, is_own, leads_on, list_at};
 use super::choices::{Behind, Choice};
-use super::copy::copy_at;
+use super::copy::{copy_at, word_at};
 use super::counting::{Counted, counted_in};
 use super::known::Known;
 use super::renaming::{renamed, renamed_end, writes, written};
@@ -124,6 +124,13 @@ fn is_left_out(choice: Choice) -> bool {
     }
 }
 
+fn is_unread(choice: Choice) -> bool {
+    match choice {
+        Choice::Unread => true,
+        _ => false,
+    }
+}
+
 /// The instruction at a place, with the copy behind it.
 fn put_pair(
     alloc: Global,
@@ -187,6 +194,20 @@ fn leaves_out(known: &Known, code: &[Instr], choices: &[Choice], at: usize) -> b
     }
 }
 
+/// Whether the word to which a register is set at a place is left out: as was chosen, if the register stands nowhere.
+fn leaves_word(known: &Known, code: &[Instr], choices: &[Choice], at: usize) -> bool
+    requires { at < length code.now }
+    ensures { result ≡ true → (made : Code) → Continues (map instr_of code.now) at known.now made known.now made (at + 1) }
+{
+    let Some(set) = word_at(code, at) else {
+        return false;
+    };
+    match known.find(set.into) {
+        None => is_unread(choice_at(choices, at)),
+        Some(_) => false,
+    }
+}
+
 /// The next instruction of a block, as was chosen; or it can't be done. Answers where the code goes on.
 fn put_next(
     alloc: Global,
@@ -203,6 +224,8 @@ fn put_next(
         put_pair(alloc, known, code, at, made)
     } else if leaves_out(known, code, choices, at) {
         Ok(leave_copy(known, code, at))
+    } else if leaves_word(known, code, choices, at) {
+        Ok(Some(at + 1))
     } else {
         put_single(alloc, known, code, at, made)
     }

@@ -4,11 +4,8 @@
 //! not be followed, by `stays`. A line that is no function is said again.
 #![tactic(auto)]
 
-mod answers;
-
-use answers::function_shown;
 use low_copies::functions_without_copies;
-use low_lines::function_of;
+use low_lines::{function_of, function_shown};
 use std::alloc::Global;
 use std::io;
 use wcc_base::Memory;

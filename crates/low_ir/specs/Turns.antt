@@ -1,5 +1,5 @@
 -- How often the loops of a run started, and what a good run is.
-use Rattle.std.specs.Prelude.{◌≡◌, ℕ, suc, ◌≤◌, ◌==◌, ◌&&◌, Bool, true, false, if◌then◌else◌, List, [], ◌∷◌, Option, Some, None, All, slice_get, count_by}
+use Rattle.std.specs.Prelude.{◌≡◌, ◌⊎◌, ℕ, suc, ◌≤◌, ◌==◌, ◌&&◌, Bool, true, false, if◌then◌else◌, List, [], ◌∷◌, Option, Some, None, All, slice_get, count_by}
 use Rattle.std.specs.List.{flat_map}
 use Rattle.std.specs.Option.{option_to_list}
 use Rattle.low_ir.specs.Code.{Block, Loop, Function, Program}
@@ -39,6 +39,10 @@ no_turns = record { again = false; starts = [] }
 
 abbrev pub IsWithin : Loop → ℕ → Type 0
 IsWithin l n = (l.least ≤ n) × (n ≤ l.most)
+
+-- it has to start no more often than it may, or may not start
+abbrev pub CanTurn : Loop → Type 0
+CanTurn l = (l.least ≤ l.most) ⊎ (l.most ≡ 0)
 
 -- each entry of the loop had from its least to its most starts
 abbrev pub KeepsLoop : ℕ → List Began → Loop → Type 0

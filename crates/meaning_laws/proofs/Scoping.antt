@@ -7,12 +7,12 @@ use Rattle.std.proofs.lemmas.Bool.{false≢true, or_parts, true≢false}
 use Rattle.std.proofs.lemmas.List.Elements.{All-head, All-tail}
 use Rattle.std.proofs.lemmas.Option.{none-some, same_Some}
 use Rattle.c_tree.specs.Tree.{Row, Nothing, Then, Shape, Scalar, Unsized, Sized, Initial, Absent, Value, Listed, Object, Declared, Declaration, Objects, Prototype, External, Restriction, Declaring, Function, TranslationUnit, Whole}
-use Rattle.c_types.specs.Typed.{CallsDefined, fault_of, typed_of}
-use Rattle.c_types.proofs.Seals.{calls_defined, passes_main}
+use Rattle.types_rules.specs.Typed.{fault_of, typed_of}
+use Rattle.types_calls.specs.Calls.{CallsDefined, calls_below, function_calls, graph_of, initial_calls, items_calls, objects_calls, params_calls, shape_calls}
+use Rattle.types_seen.proofs.Calls.{calls_defined, passes_main}
 use Rattle.facts_definitions.specs.FlowFacts.{id_in, main_of}
 use Rattle.facts_definitions.specs.FlowFacts as flow
 use Rattle.facts_definitions.specs.declared.facts.Facts.{Facts}
-use Rattle.types_calls.specs.Calls.{calls_below, function_calls, graph_of, initial_calls, items_calls, objects_calls, params_calls, shape_calls}
 use Rattle.types_calls.specs.Chains.{Among, AreRanks}
 use Rattle.types_tree.specs.Tree as typed
 use Rattle.types_tree.specs.Tree.{function_name}

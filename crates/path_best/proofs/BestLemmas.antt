@@ -16,7 +16,7 @@ use Rattle.code_flow_system.specs.Loose.{KeepsTurns, IsLoose}
 use Rattle.code_flow_system.specs.Certificates.{never_limits, loop_limits}
 use Rattle.code_flow_system.specs.Bounds.{KeepsLimit}
 use Rattle.code_flow_system.proofs.LimitLemmas.{limits_keep}
-use Rattle.code_flow_system.proofs.LooseLemmas.{flows_are_loose}
+use Rattle.code_flow_system.proofs.LooseLemmas.{flows_are_loose, goes_back}
 use Rattle.code_flow_system.proofs.DualityLemmas.{bounds_totals}
 use Rattle.loop_ranges.specs.Near.{IsUpTo}
 use Rattle.path_places.specs.Laws.{IsReachedWhole}
@@ -30,8 +30,7 @@ use Rattle.path_counts.specs.Laws.{HasBounds, BacksAreFree, IsOpenSystem}
 use Rattle.path_counts.proofs.FreeLemmas.{left_all, right_all, free_whole}
 use Rattle.path_counts.proofs.KeepLemmas.{all_keep}
 use Rattle.path_slack.proofs.MoveLemmas.{all_reached}
-use Rattle.path_bound.proofs.BoundLemmas.{goes_back}
-use Rattle.path_best.specs.Best.{best_worth, BoundsBest, IsBestFlow, HasBestFlow}
+use Rattle.path_cert.specs.Best.{best_worth, BoundsBest, IsBestFlow, HasBestFlow}
 use Rattle.path_best.specs.Laws.{BestFlowsAreFound}
 
 -- a total at prices is no further below 0 than that of their sizes is above it

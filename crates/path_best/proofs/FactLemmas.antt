@@ -23,9 +23,10 @@ use Rattle.loop_ranges.specs.Reach.{reach}
 use Rattle.path_loose.specs.Laws.{LooseTotalsBelow}
 use Rattle.path_ranges.specs.Bounded.{StartsBelow}
 use Rattle.path_limits.specs.Limits.{IsLoopWithin}
-use Rattle.path_best.specs.Priced.{fact_size}
+use Rattle.path_cert.specs.Priced.{fact_size, sizes_of, fact_most}
 use Rattle.path_conditions.specs.Natural.{AreNatural, IsNaturalFact, both_totals}
-use Rattle.path_best.specs.Facts.{IsFactLimited, sizes_of, fact_most, IsFactBounded, FactsAreBounded, FactNumbersFit}
+use Rattle.path_best.specs.Facts.{IsFactBounded, FactsAreBounded, FactNumbersFit}
+use Rattle.path_conditions.specs.Walking.{IsFactLimited}
 use Rattle.path_best.proofs.RangeLemmas.{sizes_cover_prices}
 
 -- ---- the size of a fact's terms at an address

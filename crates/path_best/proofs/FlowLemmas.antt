@@ -17,10 +17,11 @@ use Rattle.path_counts.proofs.FreeLemmas.{free_whole}
 use Rattle.path_counts.proofs.KeepLemmas.{goes}
 use Rattle.path_limits.specs.Narrow.{FetchesCost}
 use Rattle.path_limits.proofs.NarrowLemmas.{counts_below}
-use Rattle.path_bound.proofs.BoundLemmas.{one_unit, amounts_below}
-use Rattle.path_best.specs.Best.{best_worth, best_flow, HasBestFlow}
-use Rattle.path_best.specs.Priced.{fact_size, fact_prices}
-use Rattle.path_best.specs.Facts.{IsFactLimited, fact_most, fact_low, fact_numbers, IsFactBounded, IsFactFlow, HasFactFlow, FactFlowsAreBest}
+use Rattle.path_flows.proofs.SumLemmas.{one_unit, amounts_below}
+use Rattle.path_cert.specs.Best.{best_worth, best_flow, HasBestFlow}
+use Rattle.path_cert.specs.Priced.{fact_size, fact_prices, fact_most, fact_low}
+use Rattle.path_best.specs.Facts.{fact_numbers, IsFactBounded, IsFactFlow, HasFactFlow, FactFlowsAreBest}
+use Rattle.path_conditions.specs.Walking.{IsFactLimited}
 use Rattle.path_best.proofs.BestLemmas.{free_loose, open_system, has_best}
 use Rattle.path_best.proofs.FactLemmas.{facts_bounded}
 

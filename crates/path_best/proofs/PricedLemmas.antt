@@ -28,7 +28,7 @@ use Rattle.path_counts.proofs.FreeLemmas.{left_all, right_all}
 use Rattle.path_cert.specs.Laws.{HasRanges}
 use Rattle.path_cert.proofs.CertLemmas.{nevers_long, loops_long}
 use Rattle.path_cert.proofs.PartLemmas.{potentials_ascend}
-use Rattle.path_best.specs.Priced.{fact_price, fact_prices, fact_total, PricesPayFacts, fact_certificate, AreMultipliers}
+use Rattle.path_cert.specs.Priced.{fact_price, fact_prices, fact_total, PricesPayFacts, fact_certificate, AreMultipliers}
 use Rattle.path_best.specs.Laws.{FactsAreAccepted}
 
 -- ---- totals

@@ -17,14 +17,14 @@ use Rattle.loop_ranges.specs.Near.{IsUpTo}
 use Rattle.path_duals.specs.Duals.{values_of, potentials_of, never_multipliers, loop_multipliers, dual_of}
 use Rattle.path_duals.proofs.PotentialLemmas.{all_of}
 use Rattle.path_ranges.specs.Bounded.{IsBounded}
-use Rattle.path_sizes.specs.Sizes.{IsEnough}
+use Rattle.path_ranges.specs.Ranges.{IsEnough}
 use Rattle.path_dual_ranges.specs.Ranges.{IsNarrowDual}
 use Rattle.path_dual_ranges.proofs.ClaimSizes.{size-append, held_size}
 use Rattle.path_dual_ranges.proofs.RowSizes.{sizes}
 use Rattle.path_dual_ranges.proofs.FineSizes.{loose_most, duals_narrow}
 use Rattle.path_cert.specs.Laws.{HasRanges}
-use Rattle.path_best.specs.Best.{best_worth}
-use Rattle.path_best.specs.Priced.{fact_price, fact_size, fact_prices, fact_certificate}
+use Rattle.path_cert.specs.Best.{best_worth}
+use Rattle.path_cert.specs.Priced.{fact_price, fact_size, fact_prices, fact_certificate}
 use Rattle.path_best.specs.Laws.{SizesCoverPrices, FactsHaveRanges}
 
 pub sizes_cover_prices : (t : Table) (s : System) → SizesCoverPrices t s

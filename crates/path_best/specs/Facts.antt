@@ -1,40 +1,22 @@
--- When the numbers of walks that pay for facts have bounds: by the values of loose flows, and by what they come to in facts.
-use Rattle.std.specs.Prelude.{ℕ, ◌+◌, ◌*◌, ◌^◌, ◌≤◌, ◌<◌, ◌==◌, ℤ, pos, neg_ℤ, ◌+ℤ◌, ◌≤ℤ◌, ◌<ℤ◌, unsigned_abs, List, [], ◌∷◌, length, All, if◌then◌else◌}
+-- What the numbers of walks that pay for facts are bounded by.
+use Rattle.std.specs.Prelude.{ℕ, ◌+◌, ◌*◌, ◌^◌, ◌≤◌, ◌<◌, ℤ, pos, neg_ℤ, ◌+ℤ◌, ◌≤ℤ◌, ◌<ℤ◌, unsigned_abs, List, length, All}
 use Rattle.rv_core.specs.Table.{Table}
 use Rattle.code_flow_system.specs.declared.shapes.LoopShape.{LoopShape}
 use Rattle.code_flow_system.specs.declared.shapes.Span.{Span}
 use Rattle.code_flow_system.specs.Systems.{System}
-use Rattle.code_flow_system.specs.Counts.{Amounts, count}
+use Rattle.code_flow_system.specs.Counts.{Amounts}
 use Rattle.code_flow_system.specs.Flows.{IsFlow}
-use Rattle.code_flow_system.specs.Loose.{IsLoose}
 use Rattle.path_rows.specs.Driver.{Prices, blank}
 use Rattle.path_flows.specs.Flows.{amounts_of}
 use Rattle.path_ranges.specs.Bounded.{IsBounded}
-use Rattle.path_sizes.specs.Sizes.{AllStaySmall, IsEnough}
+use Rattle.path_sizes.specs.Sizes.{AllStaySmall}
+use Rattle.path_ranges.specs.Ranges.{IsEnough}
 use Rattle.path_counts.specs.Free.{free}
 use Rattle.path_counts.specs.Laws.{BacksAreFree}
-use Rattle.path_limits.specs.Limits.{IsLimited, LooseCountsAreFew}
 use Rattle.path_limits.specs.Narrow.{FetchesCost}
-use Rattle.path_conditions.specs.Natural.{IsNaturalFact, both_totals}
-use Rattle.path_best.specs.Best.{best_worth, IsBestFlow}
-use Rattle.path_best.specs.Priced.{fact_size, fact_prices}
-
-pub record IsFactLimited (t : Table) (s : System) (ls : List LoopShape) (ps : List Span) : Type 0 where
-  pub limited : IsLimited t s ls ps
-  pub counts : LooseCountsAreFew s
-  pub natural : All IsNaturalFact s.claims.facts
-  pub totals : (x : Amounts) → IsLoose s 1 x → All (λ c. both_totals c (count x s.moves) ≤ℤ pos (2 ^ 66)) s.claims.facts
-
-abbrev pub sizes_of : List ℤ → ℕ
-sizes_of [] = 0
-sizes_of (y ∷ ys) = unsigned_abs y + sizes_of ys
-
--- what a loose flow can come to at prices of a scale and of facts' multipliers, and the worth of a block then
-abbrev pub fact_most : ℕ → List ℤ → ℕ
-fact_most scale ys = 2 ^ 60 * (if scale == 0 then 1 else scale) + 2 ^ 66 * sizes_of ys
-
-abbrev pub fact_low : ℕ → List ℤ → ℤ
-fact_low scale ys = neg_ℤ (pos (4 * fact_most scale ys))
+use Rattle.path_conditions.specs.Walking.{IsFactLimited}
+use Rattle.path_cert.specs.Best.{best_worth, IsBestFlow}
+use Rattle.path_cert.specs.Priced.{fact_low, fact_most, fact_size, fact_prices}
 
 -- the size of the walks' numbers, by that and the number of loops
 abbrev pub fact_numbers : ℕ → ℕ → ℕ

@@ -9,11 +9,11 @@ use Rattle.code_flow_system.specs.Certificates.{whole_part, Accepts, IsInForm}
 use Rattle.loop_ranges.specs.Near.{IsUpTo}
 use Rattle.path_rows.specs.Driver.{Prices}
 use Rattle.path_ranges.specs.Bounded.{IsBounded}
-use Rattle.path_sizes.specs.Sizes.{IsEnough}
+use Rattle.path_ranges.specs.Ranges.{IsEnough}
 use Rattle.path_counts.specs.Laws.{BacksAreFree}
 use Rattle.path_cert.specs.Laws.{HasRanges}
-use Rattle.path_best.specs.Best.{best_worth, HasBestFlow}
-use Rattle.path_best.specs.Priced.{fact_price, fact_size, fact_prices, fact_certificate, AreMultipliers}
+use Rattle.path_cert.specs.Best.{best_worth, HasBestFlow}
+use Rattle.path_cert.specs.Priced.{fact_price, fact_size, fact_prices, fact_certificate, AreMultipliers}
 
 -- at prices of both signs, where most is a bound of loose totals at their sizes and a block is worth less than three times its negative
 abbrev pub BestFlowsAreFound : System → List LoopShape → List Span → Type 0

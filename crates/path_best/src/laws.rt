@@ -1,7 +1,7 @@
 // What the walks find at prices of both signs.
 ghost use Rattle.rv_core.specs.Table.{table_of};
 ghost use Rattle.path_places.specs.Laws.{IsReachedWhole};
-ghost use Rattle.path_best.specs.Priced.{PricesPayFacts};
+ghost use Rattle.path_cert.specs.Priced.{PricesPayFacts};
 ghost use Rattle.path_best.specs.Facts.{FactFlowsAreBest, FactNumbersFit, FactsAreBounded};
 ghost use Rattle.path_best.specs.Laws.{BestFlowsAreFound, FactsAreAccepted, FactsHaveRanges, SizesCoverPrices};
 

@@ -1,14 +1,13 @@
 -- The ranges of the certificate of the walks, by the values of loose flows.
-use Rattle.std.proofs.Common.{◌≡◌, ℕ, zero, suc, ◌+◌, ◌/◌, ◌^◌, ◌<◌, ℤ, pos, neg_ℤ, ◌*ℤ◌, ◌≤ℤ◌, ◌<ℤ◌, arith, refl, sym, ap, ◌∙◌, subst, List, [], ◌∷◌, length, Contains, All, Bool, true, false, cond}
+use Rattle.std.proofs.Common.{◌≡◌, ℕ, zero, suc, ◌+◌, ◌/◌, ◌^◌, ◌<◌, ℤ, pos, neg_ℤ, ◌*ℤ◌, ◌≤ℤ◌, ◌<ℤ◌, arith, refl, sym, ap, ◌∙◌, subst, List, [], ◌∷◌, Contains, All, Bool, true, false, cond}
 use lib.IntN.{negsuc}
 use Rattle.std.specs.Prelude.{◌==◌, unsigned_abs}
 use Rattle.std.specs.Int.RustNames.{int_lt}
 use Rattle.std.proofs.lemmas.Int.{ints}
 use Rattle.std.proofs.lemmas.Bool.Decides.{nat_tests}
-use Rattle.std.proofs.lemmas.List.Elements.{All-head, All-tail, All-contains, All-cons, All-nil}
+use Rattle.std.proofs.lemmas.List.Elements.{All-contains, All-cons, All-nil}
 use Rattle.frac128.specs.Terms.{coefficient}
 use Rattle.rv_core.specs.Table.{Table}
-use Rattle.code_flow_system.specs.declared.claims.LoopClaim.{LoopClaim}
 use Rattle.code_flow_system.specs.declared.cert.Cert.{Cert}
 use Rattle.code_flow_system.specs.declared.cert.Mark.{Mark}
 use Rattle.code_flow_system.specs.declared.cert.Mark.TheVariants.{Greatest, Empty}
@@ -17,18 +16,17 @@ use Rattle.code_flow_system.specs.declared.shapes.LoopShape.{LoopShape}
 use Rattle.code_flow_system.specs.declared.shapes.Span.{Span}
 use Rattle.code_flow_system.specs.Moves.{destinations}
 use Rattle.code_flow_system.specs.Systems.{System}
-use Rattle.code_flow_system.specs.Shapes.{AreShapesOf, IsLoop}
 use Rattle.code_flow_system.specs.MoveCosts.{move_cost}
 use Rattle.code_flow_system.specs.Counts.{Amounts, amount, count, inflow}
 use Rattle.code_flow_system.specs.Flows.{IsFlow, price, value}
-use Rattle.code_flow_system.specs.Loose.{IsLoose, GoesBack}
+use Rattle.code_flow_system.specs.Loose.{IsLoose}
 use Rattle.code_flow_system.specs.Certificates.{limits, row_size, size_by, scaled_price, potential, whole_part, IsNarrow, IsSmall, listed, Accepts, IsInForm}
-use Rattle.code_flow_system.proofs.LooseLemmas.{flows_are_loose}
+use Rattle.code_flow_system.proofs.LooseLemmas.{flows_are_loose, goes_back}
 use Rattle.path_places.specs.Laws.{IsReachedWhole}
 use Rattle.path_duals.specs.Duals.{values_of, dual_of}
 use Rattle.path_duals.proofs.PotentialLemmas.{all_of}
 use Rattle.path_flows.specs.Flows.{amounts_of, parts_of}
-use Rattle.path_flows.proofs.SumLemmas.{sum_if, begins_at, AreAmounts}
+use Rattle.path_flows.proofs.SumLemmas.{sum_if, begins_at, AreAmounts, amounts_below, one_unit}
 use Rattle.path_flows.proofs.ConservedLemmas.{listed_amounts}
 use Rattle.path_counts.specs.Laws.{HasBounds, IsOpenSystem}
 use Rattle.path_counts.proofs.KeepLemmas.{all_keep, goes, counted}
@@ -53,9 +51,6 @@ size_below : (z : ℤ) (k : ℕ) → pos 0 ≤ℤ z → z <ℤ pos k → unsigne
 size_below (pos n) k h lt = omega (arith, ints)
 size_below (negsuc n) k h lt = absurd (omega (arith, ints))
 
-pub one_unit : (z : ℤ) (k : ℕ) → z <ℤ (pos 1 *ℤ pos k) → z <ℤ pos k
-one_unit z k h = omega (arith, ints)
-
 narrow_pair : (a b : ℤ) (k : ℕ) → pos 0 ≤ℤ a → a <ℤ pos k → b ≡ a → unsigned_abs a + unsigned_abs b < k + k
 narrow_pair a b k h lt e = let x = size_below a k h lt in let y = ap unsigned_abs e in omega (arith, x, y)
 
@@ -66,24 +61,6 @@ whole_below (pos n) lt = let a : n < 2 ^ 60 = omega (arith, ints) in let b = one
     one_part : (n : ℕ) → n / 1 ≡ n
     one_part n = omega arith
 whole_below (negsuc n) lt = omega arith
-
--- each claim's jump back goes to its header alone
-pub goes_back : (s : System) (cs : List LoopClaim) (ks : List LoopShape) → AreShapesOf cs ks → All (IsLoop s) ks → All (GoesBack s.moves) cs
-goes_back s [] ks are h = All-nil (GoesBack s.moves)
-goes_back s (c ∷ cs) [] are h = absurd are
-goes_back s (c ∷ cs) (l ∷ ks) are h = All-cons (GoesBack s.moves) c cs
-    (subst (λ a. All (λ m. m.at ≡ c.back → destinations m ≡ a ∷ []) s.moves) are.0 (subst (λ b. All (λ m. m.at ≡ b → destinations m ≡ l.header ∷ []) s.moves) are.1 (All-head (IsLoop s) l ks h).goes_back))
-    (goes_back s cs ks are.2 (All-tail (IsLoop s) l ks h))
-
--- listed amounts below 2^60
-pub amounts_below : (x : Amounts) (ms : List Move) (us : List ℕ) → length us ≡ length ms → AreAmounts x ms us → ((m : Move) → Contains ms m → amount x m <ℤ pos (2 ^ 60)) → All (λ u. u < 2 ^ 60) us
-amounts_below x [] [] long are h = All-nil (λ u. u < 2 ^ 60)
-amounts_below x [] (u ∷ us) long are h = absurd (omega (arith, long))
-amounts_below x (m ∷ ms) [] long are h = absurd (omega (arith, long))
-amounts_below x (m ∷ ms) (u ∷ us) long are h = All-cons (λ u. u < 2 ^ 60) u us (below (h m (zero, omega arith, refl)) are.0) (amounts_below x ms us (omega (arith, long)) are.1 (λ k i. h k (suc i.0, omega (arith, i.1), i.2)))
-  where
-    below : pos (x m.at m.number) <ℤ pos (2 ^ 60) → x m.at m.number ≡ u → u < 2 ^ 60
-    below a b = let c : x m.at m.number < 2 ^ 60 = omega (arith, ints) in omega (arith, c, b)
 
 module _ (t : Table) (s : System) (ls : List LoopShape) (ps : List Span) (is : IsBoundable t s ls ps) where
   whole : IsReachedWhole s ls ps

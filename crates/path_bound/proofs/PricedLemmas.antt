@@ -11,7 +11,7 @@ use Rattle.code_flow_system.specs.Counts.{Amounts, amount}
 use Rattle.code_flow_system.specs.Flows.{price}
 use Rattle.code_flow_system.specs.Loose.{IsLoose}
 use Rattle.code_flow_system.specs.Certificates.{listed}
-use Rattle.code_flow_system.proofs.LooseLemmas.{flows_are_loose}
+use Rattle.code_flow_system.proofs.LooseLemmas.{flows_are_loose, goes_back}
 use Rattle.loop_ranges.specs.Near.{IsUpTo}
 use Rattle.path_rows.specs.Driver.{Prices}
 use Rattle.path_flows.specs.Flows.{amounts_of, parts_of}
@@ -26,7 +26,8 @@ use Rattle.path_limits.proofs.LimitLemmas.{costs_bounded}
 use Rattle.path_cost_ranges.proofs.RangeLemmas.{all_map}
 use Rattle.path_bound.specs.Laws.{IsBoundable}
 use Rattle.path_bound.specs.Priced.{AreUpToCosts, priced, entry_worth, IsPricedFlow, HasPricedFlow, PricedFlowsAreFlows}
-use Rattle.path_bound.proofs.BoundLemmas.{goes_back, one_unit, kept_bounds, loose_below, amounts_below}
+use Rattle.path_bound.proofs.BoundLemmas.{kept_bounds, loose_below}
+use Rattle.path_flows.proofs.SumLemmas.{one_unit, amounts_below}
 
 module _ (t : Table) (s : System) (ls : List LoopShape) (ps : List Span) (is : IsBoundable t s ls ps) (of : Move → ℤ) (up : AreUpToCosts t s of) where
   abbrev q : Prices

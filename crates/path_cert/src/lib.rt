@@ -7,6 +7,9 @@
 //! Proved, by a call with an empty body: where its numbers keep their ranges, and worths are open where the flow goes, the
 //! certificate is in form, and it is accepted (`certificates_are_accepted`).
 //!
+//! `specs/Best` says which flow the walks list at any prices, and when it is a best one; `specs/Priced` has the prices that
+//! pay for facts, and the certificate of the walks at these. Their laws are those of `path_best`.
+//!
 //! The crate has definitions and this law.
 #![tactic(auto)]
 

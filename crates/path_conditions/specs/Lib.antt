@@ -1,3 +1,4 @@
 pub mod Natural
 pub mod Bounding
 pub mod Searching
+pub mod Walking

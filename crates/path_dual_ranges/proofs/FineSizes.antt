@@ -37,11 +37,10 @@ use Rattle.path_duals.proofs.PotentialLemmas.{potential_at}
 use Rattle.path_duals.proofs.PriceLemmas.{IsPriced}
 use Rattle.path_duals.proofs.RowLemmas.{final_priced}
 use Rattle.path_ranges.specs.Bounded.{IsBounded}
-use Rattle.path_ranges.specs.Ranges.{loop_step}
+use Rattle.path_ranges.specs.Ranges.{loop_step, IsEnough}
 use Rattle.path_ranges.proofs.CountLemmas.{reach_least}
 use Rattle.path_ranges.proofs.SystemRanges.{prices}
 use Rattle.path_ranges.proofs.WorthRanges.{worths_bounded}
-use Rattle.path_sizes.specs.Sizes.{IsEnough}
 use Rattle.path_dual_ranges.specs.Ranges.{IsNarrowDual, DualsAreNarrow}
 use Rattle.path_dual_ranges.proofs.ClaimSizes.{size_within, IsSizedClaim, IsSizedDeal, touching, ending, touching-parts, one_begins}
 use Rattle.path_dual_ranges.proofs.RowSizes.{all_of, shape_for, sizes, dealt_sized, touches, potentials_small, row_small, long, pairs_small, plain_small}

@@ -35,11 +35,10 @@ use Rattle.path_duals.proofs.DealLemmas.{AreDealt}
 use Rattle.path_duals.proofs.PotentialLemmas.{potential_at}
 use Rattle.loop_ranges.specs.Reach.{reach}
 use Rattle.path_ranges.specs.Bounded.{IsBounded}
-use Rattle.path_ranges.specs.Ranges.{loop_step}
+use Rattle.path_ranges.specs.Ranges.{loop_step, IsEnough}
 use Rattle.path_ranges.proofs.CountLemmas.{reach_least}
 use Rattle.path_ranges.proofs.SystemRanges.{prices}
 use Rattle.path_ranges.proofs.WorthRanges.{worths_bounded}
-use Rattle.path_sizes.specs.Sizes.{IsEnough}
 use Rattle.path_sizes.proofs.SystemSizes.{all_fit}
 use Rattle.path_dual_ranges.proofs.ClaimSizes.{size-neg, size-add, size_within, size-append, held_size, IsSizedDeal, touching, loops_size, pairs_size, two_touch, NeversAscend, nevers_size}
 use Rattle.path_dual_ranges.proofs.DealSizes.{all_dealt}

@@ -9,7 +9,7 @@ use Rattle.code_flow_system.specs.Certificates.{row_size, loop_limits}
 use Rattle.path_rows.specs.Driver.{Prices}
 use Rattle.path_duals.specs.Duals.{Values, values_of, potentials_of, both_of, never_multipliers, loop_multipliers, dual_of}
 use Rattle.path_ranges.specs.Bounded.{IsBounded}
-use Rattle.path_sizes.specs.Sizes.{IsEnough}
+use Rattle.path_ranges.specs.Ranges.{IsEnough}
 
 -- numbers are no larger than a size, never claims and loops without turns pay no more than 3 times that, and a row's terms together come to no more than 32 times that
 pub record IsNarrowDual (s : System) (price : Move → ℤ) (x : Values) (size : ℕ) : Type 0 where

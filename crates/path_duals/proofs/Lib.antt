@@ -1,4 +1,5 @@
 pub mod BlockedLemmas
+pub mod LongLemmas
 pub mod PlainLemmas
 pub mod PotentialLemmas
 pub mod HoldLemmas

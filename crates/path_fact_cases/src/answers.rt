@@ -5,8 +5,8 @@ ghost use Rattle.code_flow_system.specs.Certificates.{IsInForm};
 ghost use Rattle.code_flow_system.specs.Systems.{IsSystemOf};
 ghost use Rattle.path_places.specs.Reached.{AreReached};
 ghost use Rattle.path_conditions.specs.Natural.{IsNaturalFact};
-ghost use Rattle.path_best.specs.Facts.{fact_low};
-ghost use Rattle.path_fact_fit.specs.Conditions.{IsSearchable};
+ghost use Rattle.path_cert.specs.Priced.{fact_low};
+ghost use Rattle.path_conditions.specs.Walking.{IsSearchable};
 ghost use Rattle.path_fact_columns.specs.Laws.{AreBest};
 ghost use Rattle.path_fact_cases.specs.Asked.{AreAsked};
 

@@ -30,13 +30,13 @@ use Rattle.path_cert.specs.Certificates.{entry_worth}
 use Rattle.path_cert.proofs.PartLemmas.{potentials_ascend}
 use Rattle.path_walks.specs.declared.walks.Settled.{Settled}
 use Rattle.path_values.specs.Laws.{AreNarrow as AreNarrowRows}
-use Rattle.path_search.proofs.SearchLemmas.{worths_long}
-use Rattle.path_best.specs.Priced.{fact_price, fact_size, fact_prices}
-use Rattle.path_best.specs.Facts.{fact_most, fact_low, fact_numbers}
+use Rattle.path_duals.proofs.LongLemmas.{worths_long}
+use Rattle.path_cert.specs.Priced.{fact_price, fact_size, fact_prices, fact_most, fact_low}
+use Rattle.path_best.specs.Facts.{fact_numbers}
 use Rattle.path_best.proofs.FactLemmas.{facts_bounded}
 use Rattle.path_fact_walks.specs.Plain.{values_in, plain_with, cert_by, AreAddable}
 use Rattle.path_fact_walks.specs.Sizes.{AreMultiplied}
-use Rattle.path_fact_fit.specs.Conditions.{IsSearchable}
+use Rattle.path_conditions.specs.Walking.{IsSearchable}
 use Rattle.path_fact_columns.specs.Conditions.{AreNarrow}
 use Rattle.path_fact_columns.specs.Answers.{worth_at, certificate_at}
 use Rattle.path_fact_columns.proofs.WalkLemmas.{numbers_narrow, whole_below}

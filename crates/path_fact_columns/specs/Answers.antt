@@ -10,9 +10,8 @@ use Rattle.code_flow_system.specs.Systems.{System}
 use Rattle.code_flow_system.specs.Counts.{Amounts}
 use Rattle.code_flow_system.specs.Certificates.{IsPart, PartsAscend}
 use Rattle.path_flows.specs.Flows.{amounts_of, parts_of}
-use Rattle.path_best.specs.Best.{best_worth, best_flow}
-use Rattle.path_best.specs.Priced.{fact_prices, fact_certificate}
-use Rattle.path_best.specs.Facts.{fact_low}
+use Rattle.path_cert.specs.Best.{best_worth, best_flow}
+use Rattle.path_cert.specs.Priced.{fact_prices, fact_certificate, fact_low}
 use Rattle.path_fact_columns.specs.declared.answering.Answer.{Answer}
 
 abbrev pub worth_at : Table → System → List LoopShape → List Span → ℕ → List ℤ → ℤ

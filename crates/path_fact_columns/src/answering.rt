@@ -3,10 +3,9 @@ ghost use Rattle.std.specs.Prelude.{◌≡◌, ◌*◌, ◌<◌, ◌^◌, ◌<�
 ghost use Rattle.std.specs.Int.RustNames.{int_lt};
 ghost use Rattle.rv_core.specs.Table.{table_of};
 ghost use Rattle.path_cert.specs.Certificates.{entry_worth};
-ghost use Rattle.path_best.specs.Priced.{fact_price};
-ghost use Rattle.path_best.specs.Facts.{fact_low};
+ghost use Rattle.path_cert.specs.Priced.{fact_price, fact_low};
 ghost use Rattle.path_fact_walks.specs.Plain.{AreAddable, cert_by, values_in};
-ghost use Rattle.path_fact_fit.specs.Conditions.{IsSearchable};
+ghost use Rattle.path_conditions.specs.Walking.{IsSearchable};
 ghost use Rattle.path_fact_columns.specs.Conditions.{AreNarrow};
 ghost use Rattle.path_fact_columns.specs.Answers.{answer_of};
 ghost use Rattle.path_fact_columns.specs.Laws.{IsAnswer};

@@ -11,7 +11,7 @@ use Rattle.path_limits.specs.Narrow.{FetchesCost, HasShortBounds}
 use Rattle.path_search.proofs.ConditionLemmas.{backs_free}
 use Rattle.path_search.proofs.SearchLemmas.{within_all}
 use Rattle.path_conditions.specs.Searching.{CanSearch}
-use Rattle.path_fact_fit.specs.Conditions.{IsSearchable}
+use Rattle.path_conditions.specs.Walking.{IsSearchable}
 
 pub conditions_hold : (t : Table) (s : System) (ls : List LoopShape) (ps : List Span) → IsSystem s → AreReached s → CanSearch t s ls ps → FetchesCost t → All HasShortBounds s.claims.loops → claim_count s.claims < 2 ^ 32 → IsSearchable t s ls ps
 conditions_hold t s ls ps system reached can fetches short few = record {

@@ -4,7 +4,7 @@ ghost use Rattle.rv_core.specs.Table.{table_of};
 ghost use Rattle.path_places.specs.Reached.{AreReached};
 ghost use Rattle.path_limits.specs.Narrow.{HasShortBounds};
 ghost use Rattle.path_conditions.specs.Searching.{CanSearch};
-ghost use Rattle.path_fact_fit.specs.Conditions.{IsSearchable};
+ghost use Rattle.path_conditions.specs.Walking.{IsSearchable};
 
 use code_flow_system::{LoopClaim, LoopShape, Span, System};
 use rv_core::Costs;

@@ -2,7 +2,7 @@
 ghost use Rattle.std.specs.Prelude.{◌≡◌, ◌<◌, ◌≤◌, ◌^◌, length, slice_index_or, IfOk, All};
 ghost use Rattle.rv_core.specs.Table.{table_of};
 ghost use Rattle.path_pivot_ends.specs.Weighted.{numerator};
-ghost use Rattle.path_fact_fit.specs.Conditions.{IsSearchable};
+ghost use Rattle.path_conditions.specs.Walking.{IsSearchable};
 ghost use Rattle.path_fact_columns.specs.Answers.{AreParts, parts_at};
 ghost use Rattle.path_fact_mixed.specs.Adding.{no_multipliers, mixed_parts, AreAsked, AreWeights};
 

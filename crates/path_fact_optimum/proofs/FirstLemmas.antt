@@ -16,11 +16,11 @@ use Rattle.code_flow_system.specs.Flows.{IsFlow, price, value}
 use Rattle.path_loose.proofs.TotalLemmas.{total_least}
 use Rattle.path_answer.specs.declared.bounded.Column.{Column}
 use Rattle.path_counts.specs.Free.{free}
-use Rattle.path_best.specs.Priced.{fact_price, fact_total, fact_prices}
-use Rattle.path_best.specs.Facts.{fact_low, IsFactFlow, HasFactFlow}
+use Rattle.path_cert.specs.Priced.{fact_price, fact_total, fact_prices, fact_low}
+use Rattle.path_best.specs.Facts.{IsFactFlow, HasFactFlow}
 use Rattle.path_best.proofs.PricedLemmas.{prices_pay}
 use Rattle.path_fact_kinds.specs.Columns.{totals_of, column_of, multiplied, weighed, IsBest}
-use Rattle.path_fact_fit.specs.Conditions.{IsSearchable}
+use Rattle.path_conditions.specs.Walking.{IsSearchable}
 use Rattle.path_fact_columns.specs.Conditions.{AreNarrow}
 use Rattle.path_fact_columns.specs.Answers.{flow_at, worth_at}
 use Rattle.path_fact_columns.proofs.WalkLemmas.{flow_there, answer_there}

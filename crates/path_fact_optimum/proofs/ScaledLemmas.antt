@@ -15,7 +15,7 @@ use Rattle.path_pivot_rows.specs.Rows.{Row, entry, divisor, reduced}
 use Rattle.path_pivot_rows.proofs.RowLemmas.{Times, reduced_times, reduced-long, times_entry, divisor_positive, factor_positive, sign_of}
 use Rattle.path_pivot_ends.specs.Multiplied.{sides_in, duals, head_of, tail_of}
 use Rattle.path_pivot_laws.specs.Laws.{HasSign, HaveSigns}
-use Rattle.path_best.specs.Priced.{fact_total}
+use Rattle.path_cert.specs.Priced.{fact_total}
 use Rattle.path_fact_kinds.specs.Columns.{ops_of}
 
 -- ---- the numbers of a row behind the first

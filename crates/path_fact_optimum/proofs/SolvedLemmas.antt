@@ -15,7 +15,7 @@ use Rattle.code_flow_system.specs.Counts.{Amounts, amount, count, inflow, KeepsF
 use Rattle.code_flow_system.specs.Flows.{IsFlow, price, value}
 use Rattle.code_flow_system.specs.Loose.{IsLoose}
 use Rattle.code_flow_system.specs.Certificates.{listed, potential, IsGreatest, IsNarrow, IsSmall, Accepts, IsInForm}
-use Rattle.code_flow_system.proofs.LooseLemmas.{flows_are_loose}
+use Rattle.code_flow_system.proofs.LooseLemmas.{flows_are_loose, goes_back}
 use Rattle.path_places.specs.Laws.{IsReachedWhole}
 use Rattle.path_duals.proofs.PotentialLemmas.{all_of}
 use Rattle.path_duals.proofs.RowLemmas.{potential_place}
@@ -24,7 +24,6 @@ use Rattle.path_flows.proofs.SumLemmas.{AreAmounts}
 use Rattle.path_flows.proofs.ConservedLemmas.{listed_amounts}
 use Rattle.path_limits.proofs.NarrowLemmas.{counts_below}
 use Rattle.path_cert.proofs.PartLemmas.{parts_ascend, parts_positive, parts_there, parts_are}
-use Rattle.path_bound.proofs.BoundLemmas.{goes_back}
 use Rattle.path_loose.proofs.TotalLemmas.{leaves, count-total, total_least}
 use Rattle.path_loose.proofs.PartLemmas.{same_least}
 use Rattle.path_answer.specs.declared.bounded.Column.{Column}
@@ -40,15 +39,15 @@ use Rattle.path_pivot_ends.proofs.NarrowLemmas.{narrow_says, all_narrow_say}
 use Rattle.path_pivot_laws.specs.Laws.{IsWeighing, HaveSigns, column_at, over}
 use Rattle.path_pivot_keeps.proofs.TableLemmas.{all_at}
 use Rattle.path_counts.specs.Free.{free}
-use Rattle.path_best.specs.Priced.{fact_prices, fact_certificate, AreMultipliers}
+use Rattle.path_cert.specs.Priced.{fact_prices, fact_certificate, AreMultipliers, fact_low}
 use Rattle.path_conditions.specs.Natural.{both_totals}
-use Rattle.path_best.specs.Facts.{fact_low, IsFactFlow}
+use Rattle.path_best.specs.Facts.{IsFactFlow}
 use Rattle.path_best.proofs.PricedLemmas.{prices_pay}
 use Rattle.path_best.proofs.BestLemmas.{free_loose}
 use Rattle.path_fact_mixes.specs.Mixes.{Share, mix, often}
 use Rattle.path_fact_mixes.proofs.MixLemmas.{all_flows}
 use Rattle.path_fact_kinds.specs.Columns.{ops_of}
-use Rattle.path_fact_fit.specs.Conditions.{IsSearchable}
+use Rattle.path_conditions.specs.Walking.{IsSearchable}
 use Rattle.path_fact_columns.specs.Conditions.{AreNarrow}
 use Rattle.path_fact_columns.specs.Answers.{worth_at}
 use Rattle.path_fact_mixed.specs.Adding.{AreAsked, no_multipliers, flow_of, shares, amounts_in, mixed_parts}

@@ -17,10 +17,9 @@ use Rattle.path_pivot_ends.specs.Limits.{is_narrow}
 use Rattle.path_pivot_ends.specs.Multiplied.{objective_place, second_multipliers, are_narrow}
 use Rattle.path_pivot_ends.specs.Weighted.{weights_of, denominator, numerator}
 use Rattle.path_pivot_laws.specs.Laws.{IsOptimum, column_at}
-use Rattle.path_best.specs.Priced.{fact_certificate}
-use Rattle.path_best.specs.Facts.{fact_low}
+use Rattle.path_cert.specs.Priced.{fact_certificate, fact_low}
 use Rattle.path_fact_kinds.specs.Columns.{column_of, IsBest, multiplied, ops_of}
-use Rattle.path_fact_fit.specs.Conditions.{IsSearchable}
+use Rattle.path_conditions.specs.Walking.{IsSearchable}
 use Rattle.path_fact_columns.specs.Conditions.{AreNarrow}
 use Rattle.path_fact_columns.specs.Answers.{flow_at, worth_at}
 use Rattle.path_fact_mixed.specs.Adding.{AreAsked, flow_of, mixed_parts}

@@ -22,12 +22,11 @@ use Rattle.path_answer.specs.declared.bounded.Kind.{Kind}
 use Rattle.path_answer.specs.declared.bounded.Kind.TheVariants as kinds
 use Rattle.path_pivot_ends.specs.declared.pricing.Multipliers.{Multipliers}
 use Rattle.path_pivot_rounds.specs.Rounds.{IsColumnOf}
-use Rattle.path_best.specs.Priced.{fact_certificate}
-use Rattle.path_best.specs.Facts.{fact_low}
+use Rattle.path_cert.specs.Priced.{fact_certificate, fact_low}
 use Rattle.path_conditions.specs.Bounding.{CanBound}
 use Rattle.path_search.specs.Kinds.{IsMarked}
 use Rattle.path_conditions.specs.Searching.{CanSearch}
-use Rattle.path_fact_fit.specs.Conditions.{IsSearchable}
+use Rattle.path_conditions.specs.Walking.{IsSearchable}
 use Rattle.path_fact_kinds.specs.Columns.{totals_of, column_of, multiplied, weighed, IsBest}
 use Rattle.path_fact_columns.specs.Conditions.{AreNarrow}
 use Rattle.path_fact_columns.specs.Answers.{flow_at, worth_at}

@@ -28,7 +28,7 @@ use Rattle.path_pivot_ends.proofs.NarrowLemmas.{narrow_says, all_narrow_say}
 use Rattle.path_pivot_laws.specs.Laws.{HasSign, HaveSigns, IsOptimum, IsInfeasible, column_at}
 use Rattle.path_best.proofs.BestLemmas.{free_loose}
 use Rattle.path_fact_kinds.specs.Columns.{ops_of, totals_of, column_of, multiplied, IsBest}
-use Rattle.path_fact_fit.specs.Conditions.{IsSearchable}
+use Rattle.path_conditions.specs.Walking.{IsSearchable}
 use Rattle.path_fact_columns.specs.Conditions.{AreNarrow}
 use Rattle.path_fact_columns.specs.Answers.{flow_at, worth_at}
 use Rattle.path_fact_mixed.specs.Adding.{AreAsked}

@@ -21,13 +21,12 @@ use Rattle.path_duals.proofs.RowLemmas.{potential_place}
 use Rattle.path_loose.proofs.TotalLemmas.{leaves, count-total, total_least}
 use Rattle.path_loose.proofs.PartLemmas.{same_least}
 use Rattle.path_pivot_rounds.specs.Rounds.{IsColumnOf}
-use Rattle.path_best.specs.Priced.{fact_prices, fact_certificate}
+use Rattle.path_cert.specs.Priced.{fact_prices, fact_certificate, fact_low}
 use Rattle.path_conditions.specs.Natural.{AreNatural, IsNaturalFact, both_totals}
-use Rattle.path_best.specs.Facts.{fact_low}
 use Rattle.path_best.proofs.PricedLemmas.{prices_pay}
 use Rattle.path_fact_mixes.specs.Laws.{total_of}
 use Rattle.path_fact_kinds.specs.Columns.{totals_of, column_of, multiplied, IsBest}
-use Rattle.path_fact_fit.specs.Conditions.{IsSearchable}
+use Rattle.path_conditions.specs.Walking.{IsSearchable}
 use Rattle.path_fact_columns.specs.Conditions.{AreNarrow}
 use Rattle.path_fact_columns.specs.Answers.{certificate_at, flow_at, parts_at, worth_at, answer_of}
 use Rattle.path_fact_columns.specs.declared.answering.Answer.{Answer}

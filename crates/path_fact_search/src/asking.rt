@@ -2,7 +2,7 @@
 ghost use Rattle.std.specs.Prelude.{◌≡◌, ◌<◌, ◌<ℤ◌, ◌≤ℤ◌, pos, true, false, IfOk, All};
 ghost use Rattle.rv_core.specs.Table.{table_of};
 ghost use Rattle.code_flow_system.specs.Certificates.{fact_limits, IsSigned};
-ghost use Rattle.path_fact_fit.specs.Conditions.{IsSearchable};
+ghost use Rattle.path_conditions.specs.Walking.{IsSearchable};
 ghost use Rattle.path_fact_columns.specs.Answers.{answer_of};
 ghost use Rattle.path_fact_columns.specs.Conditions.{AreNarrow};
 ghost use Rattle.path_fact_columns.specs.Laws.{IsAnswer};

@@ -8,7 +8,7 @@ ghost use Rattle.path_pivot_rounds.specs.Rounds.{IsColumnOf, round_over};
 ghost use Rattle.path_pivot_ends.specs.Multiplied.{side_count, width};
 ghost use Rattle.path_pivot_laws.specs.Laws.{EndsWell};
 ghost use Rattle.path_fact_kinds.specs.Columns.{ops_of};
-ghost use Rattle.path_fact_fit.specs.Conditions.{IsSearchable};
+ghost use Rattle.path_conditions.specs.Walking.{IsSearchable};
 ghost use Rattle.path_fact_kinds.specs.Kinds.{IsFound};
 ghost use Rattle.path_fact_search.specs.Marks.{found, least_of};
 ghost use Rattle.path_fact_search.specs.Steps.{HasFewRows, IsBegun};

@@ -8,7 +8,7 @@ ghost use Rattle.path_pivot_tables.specs.Shapes.{HasEnded, IsShaped, NoneNegativ
 ghost use Rattle.path_pivot_ends.specs.Multiplied.{objective_place, side_count, width};
 ghost use Rattle.path_pivot_laws.specs.Laws.{column_at, EndsWell, IsInfeasible, IsOptimum};
 ghost use Rattle.path_fact_kinds.specs.Columns.{ops_of};
-ghost use Rattle.path_fact_fit.specs.Conditions.{IsSearchable};
+ghost use Rattle.path_conditions.specs.Walking.{IsSearchable};
 ghost use Rattle.path_fact_optimum.specs.Laws.{AreAnswers};
 ghost use Rattle.path_fact_search.specs.Steps.{AreFirst, HasFewRows, IsStep, IsStill};
 

@@ -26,7 +26,7 @@ use Rattle.path_values.specs.Owed.{owed_by, larger_of, most_by, owe_at, nevers_b
 use Rattle.path_values.specs.Laws.{AreNarrow}
 use Rattle.path_values.proofs.ValueLemmas.{nevers_are, loops_are}
 use Rattle.path_walks.specs.declared.walks.Settled.{Settled}
-use Rattle.path_best.specs.Priced.{fact_price}
+use Rattle.path_cert.specs.Priced.{fact_price}
 use Rattle.path_fact_walks.specs.Plain.{plain_with, cert_by, AreAddable}
 
 nothing_held : (cs : List Never) (n : ℕ) (a : ℕ) → held (never_limits cs (replicate n (pos 0))) a ≡ pos 0

@@ -7,7 +7,7 @@ ghost use Rattle.path_flows.specs.Flows.{amounts_of, parts_of};
 ghost use Rattle.path_places.specs.Laws.{IsReachedWhole};
 ghost use Rattle.path_rows.specs.Driver.{blank};
 ghost use Rattle.path_walks.specs.Sizes.{AllStaySmall};
-ghost use Rattle.path_best.specs.Priced.{fact_prices};
+ghost use Rattle.path_cert.specs.Priced.{fact_prices};
 ghost use Rattle.path_fact_walks.specs.Sizes.{AreMultiplied};
 
 use crate::pricing::{Multiplied, prices};

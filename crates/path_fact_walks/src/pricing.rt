@@ -4,8 +4,7 @@ ghost use Rattle.frac128.specs.Terms.{coefficient};
 ghost use Rattle.rv_core.specs.Table.{table_of};
 ghost use Rattle.code_flow_system.specs.Systems.{IsPlaced};
 ghost use Rattle.code_flow_system.specs.Certificates.{fact_limits, held};
-ghost use Rattle.path_best.specs.Priced.{fact_price};
-ghost use Rattle.path_best.specs.Facts.{sizes_of, fact_low};
+ghost use Rattle.path_cert.specs.Priced.{fact_price, sizes_of, fact_low};
 ghost use Rattle.path_fact_walks.specs.Sizes.{IsLimited, AreMultiplied};
 
 use code_flow_lookup::move_cost;

@@ -6,7 +6,7 @@ ghost use Rattle.path_duals.specs.Duals.{final_level, final_pairs};
 ghost use Rattle.path_places.specs.Laws.{IsReachedWhole};
 ghost use Rattle.path_rows.specs.Driver.{blank};
 ghost use Rattle.path_walks.specs.Sizes.{AllStaySmall};
-ghost use Rattle.path_best.specs.Priced.{fact_prices};
+ghost use Rattle.path_cert.specs.Priced.{fact_prices};
 ghost use Rattle.path_fact_walks.specs.Sizes.{AreMultiplied};
 
 use crate::pricing::{Multiplied, prices};

@@ -1,9 +1,10 @@
 -- Sums of the amounts of moves: what a function adds to them.
-use Rattle.std.proofs.Common.{◌≡◌, ℕ, zero, suc, ◌+◌, ◌<◌, ℤ, pos, arith, refl, sym, ap, ◌∙◌, subst, List, [], ◌∷◌, ◌++◌, length, Contains, inl, inr, Bool, true, false, cond, Option, Some, None}
+use Rattle.std.proofs.Common.{◌≡◌, ℕ, zero, suc, ◌+◌, ◌^◌, ◌<◌, ℤ, pos, ◌*ℤ◌, ◌<ℤ◌, arith, refl, sym, ap, ◌∙◌, subst, List, [], ◌∷◌, ◌++◌, length, Contains, All, inl, inr, Bool, true, false, cond, Option, Some, None}
 use Rattle.std.specs.Prelude.{◌==◌, slice_set}
 use Rattle.std.specs.Option.{option_to_list}
 use Rattle.std.proofs.lemmas.Int.{ints}
 use Rattle.std.proofs.lemmas.Bool.Decides.{eqb_tells}
+use Rattle.std.proofs.lemmas.List.Elements.{All-cons, All-nil}
 use Rattle.std.proofs.Math.ListN.{length-set}
 use Rattle.frac128.specs.Terms.{coefficient}
 use Rattle.frac128.proofs.TermsLemmas.{coefficient-append}
@@ -292,3 +293,16 @@ arrivals_sum x (m ∷ ms) (u ∷ us) a h =
     let d = arrives_at m.to m.behind (x m.at m.number) a in
     let e = ap (λ n. cond (is_first (onward m) a) n 0) h.0 in
     let f = ap (λ n. cond (calls_to a m) n 0) h.0 in omega (arith, ints)
+
+pub one_unit : (z : ℤ) (k : ℕ) → z <ℤ (pos 1 *ℤ pos k) → z <ℤ pos k
+one_unit z k h = omega (arith, ints)
+
+-- listed amounts below 2^60
+pub amounts_below : (x : Amounts) (ms : List Move) (us : List ℕ) → length us ≡ length ms → AreAmounts x ms us → ((m : Move) → Contains ms m → amount x m <ℤ pos (2 ^ 60)) → All (λ u. u < 2 ^ 60) us
+amounts_below x [] [] long are h = All-nil (λ u. u < 2 ^ 60)
+amounts_below x [] (u ∷ us) long are h = absurd (omega (arith, long))
+amounts_below x (m ∷ ms) [] long are h = absurd (omega (arith, long))
+amounts_below x (m ∷ ms) (u ∷ us) long are h = All-cons (λ u. u < 2 ^ 60) u us (below (h m (zero, omega arith, refl)) are.0) (amounts_below x ms us (omega (arith, long)) are.1 (λ k i. h k (suc i.0, omega (arith, i.1), i.2)))
+  where
+    below : pos (x m.at m.number) <ℤ pos (2 ^ 60) → x m.at m.number ≡ u → u < 2 ^ 60
+    below a b = let c : x m.at m.number < 2 ^ 60 = omega (arith, ints) in omega (arith, c, b)

@@ -13,8 +13,7 @@ use Rattle.code_flow_system.specs.Flows.{price}
 use Rattle.loop_ranges.specs.Near.{IsUpTo}
 use Rattle.loop_ranges.specs.Reach.{reach}
 use Rattle.path_ranges.specs.Bounded.{StartsBelow, IsBounded}
-use Rattle.path_ranges.specs.Ranges.{loop_step}
-use Rattle.path_sizes.specs.Sizes.{IsEnough}
+use Rattle.path_ranges.specs.Ranges.{loop_step, IsEnough}
 use Rattle.path_limits.specs.Limits.{cost_prices, IsLoopWithin, IsLimited, IsCostBounded, CostsAreBounded}
 
 -- what so many loops reach

@@ -11,7 +11,7 @@ use Rattle.code_flow_system.specs.Loose.{IsLoose}
 use Rattle.path_places.specs.Laws.{IsReachedWhole}
 use Rattle.path_rows.specs.Driver.{Prices}
 use Rattle.path_ranges.specs.Bounded.{IsBounded}
-use Rattle.path_sizes.specs.Sizes.{IsEnough}
+use Rattle.path_ranges.specs.Ranges.{IsEnough}
 
 -- what moves cost, and a block that costs four times what a loose flow can
 abbrev pub cost_prices : Table → System → Prices

@@ -37,6 +37,10 @@ loop_step q most starts = ((most +ℤ most) -ℤ q.low) +ℤ pos starts
 abbrev pub IsLevelWithin : System → Prices → ℤ → ℕ → Level → Type 0
 IsLevelWithin s q most starts v = (a : ℕ) → (q.low ≤ℤ worth_at v.worths a) × (worth_at v.worths a ≤ℤ reach (loop_step q most starts) most (length s.claims.loops))
 
+-- enough for all loops: what their worths reach, and twice a block, the greatest loose number and the most starts beside
+abbrev pub IsEnough : System → Prices → ℤ → ℕ → ℤ → Type 0
+IsEnough s q most starts size = (reach (loop_step q most starts) most (length s.claims.loops) +ℤ ((most -ℤ (q.low +ℤ q.low)) +ℤ pos starts)) ≤ℤ size
+
 -- at any prices
 abbrev pub WalksAreBounded : System → List LoopShape → List Span → Type 0
 WalksAreBounded s ls ps = (q : Prices) (price : Move → ℤ) (most : ℤ) (starts : ℕ) → IsBounded s ls ps q price most starts → FunctionsAreLoose s ls q most starts (blank (length s.moves) q.low) ps

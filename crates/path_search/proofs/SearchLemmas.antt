@@ -1,5 +1,5 @@
 -- What a search finds is the certificate of the walks.
-use Rattle.std.proofs.Common.{rules, ◌≡◌, ℕ, zero, suc, ◌*◌, ◌<◌, ◌/◌, ◌^◌, ℤ, pos, neg_ℤ, ◌*ℤ◌, ◌≤ℤ◌, ◌<ℤ◌, arith, refl, sym, ap, ◌∙◌, subst, List, [], ◌∷◌, ◌++◌, length, Contains, All, Bool, true, false, cond, Option, Some, None, unsigned_abs, length-append}
+use Rattle.std.proofs.Common.{rules, ◌≡◌, ℕ, zero, suc, ◌*◌, ◌<◌, ◌/◌, ◌^◌, ℤ, pos, neg_ℤ, ◌*ℤ◌, ◌≤ℤ◌, ◌<ℤ◌, arith, refl, sym, ap, ◌∙◌, subst, List, [], ◌∷◌, ◌++◌, length, All, Bool, true, false, cond, Option, Some, None, unsigned_abs}
 use lib.IntN.{negsuc}
 use Rattle.std.specs.Prelude.{MatchOption}
 use Rattle.std.specs.Option.{IsSome}
@@ -28,11 +28,9 @@ use Rattle.code_flow_system.specs.Certificates.{Limit, never_limits, loop_limits
 use Rattle.loop_walks.specs.declared.step.Pair.{Pair}
 use Rattle.loop_walks.specs.Levels.{Level, level_of}
 use Rattle.path_places.specs.Reached.{AreReached}
-use Rattle.path_places.specs.Laws.{IsReachedWhole, function_steps}
-use Rattle.path_rows.specs.Driver.{Prices, blank, function_loops, function_level, functions_level}
-use Rattle.path_rows.proofs.DriverLemmas.{fits_function}
+use Rattle.path_places.specs.Laws.{IsReachedWhole}
 use Rattle.path_duals.specs.Duals.{Values, values_of, potentials_of, both_of, never_multipliers, loop_multipliers, final_level, final_pairs}
-use Rattle.path_duals.proofs.BlockedLemmas.{settled_long}
+use Rattle.path_duals.proofs.LongLemmas.{worths_long}
 use Rattle.path_duals.proofs.PotentialLemmas.{potential_at}
 use Rattle.path_flows.specs.Flows.{amounts_of, parts_of}
 use Rattle.path_counts.specs.Laws.{HasBounds}
@@ -161,21 +159,6 @@ module _ (t : Table) (s : System) (x : Values) (c : Cert) (able : AreAddable t s
 
   pub loops_found : (ps : List Pair) → ps ≡ x.pairs → loops_by (owe_at t s c) s.claims.loops ps ≡ Some (loop_multipliers s (price t s) x)
   loops_found ps e = ap (λ (y : Cert). loops_by (owe_at t s y) s.claims.loops ps) is ∙ (ap (λ (y : List Pair). loops_by (owe_at t s (plain_by s x)) s.claims.loops y) e ∙ (multipliers_of t s x able.narrow).1)
-
--- ---- there is a worth for each place
-
-module _ (s : System) (ls : List LoopShape) (ps : List Span) (whole : IsReachedWhole s ls ps) (q : Prices) (negative : q.low ≤ℤ pos 0) where
-  functions_long : (v : Level) (rs : List Span) → ((r : Span) → Contains rs r → Contains ps r) → length (functions_level s ls q v rs).worths ≡ length v.worths
-  functions_long v [] i = refl
-  functions_long v (r ∷ rs) i =
-      functions_long (function_level s ls q v r) rs (λ p k. i p (suc k.0, (let j = k.1 in omega (arith, j)), k.2))
-      ∙ settled_long q.low (length s.moves) (function_steps s ls q.of v.worths r) (fits_function s ls ps whole q v.worths r (i r (zero, omega arith, refl))).0 negative v (function_loops s ls q v.worths r)
-
-  pub worths_long : length s.moves < length (final_level s ls ps q).worths
-  worths_long =
-      let e = functions_long (blank (length s.moves) q.low) ps (λ r k. k) in
-      let a = length-append (replicate (length s.moves) q.low) (pos 0 ∷ []) in
-      let b = length-replicate (length s.moves) q.low in omega (arith, e, a, b)
 
 -- ---- the marked certificate
 

@@ -14,11 +14,11 @@ use Rattle.path_places.specs.Laws.{function_steps}
 use Rattle.path_rows.specs.Driver.{Prices, blank, function_loops, function_level}
 use Rattle.path_rows.proofs.DriverLemmas.{zero_at}
 use Rattle.path_ranges.specs.Bounded.{IsBounded}
-use Rattle.path_ranges.specs.Ranges.{IsLooseFunction, FunctionsAreLoose, loop_step}
+use Rattle.path_ranges.specs.Ranges.{IsLooseFunction, FunctionsAreLoose, loop_step, IsEnough}
 use Rattle.path_ranges.proofs.CountLemmas.{kept, loops-kept, all_kept, all_kept_most, reach_least, reach-add, reach_grows}
 use Rattle.path_ranges.proofs.WorthRanges.{AreAbove, step_positive, ground_below, function_below, function_above, blank_within}
 use Rattle.path_ranges.proofs.SystemRanges.{walks_bounded}
-use Rattle.path_sizes.specs.Sizes.{AllStaySmall, AllAreSized, IsEnough, NumbersFit}
+use Rattle.path_sizes.specs.Sizes.{AllStaySmall, AllAreSized, NumbersFit}
 
 small_of_sized : (s : System) (ls : List LoopShape) (q : Prices) (size : ℤ) (v : Level) (rs : List Span) → AllAreSized s ls q size v rs → AllStaySmall s ls q v rs
 small_of_sized s ls q size v [] h = tt

@@ -1,17 +1,16 @@
 -- Numbers that fit: all through the settling of a system.
-use Rattle.std.specs.Prelude.{ℕ, ◌^◌, ℤ, pos, ◌+ℤ◌, ◌-ℤ◌, ◌≤ℤ◌, ◌<ℤ◌, List, [], ◌∷◌, length}
+use Rattle.std.specs.Prelude.{ℕ, ◌^◌, ℤ, pos, ◌<ℤ◌, List, [], ◌∷◌, length}
 use Rattle.code_flow_system.specs.declared.moves.Move.{Move}
 use Rattle.code_flow_system.specs.declared.shapes.LoopShape.{LoopShape}
 use Rattle.code_flow_system.specs.declared.shapes.Span.{Span}
 use Rattle.code_flow_system.specs.Systems.{System}
 use Rattle.loop_walks.specs.Levels.{Level}
-use Rattle.loop_ranges.specs.Reach.{reach}
 use Rattle.loop_worths.specs.Sizes.{StaysSmall}
 use Rattle.loop_sizes.specs.Laws.{IsSized}
 use Rattle.path_places.specs.Laws.{function_steps}
 use Rattle.path_rows.specs.Driver.{Prices, blank, function_loops, function_level}
 use Rattle.path_ranges.specs.Bounded.{IsBounded}
-use Rattle.path_ranges.specs.Ranges.{loop_step}
+use Rattle.path_ranges.specs.Ranges.{IsEnough}
 
 abbrev pub AllStaySmall : System → List LoopShape → Prices → Level → List Span → Type 0
 AllStaySmall s ls q v [] = Unit {0}
@@ -21,10 +20,6 @@ AllStaySmall s ls q v (p ∷ ps) = StaysSmall q.low (function_steps s ls q.of v.
 abbrev pub AllAreSized : System → List LoopShape → Prices → ℤ → Level → List Span → Type 0
 AllAreSized s ls q size v [] = Unit {0}
 AllAreSized s ls q size v (p ∷ ps) = IsSized q.low size (function_steps s ls q.of v.worths p) v (function_loops s ls q v.worths p) × AllAreSized s ls q size (function_level s ls q v p) ps
-
--- enough for all loops: what their worths reach, and twice a block, the greatest loose number and the most starts beside
-abbrev pub IsEnough : System → Prices → ℤ → ℕ → ℤ → Type 0
-IsEnough s q most starts size = (reach (loop_step q most starts) most (length s.claims.loops) +ℤ ((most -ℤ (q.low +ℤ q.low)) +ℤ pos starts)) ≤ℤ size
 
 -- at any prices
 abbrev pub NumbersFit : System → List LoopShape → List Span → Type 0

@@ -12,7 +12,7 @@ use Rattle.types_rules.specs.Specifiers.{kind_spelled}
 use Rattle.types_rules.specs.declared.fault.Rule.TheVariants as rules
 use Rattle.c_tree.specs.Size.{size_unit}
 use Rattle.c_tree.specs.Tree.{Row, Nothing, Then, External, Restriction, Declaring, Function, Whole}
-use Rattle.c_types.specs.Typed.{fault_behind}
+use Rattle.types_rules.specs.Typed.{fault_behind}
 use Rattle.types_value.specs.Kinds.{same_kind}
 use Rattle.types_value.specs.declared.kind.Kind.TheVariants.{Int}
 use Rattle.high_ir.specs.declared.object.Kind.{Kind}

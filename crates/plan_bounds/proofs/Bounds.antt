@@ -24,7 +24,7 @@ use Rattle.types_value.specs.declared.kind.Kind.TheVariants as types
 use Rattle.types_rules.specs.Limits.{global_bytes, global_bytes_of, local_bytes, local_bytes_of, object_bytes}
 use Rattle.types_rules.specs.Scope.{started}
 use Rattle.types_rules.specs.Sights.{outline_of}
-use Rattle.c_types.specs.Typed.{IsTypedTree, fault_of, typed_of}
+use Rattle.types_rules.specs.Typed.{IsTypedTree, fault_of, typed_of}
 use Rattle.plan_formed.proofs.Facts.{says}
 use Rattle.plan_memory.specs.Memory.{AllSolid, SolidBy}
 use Rattle.plan_memory.proofs.Growing.{externals_grow}

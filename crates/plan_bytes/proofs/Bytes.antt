@@ -15,8 +15,9 @@ use Rattle.types_rules.specs.Specifiers.{kind_spelled}
 use Rattle.types_rules.specs.Typing.{typed_items}
 use Rattle.types_rules.specs.declared.fault.Fault.{Fault}
 use Rattle.types_rules.specs.declared.fault.TypeFault.TheVariants.{Rule}
-use Rattle.c_types.specs.Typed.{CallsDefined, fault_of, typed_of}
-use Rattle.c_types.proofs.Seals.{calls_defined}
+use Rattle.types_rules.specs.Typed.{fault_of, typed_of}
+use Rattle.types_calls.specs.Calls.{CallsDefined}
+use Rattle.types_seen.proofs.Calls.{calls_defined}
 use Rattle.high_ir.specs.Size.{local_bytes}
 use Rattle.plan_definition.specs.Layouts.{first_of, frame_scalars, homes_of}
 use Rattle.plan_definition.specs.Programs.{between, end_of, function_planned, plan_of, program_planned}

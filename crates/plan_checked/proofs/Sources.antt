@@ -6,7 +6,7 @@ use Rattle.types_calls.specs.Calls.{graph_of}
 use Rattle.types_calls.specs.Chains.{AreRanks}
 use Rattle.facts_definitions.specs.FlowFacts.{AreFacts, IsDerived, flow_facts}
 use Rattle.facts_definitions.specs.declared.facts.Facts.{Facts}
-use Rattle.facts_front.specs.Fronts.{HasFacts, IsSource, derived_for}
+use Rattle.facts_sources.specs.Sources.{HasFacts, IsSource, derived_for}
 use Rattle.c_tree.specs.Named.{named_unit}
 use Rattle.c_tree.specs.Names.{name_of}
 use Rattle.c_tree.specs.Size.{over, size_unit}

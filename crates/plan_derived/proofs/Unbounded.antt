@@ -20,7 +20,7 @@ use Rattle.types_seen.proofs.Fronts.{defined, is_nothing}
 use Rattle.types_seen.specs.Fronts.{Definition, IsDefined, IsFront, begun_by, behind, external_by}
 use Rattle.types_seen.specs.Units.{HasTree, IsUnit}
 use Rattle.types_seen.proofs.Units.{of_tree}
-use Rattle.plan_served.proofs.Sites.{function_at}
+use Rattle.plan_layout.proofs.Fronts.{function_at}
 use Rattle.facts_counting.specs.Counting.{bounds_by, counting, least_turns, turns}
 use Rattle.facts_counting.specs.Loops.{derived_among, derived_by, derived_of, function_loops, functions_loops, items_loops, loops_of, statement_loops, unless_written}
 use Rattle.facts_counting.specs.declared.form.LoopForm.{LoopForm}
@@ -175,7 +175,7 @@ module _ (outline : Outline) (items : Row (External ℕ)) (program : c.Program) 
   has_body : (front : Row (External ℕ)) (d : Definition) → IsFront (Then front (external_by d)) items → (number : ℕ) → Has number (items_sites program.variables (typed_items (kind_spelled d.specifiers) d.body (begun_by d (behind outline front)) c.NoItem)) → Has number (sites_of program)
   has_body front d part number h =
       let now = behind outline front in
-      let own : Has number (external_sites program (typed_external (external_by d) now)) = subst (λ o. Has number (function_sites program.variables o)) (sym (function_at outline items program unit [] [] front d part)) (inr h) in
+      let own : Has number (external_sites program (typed_external (external_by d) now)) = subst (λ o. Has number (function_sites program.variables o)) (sym (function_at outline items program unit front d part)) (inr h) in
       subst (λ l. Has number (externals_sites program l)) (sym unit.items_are) (has_part items number [] front (external_by d) part own)
 
   all_stand : Each (FormStands (sites_of program)) (loops_of program)

@@ -12,13 +12,14 @@ use Rattle.types_tree.specs.declared.variable.Duration.TheVariants.{Automatic, S
 use Rattle.types_tree.specs.declared.variable.Extent.{Extent}
 use Rattle.types_tree.specs.declared.variable.Extent.TheVariants.{Array, Parameter, Scalar}
 use Rattle.types_tree.specs.declared.variable.Variable.{Variable}
-use Rattle.c_types.specs.Typed.{fault_of, typed_of}
+use Rattle.types_rules.specs.Typed.{fault_of, typed_of}
 use Rattle.high_ir.specs.Tree as high
 use Rattle.plan_memory.proofs.Memory.{rules_pass}
 use Rattle.plan_definition.specs.Layouts.{Given, elements_of, first_given, given_object, givens, givens_behind, local_object, object_before, objects_from}
 use Rattle.plan_definition.specs.Programs.{program_planned}
 use Rattle.plan_formed.specs.Checked.{IsChecked}
-use Rattle.plan_elements.specs.Elements.{HasElements, HasSome, SomeBy}
+use Rattle.plan_elements.specs.Elements.{HasSome, SomeBy}
+use Rattle.high_ir.specs.Whole.{HasElements}
 use Rattle.plan_elements.proofs.Sizes.{of_objects, of_parameters}
 use Rattle.plan_elements.proofs.Walk.{externals_keep}
 

@@ -5,7 +5,7 @@ use Rattle.facts_definitions.specs.declared.facts.Facts.{Facts}
 use Rattle.c_tree.specs.Size.{size_unit}
 use Rattle.c_tree.specs.Tree.{TranslationUnit, Whole}
 use Rattle.types_tree.specs.Tree.{Program}
-use Rattle.c_types.specs.Typed.{typed_of}
+use Rattle.types_rules.specs.Typed.{typed_of}
 use Rattle.types_rules.specs.Scope.{started}
 use Rattle.types_rules.specs.Sights.{outline_of}
 use Rattle.high_ir.specs.Size.{program_operations}

@@ -8,7 +8,7 @@ use Rattle.std.proofs.lemmas.List.Elements.{All-append, All-cons, All-head, All-
 use Rattle.std.proofs.lemmas.Option.{none-some}
 use Rattle.c_tree.specs.Size.{size_unit}
 use Rattle.c_tree.specs.Tree.{Row, External, TranslationUnit, Whole}
-use Rattle.types_calls.specs.Calls.{function_calls}
+use Rattle.types_calls.specs.Calls.{function_calls, CallsDefined}
 use Rattle.facts_definitions.specs.FlowFacts.{AreFacts, facts_of, gathered, index_of, known_of, main_of, marker_at, name_id}
 use Rattle.types_tree.specs.Tree.{function_name}
 use Rattle.facts_definitions.specs.Sites.{sites_of}
@@ -22,8 +22,8 @@ use Rattle.types_rules.specs.Scope.{Around, after_row, or_else, started}
 use Rattle.types_rules.specs.Sights.{SeenUnit, after_external, externals_nodes, first_fault, outline_of, unit_nodes}
 use Rattle.types_rules.specs.declared.fault.Fault.{Fault}
 use Rattle.types_rules.specs.declared.fault.TypeFault.TheVariants.{Limit, Rule}
-use Rattle.c_types.specs.Typed.{CallsDefined, fault_of, typed_of}
-use Rattle.c_types.proofs.Seals.{calls_defined, passes_main}
+use Rattle.types_rules.specs.Typed.{fault_of, typed_of}
+use Rattle.types_seen.proofs.Calls.{calls_defined, passes_main}
 use Rattle.high_ir.specs.Formed.{IsHigh, LeavesWithin, RanksFall}
 use Rattle.high_ir.specs.Size.{depth, greatest, program_nodes}
 use Rattle.high_ir.specs.Standing.{marks_of}

@@ -6,7 +6,7 @@ use Rattle.facts_definitions.specs.FlowFacts.{AreFacts, main_of}
 use Rattle.facts_definitions.specs.Most.{most_of, most_within}
 use Rattle.facts_definitions.specs.declared.facts.Facts.{Facts}
 use Rattle.types_tree.specs.Tree as typed
-use Rattle.c_types.specs.Typed.{fault_of, typed_of}
+use Rattle.types_rules.specs.Typed.{fault_of, typed_of}
 use Rattle.high_ir.specs.Runs.{rank_or}
 use Rattle.high_ir.specs.Weight.{reach, reaches, weight, weights}
 use Rattle.plan_definition.specs.Programs.{functions_planned, plan_of, program_planned}

@@ -5,7 +5,7 @@ use Rattle.facts_definitions.specs.declared.facts.Facts.{Facts}
 use Rattle.c_tree.specs.Size.{size_unit}
 use Rattle.c_tree.specs.Tree.{TranslationUnit}
 use Rattle.types_tree.specs.Tree.{Program}
-use Rattle.c_types.specs.Typed.{fault_of, typed_of}
+use Rattle.types_rules.specs.Typed.{fault_of, typed_of}
 
 -- a program is the typed tree of a unit that fails no rule, is within the limits and at most 256 deep, and has these facts
 pub record IsChecked (names : List (List ℕ)) (program : Program) (facts : Facts) : Type 0 where

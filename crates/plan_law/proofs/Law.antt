@@ -9,8 +9,9 @@ use Rattle.facts_definitions.specs.declared.facts.Facts.{Facts}
 use Rattle.meaning_semantics.specs.Runs.{start}
 use Rattle.c_tree.specs.Tree.{TranslationUnit, Whole}
 use Rattle.types_tree.specs.Tree.{Program}
-use Rattle.c_types.specs.Typed.{CallsDefined, fault_of, typed_of}
-use Rattle.c_types.proofs.Seals.{calls_defined}
+use Rattle.types_rules.specs.Typed.{fault_of, typed_of}
+use Rattle.types_calls.specs.Calls.{CallsDefined}
+use Rattle.types_seen.proofs.Calls.{calls_defined}
 use Rattle.types_rules.specs.Scope.{started}
 use Rattle.types_rules.specs.Sights.{outline_of}
 use Rattle.high_ir.specs.Runs.{hrun}

@@ -3,10 +3,12 @@ use Rattle.std.proofs.Common.{◌≡◌, inl, inr, ⊎_elim, refl, ap, ◌∙◌
 use Rattle.std.specs.Prelude.{slice_get}
 use Rattle.std.specs.List.{All}
 use Rattle.std.proofs.lemmas.Bool.{false≢true}
+use Rattle.std.proofs.lemmas.List.{length-map}
 use Rattle.std.proofs.lemmas.List.Elements.{All-append, All-cons, All-head, All-nil, All-tail}
 use Rattle.std.proofs.lemmas.Option.{none-some}
 use Rattle.c_tree.specs.Tree.{Row, Nothing, Then, Object, Declared, Declaration, Objects, Prototype, External, Restriction, Declaring, Function}
 use Rattle.types_tree.specs.Tree as typed
+use Rattle.types_tree.specs.Tree.{function_name}
 use Rattle.types_tree.specs.declared.variable.Variable.{Variable}
 use Rattle.types_rules.specs.DeclarationRules.{Base, after_declaration, after_object, base_of, extent_of, is_filled, routine, with_filling, within_function}
 use Rattle.types_rules.specs.Scope.{Around, Outline, after_row, has_scope, in_block, left, started, with_definition, with_object, with_routine, without_innermost}
@@ -18,8 +20,10 @@ use Rattle.types_seen.proofs.Rules.{NoFault, faultless_first, faultless_second}
 use Rattle.types_seen.proofs.Growing.{external_grows, grows_same, grows_then, in_entered, in_same, inside_items, inside_list, inside_then, without_innermost-push}
 use Rattle.types_seen.specs.Fronts.{Definition, IsDefined, IsFront, begun_by, behind, ended_by, external_by, function_by, functions_of}
 use Rattle.plan_layout.proofs.Homes.{AtLeast, AtMost}
-use Rattle.types_seen.proofs.Lists.{extended, slice_get-cases, slice_get-one}
-use Rattle.types_seen.proofs.Fronts.{begun_block, front_grows, functions_then}
+use Rattle.types_seen.specs.Units.{IsUnit}
+use Rattle.types_seen.proofs.Known.{named}
+use Rattle.types_seen.proofs.Lists.{extended, slice_get-behind, slice_get-cases, slice_get-one}
+use Rattle.types_seen.proofs.Fronts.{begun_block, front_faultless, front_grows, front_less, functions_then}
 
 pub firsts_of-append : (xs ys : List typed.Function) → firsts_of (xs ++ ys) ≡ firsts_of xs ++ firsts_of ys
 firsts_of-append [] ys = refl
@@ -119,3 +123,15 @@ among outline items front d is =
       grows = g2;
       begun = (inside_items d.body (begun_by d now) (begun_block d now)).grows;
     }
+
+-- the function of a definition, by the number that stands for it
+pub function_at : (outline : Outline) (items : Row (External ℕ)) (program : typed.Program) → IsUnit outline items program → (front : Row (External ℕ)) (d : Definition) → IsFront (Then front (external_by d)) items → slice_get program.functions (length (behind outline front).defined) ≡ Some (function_by d (behind outline front))
+function_at outline items program unit front d part =
+    let a = among outline items front d part in
+    let now = behind outline front in
+    let before = functions_of front (started outline) in
+    let n = named outline front (front_faultless outline items front (front_less front (external_by d) items part) unit.faultless) in
+    let many : length now.defined ≡ length before + 0 = let e = ap length (n.defined ∙ sym n.names) in let m = length-map before function_name in omega (arith, e, m) in
+    ap (λ l. slice_get l (length now.defined)) (unit.functions_are ∙ a.functions_are)
+    ∙ ap (slice_get (before ++ function_by d now ∷ a.later)) many
+    ∙ slice_get-behind before (function_by d now ∷ a.later) 0

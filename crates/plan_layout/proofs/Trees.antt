@@ -9,7 +9,7 @@ use Rattle.types_rules.specs.declared.fault.Fault.{Fault}
 use Rattle.types_rules.specs.declared.fault.TypeFault.TheVariants.{Rule as BreaksRule}
 use Rattle.c_tree.specs.Size.{size_unit}
 use Rattle.c_tree.specs.Tree.{Row, External, TranslationUnit, Whole}
-use Rattle.c_types.specs.Typed.{fault_behind, fault_of, typed_of}
+use Rattle.types_rules.specs.Typed.{fault_behind, fault_of, typed_of}
 use Rattle.types_tree.specs.Tree as typed
 use Rattle.plan_expressions.specs.Meets.{IsLayout}
 use Rattle.types_seen.proofs.Rules.{none_first, none_second, parts_keep}

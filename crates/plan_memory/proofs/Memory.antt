@@ -16,7 +16,7 @@ use Rattle.types_rules.specs.Scope.{or_else, started}
 use Rattle.types_rules.specs.Sights.{SeenUnit, externals_nodes, first_fault, outline_of, unit_nodes}
 use Rattle.types_rules.specs.declared.fault.Fault.{Fault}
 use Rattle.types_rules.specs.declared.fault.TypeFault.TheVariants.{Limit, Rule}
-use Rattle.c_types.specs.Typed.{fault_of, typed_of}
+use Rattle.types_rules.specs.Typed.{fault_of, typed_of}
 use Rattle.high_ir.specs.Size as sizes
 use Rattle.plan_definition.specs.Layouts.{frame_scalars, givens, homes_of}
 use Rattle.plan_definition.specs.Programs.{plan_of, program_planned}

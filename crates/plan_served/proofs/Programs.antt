@@ -4,7 +4,7 @@ use Rattle.facts_definitions.specs.FlowFacts.{AreFacts}
 use Rattle.facts_definitions.specs.declared.facts.Facts.{Facts}
 use Rattle.types_rules.specs.Sights.{outline_of}
 use Rattle.c_tree.specs.Tree.{Whole}
-use Rattle.c_types.specs.Typed.{CallsDefined}
+use Rattle.types_calls.specs.Calls.{CallsDefined}
 use Rattle.types_tree.specs.Tree as typed
 use Rattle.plan_definition.specs.Programs.{program_planned}
 use Rattle.plan_runs.specs.Serves.{AllServe}

@@ -10,11 +10,10 @@ use Rattle.std.proofs.lemmas.List.Sums.{sum_by-append}
 use Rattle.std.proofs.lemmas.Option.{none-some, same_Some, slice_get_within}
 use Rattle.c_tree.specs.declared.expression.Specifier.{Specifier}
 use Rattle.c_tree.specs.Tree.{Row, Nothing, Then, Param, Parameter, Shape, Scalar as Single, Unsized, Sized, External}
-use Rattle.types_calls.specs.Calls.{calls_below, function_calls, graph_of, items_calls, params_calls}
+use Rattle.types_calls.specs.Calls.{calls_below, function_calls, graph_of, items_calls, params_calls, CallsDefined}
 use Rattle.types_calls.specs.Chains.{Among, callees}
 use Rattle.facts_definitions.specs.FlowFacts.{AreFacts}
 use Rattle.facts_definitions.specs.declared.facts.Facts.{Facts}
-use Rattle.c_types.specs.Typed.{CallsDefined}
 use Rattle.types_tree.specs.Tree as typed
 use Rattle.types_tree.specs.declared.variable.Duration.TheVariants.{Automatic}
 use Rattle.types_tree.specs.declared.variable.Extent.TheVariants.{Parameter as Passed}

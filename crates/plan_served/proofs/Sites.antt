@@ -1,11 +1,9 @@
 -- The bounds of the loops of a function are those that its sites give.
-use Rattle.std.proofs.Common.{◌≡◌, ⊎_elim, refl, ap, ◌∙◌, sym, subst, ℕ, ◌+◌, Bool, true, false, List, [], ◌∷◌, ◌++◌, length, Option, Some, None, Result, Ok, Err, arith, zero-add}
+use Rattle.std.proofs.Common.{◌≡◌, ⊎_elim, refl, ap, ◌∙◌, sym, subst, ℕ, ◌+◌, Bool, true, false, List, [], ◌∷◌, Option, Some, None, Result, Ok, Err, arith, zero-add}
 use Rattle.std.specs.Prelude.{if◌then◌else◌, nat_lt, ◌^◌, slice_get}
 use Rattle.std.proofs.lemmas.Bool.{false≢true}
-use Rattle.std.proofs.lemmas.List.{length-map}
 use Rattle.c_tree.specs.Tree.{Row, Nothing, Then, Param, Parameter, External, Restriction, Declaring, Function}
 use Rattle.facts_definitions.specs.FlowFacts.{AreFacts, bounds_in, facts_of, first_fault, known_of, most_main, unless_faulty, unless_too_often}
-use Rattle.types_tree.specs.Tree.{function_name}
 use Rattle.facts_definitions.specs.Most.{cut}
 use Rattle.facts_definitions.specs.declared.facts.FlowFault.TheVariants.{TooOften}
 use Rattle.facts_definitions.specs.Sites.{external_sites, externals_sites, function_sites, items_sites, sites_of}
@@ -21,12 +19,10 @@ use Rattle.types_rules.specs.Specifiers.{kind_spelled}
 use Rattle.types_rules.specs.Typing.{and_external, typed_external, typed_items, typed_row}
 use Rattle.plan_fit.specs.Places.{AreBounds}
 use Rattle.plan_fit.proofs.Loops.{bounds_first, bounds_second, loops_declaration, loops_items, loops_of}
-use Rattle.types_seen.specs.Fronts.{Definition, IsFront, begun_by, behind, ended_by, external_by, function_by, functions_of}
+use Rattle.types_seen.specs.Fronts.{Definition, IsFront, begun_by, behind, ended_by, external_by}
 use Rattle.types_seen.specs.Units.{IsUnit}
-use Rattle.plan_layout.proofs.Fronts.{among}
-use Rattle.types_seen.proofs.Fronts.{front_faultless, front_itself, front_less, is_nothing}
-use Rattle.types_seen.proofs.Known.{named}
-use Rattle.types_seen.proofs.Lists.{slice_get-behind}
+use Rattle.plan_layout.proofs.Fronts.{function_at}
+use Rattle.types_seen.proofs.Fronts.{front_itself, front_less, is_nothing}
 
 -- facts of a program have the bounds that its sites give
 abbrev is_fine : Result Facts FlowFault → Bool
@@ -71,18 +67,6 @@ module _ (outline : Outline) (items : Row (External ℕ)) (program : typed.Progr
   abbrev AreAt : Around → List typed.External → Type 0
   AreAt a rest = AreBounds derived bounds a.loops (externals_sites program rest)
 
-  -- the function of a definition, by the number that stands for it
-  pub function_at : (front : Row (External ℕ)) (d : Definition) → IsFront (Then front (external_by d)) items → slice_get program.functions (length (behind outline front).defined) ≡ Some (function_by d (behind outline front))
-  function_at front d part =
-      let a = among outline items front d part in
-      let now = behind outline front in
-      let before = functions_of front (started outline) in
-      let n = named outline front (front_faultless outline items front (front_less front (external_by d) items part) unit.faultless) in
-      let many : length now.defined ≡ length before + 0 = let e = ap length (n.defined ∙ sym n.names) in let m = length-map before function_name in omega (arith, e, m) in
-      ap (λ l. slice_get l (length now.defined)) (unit.functions_are ∙ a.functions_are)
-      ∙ ap (slice_get (before ++ function_by d now ∷ a.later)) many
-      ∙ slice_get-behind before (function_by d now ∷ a.later) 0
-
   one_loop : (front : Row (External ℕ)) (x : External ℕ) → IsFront (Then front x) items → (behind outline front).loops + loops_of derived (external_sites program (typed_external x (behind outline front))) ≡ (after_external x (behind outline front)).loops
   one_loop front (Restriction pragma) part = omega arith
   one_loop front (Declaring d) part = loops_declaration derived program.variables d (behind outline front)
@@ -91,7 +75,7 @@ module _ (outline : Outline) (items : Row (External ℕ)) (program : typed.Progr
       let now = behind outline front in
       let inner = loops_items derived program.variables (kind_spelled specifiers) body (begun_by d now) typed.NoItem in
       let begun = begun_loops d now in
-      ap (λ o. now.loops + loops_of derived (function_sites program.variables o)) (function_at front d part) ∙ ended now.loops (begun_by d now).loops (ended_by d now).loops (loops_of derived (items_sites program.variables (typed_items (kind_spelled specifiers) body (begun_by d now) typed.NoItem))) begun inner
+      ap (λ o. now.loops + loops_of derived (function_sites program.variables o)) (function_at outline items program unit front d part) ∙ ended now.loops (begun_by d now).loops (ended_by d now).loops (loops_of derived (items_sites program.variables (typed_items (kind_spelled specifiers) body (begun_by d now) typed.NoItem))) begun inner
     where
       ended : (n b e l : ℕ) → b ≡ n → b + l ≡ e + 0 → n + l ≡ e
       ended n b e l h k = omega (arith, h, k)
@@ -126,5 +110,5 @@ module _ (outline : Outline) (items : Row (External ℕ)) (program : typed.Progr
       let whole = subst (λ l. AreBounds derived bounds 0 (externals_sites program l)) unit.items_are h in
       let p = bounds_part items [] (front_itself items) front (external_by d) part whole in
       let own = bounds_first derived bounds now.loops (external_sites program (typed_external (external_by d) now)) (externals_sites program p.0) p.1 in
-      let named_sites = subst (λ o. AreBounds derived bounds now.loops (function_sites program.variables o)) (function_at front d part) own in
+      let named_sites = subst (λ o. AreBounds derived bounds now.loops (function_sites program.variables o)) (function_at outline items program unit front d part) own in
       subst (λ n. AreBounds derived bounds n (items_sites program.variables (typed_items (kind_spelled d.specifiers) d.body (begun_by d now) typed.NoItem))) (sym (begun_loops d now)) (record { by = named_sites.by })

@@ -14,8 +14,9 @@ use Rattle.types_rules.specs.Specifiers.{kind_spelled}
 use Rattle.types_rules.specs.Typing.{typed_items}
 use Rattle.types_tree.specs.Tree as typed
 use Rattle.types_tree.specs.declared.variable.Variable.{Variable}
-use Rattle.c_types.specs.Typed.{CallsDefined, fault_of, typed_of}
-use Rattle.c_types.proofs.Seals.{calls_defined}
+use Rattle.types_rules.specs.Typed.{fault_of, typed_of}
+use Rattle.types_calls.specs.Calls.{CallsDefined}
+use Rattle.types_seen.proofs.Calls.{calls_defined}
 use Rattle.plan_runs.specs.Serves.{at_entry}
 use Rattle.plan_statements.specs.Fits.{block_declares, with_live}
 use Rattle.plan_forms.specs.Programs.{body_of}

@@ -16,7 +16,7 @@ use Rattle.code_flow_system.specs.Certificates.{potential, whole_part}
 use Rattle.code_flow_system.specs.MoveCosts.{lies_within, names}
 use Rattle.code_flow_system.specs.Systems.{System}
 use Rattle.facts_definitions.specs.declared.facts.Facts.{Facts}
-use Rattle.facts_front.specs.Fronts.{IsSourceBy}
+use Rattle.facts_sources.specs.Sources.{IsSourceBy}
 use Rattle.types_tree.specs.Tree.{Program}
 use Rattle.path_answer.specs.declared.bounded.Kind.{Kind}
 use Rattle.path_answer.specs.declared.bounded.Kind.TheVariants.{Greatest, Empty, Wide, Spent}

@@ -23,7 +23,7 @@ use Rattle.low_counts.specs.Totals.{KeepsTotals}
 use Rattle.asm_program.specs.Formed.{IsProgram}
 use Rattle.asm_program.specs.Functions.{function_in, graph_of, loop_of}
 use Rattle.asm_program.proofs.GraphLemmas.{function_at, with_loops}
-use Rattle.asm_sound.specs.Ranges.{InProgram}
+use Rattle.asm_program.specs.Ranges.{InProgram}
 use Rattle.simulation_relation.specs.Following.{Ends}
 use Rattle.image_frames.specs.Memories.{Placement, memory_of}
 use Rattle.image_definition.specs.Images.{image_in, exits_in, FitsImage}

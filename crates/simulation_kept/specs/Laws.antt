@@ -23,7 +23,7 @@ use Rattle.low_ir.specs.Spacing.{IsAssignment}
 use Rattle.low_counts.specs.Totals.{KeepsTotals}
 use Rattle.asm_program.specs.Formed.{IsProgram}
 use Rattle.asm_program.specs.Functions.{function_in}
-use Rattle.asm_sound.specs.Ranges.{InProgram}
+use Rattle.asm_program.specs.Ranges.{InProgram}
 use Rattle.image_definition.specs.Images.{image_in, FitsImage}
 use Rattle.claims_accesses.specs.Laws.{IsNamed}
 

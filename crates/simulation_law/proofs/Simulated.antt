@@ -8,7 +8,7 @@ use Rattle.low_ir.specs.Effects.{World}
 use Rattle.low_ir.specs.Runs.{Done}
 use Rattle.low_ir.specs.Places.{Placed, prun}
 use Rattle.asm_program.specs.Formed.{IsProgram}
-use Rattle.asm_sound.specs.Ranges.{InProgram}
+use Rattle.asm_program.specs.Ranges.{InProgram}
 use Rattle.simulation_relation.specs.Following.{Ends}
 use Rattle.simulation_memory.specs.Laws.{KeepsRegisters}
 use Rattle.image_frames.specs.Memories.{Placement}

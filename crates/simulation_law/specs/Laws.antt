@@ -10,7 +10,7 @@ use Rattle.low_ir.specs.Turns.{IsGood}
 use Rattle.low_ir.specs.Places.{Placed, Placing, assignment, placed, prun}
 use Rattle.low_ir.specs.Spacing.{IsAssignment}
 use Rattle.asm_program.specs.Formed.{IsProgram}
-use Rattle.asm_sound.specs.Ranges.{InProgram}
+use Rattle.asm_program.specs.Ranges.{InProgram}
 use Rattle.simulation_relation.specs.Following.{Ends}
 use Rattle.simulation_memory.specs.Laws.{KeepsRegisters}
 use Rattle.image_frames.specs.Memories.{Placement}

@@ -16,7 +16,7 @@ use Rattle.asm_graphs.proofs.ReachedLemmas.{starts_next, ends_within}
 use Rattle.low_ir.specs.Places.{Placed}
 use Rattle.asm_program.specs.Formed.{IsProgram}
 use Rattle.asm_program.specs.Functions.{function_in, at_once, graph_of}
-use Rattle.asm_sound.specs.Ranges.{InProgram}
+use Rattle.asm_program.specs.Ranges.{InProgram}
 use Rattle.claims_accesses.specs.Lines.{items_accesses}
 use Rattle.claims_accesses.specs.Touches.{program_touches}
 use Rattle.simulation_relation.specs.Noted.{noted_at}

@@ -1,7 +1,7 @@
 -- The image of a program is laid as its layout says.
 use Rattle.low_ir.specs.Places.{Placed}
 use Rattle.asm_program.specs.Formed.{IsProgram}
-use Rattle.asm_sound.specs.Ranges.{InProgram}
+use Rattle.asm_program.specs.Ranges.{InProgram}
 use Rattle.simulation_relation.specs.Layouts.{IsLaid}
 use Rattle.simulation_memory.specs.Laws.{KeepsRegisters}
 use Rattle.image_frames.specs.Memories.{Placement}

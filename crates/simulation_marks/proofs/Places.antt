@@ -12,9 +12,9 @@ use Rattle.low_ir.specs.Room.{marks_once}
 use Rattle.low_ir.specs.Runs.{block_in}
 use Rattle.low_ir.specs.Turns.{mark_at, mark_count, mark_in, marks_passed}
 use Rattle.asm_program.specs.Functions.{PlacedBlock, PlacedFunction, function_in, no_function}
+use Rattle.asm_program.specs.Marked.{blocks_marked, functions_marked}
 use Rattle.claims_definition.specs.Listed.{Laid, by_address, functions_of, marked_from, marked_here, places_in, places_of, placing}
 use Rattle.asm_items.specs.Placings.{start_of}
-use Rattle.simulation_marks.specs.Laws.{blocks_marked, functions_marked}
 use Rattle.simulation_marks.proofs.Sums.{summed, summed-same, upto, in_numbers}
 use Rattle.simulation_marks.proofs.Marks.{all_laid}
 

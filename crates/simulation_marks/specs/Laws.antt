@@ -8,9 +8,8 @@ use Rattle.low_ir.specs.declared.run.Began.{Began}
 use Rattle.low_ir.specs.Code.{Block, Function, Low}
 use Rattle.low_ir.specs.Effects.{World}
 use Rattle.low_ir.specs.Places.{Assignment, Placed, placed}
-use Rattle.low_ir.specs.Room.{marks_once}
 use Rattle.low_ir.specs.Turns.{mark_count}
-use Rattle.asm_program.specs.Functions.{PlacedBlock, PlacedFunction}
+use Rattle.asm_program.specs.Marked.{functions_marked}
 use Rattle.simulation_relation.specs.Following.{Ends}
 use Rattle.image_frames.specs.Memories.{Placement}
 use Rattle.simulation_loaded.specs.Layouts.{layout_of}
@@ -25,16 +24,7 @@ MarksAreCounted = (pl : Placement) (p : Placed) (s : Setup) (v : ℕ) (u : World
 abbrev pub PlacedKeepMarks : Type 0
 PlacedKeepMarks = (a : Assignment) (low : Low) (trace : List Began) (mark : ℕ) → mark_count (placed a low) trace mark ≡ mark_count low trace mark
 
--- how many blocks have a mark
-abbrev pub blocks_marked : ℕ → List PlacedBlock → ℕ
-blocks_marked mark [] = 0
-blocks_marked mark (b ∷ bs) = marks_once b.mark mark + blocks_marked mark bs
-
-abbrev pub functions_marked : ℕ → List PlacedFunction → ℕ
-functions_marked mark [] = 0
-functions_marked mark (fn ∷ fns) = blocks_marked mark fn.blocks + functions_marked mark fns
-
--- a mark has one address for each
+-- a mark has one address for each block that has it
 abbrev pub PlacesAreFew : Type 0
 PlacesAreFew = (l : Laid) (mark : ℕ) → length (places_of l mark) ≡ functions_marked mark l.program.functions
 

@@ -14,7 +14,7 @@ use Rattle.asm_program.specs.Frames.{frame_of}
 use Rattle.asm_program.specs.Emission.{registers_among}
 use Rattle.asm_program.specs.Functions.{PlacedBlock, function_in}
 use Rattle.asm_program.specs.Formed.{IsProgram}
-use Rattle.asm_sound.specs.Ranges.{InProgram}
+use Rattle.asm_program.specs.Ranges.{InProgram}
 use Rattle.simulation_relation.specs.Plans.{AreApart, frame_size, IsFramePlaced, Saves, SavesAt, IsPlan, function_writes}
 use Rattle.image_frames.specs.Registers.{holds, table_of}
 use Rattle.image_frames.specs.Needs.{parameters_of, Site, sites_homes, Outline, outline_of, outlines_of, outline_at, written, housed, is_needed, needed_of, saved_of, homes_of}

@@ -13,7 +13,7 @@ use Rattle.low_ir.specs.Places.{Placed, machine_registers}
 use Rattle.asm_program.specs.Emission.{registers_among, kept_among}
 use Rattle.asm_program.specs.Functions.{PlacedBlock, PlacedFunction, no_function, function_in, callees_in, all_callees}
 use Rattle.asm_program.specs.Formed.{IsProgram}
-use Rattle.asm_sound.specs.Ranges.{IsRegister, InFunction, InProgram}
+use Rattle.asm_program.specs.Ranges.{IsRegister, InFunction, InProgram}
 use Rattle.image_frames.specs.Needs.{parameters_of, Site, code_sites, blocks_sites, sites_homes, outline_of, outlines_of, outline_at, no_outline}
 use Rattle.image_frames.proofs.TableLemmas.{member_cases, member_first, member_rest}
 use Rattle.image_frames.proofs.NeedsLemmas.{HasSite, AreBelow}

@@ -6,7 +6,7 @@ use Rattle.low_ir.specs.Effects.{is_member}
 use Rattle.low_ir.specs.Places.{Placing, assignment, placed, Placed, machine_registers}
 use Rattle.asm_program.specs.Functions.{PlacedBlock, function_in}
 use Rattle.asm_program.specs.Formed.{IsProgram}
-use Rattle.asm_sound.specs.Ranges.{InProgram}
+use Rattle.asm_program.specs.Ranges.{InProgram}
 use Rattle.simulation_relation.specs.Plans.{IsPlan}
 use Rattle.image_frames.specs.Needs.{needed_of}
 use Rattle.image_frames.specs.Memories.{Placement, memory_of, regions_of, FitsMemory}

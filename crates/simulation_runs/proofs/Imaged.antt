@@ -7,7 +7,7 @@ use Rattle.low_ir.specs.Effects.{World}
 use Rattle.low_ir.specs.Runs.{Done, first, run}
 use Rattle.low_ir.specs.Places.{Placed, places}
 use Rattle.asm_program.specs.Formed.{IsProgram}
-use Rattle.asm_sound.specs.Ranges.{InProgram}
+use Rattle.asm_program.specs.Ranges.{InProgram}
 use Rattle.simulation_relation.specs.Views.{view_of}
 use Rattle.simulation_memory.specs.Laws.{KeepsRegisters}
 use Rattle.image_frames.specs.Memories.{Placement}

@@ -2,9 +2,10 @@
 use Rattle.std.proofs.Common.{◌≡◌, ℕ, ◌+◌, Bool, true, false, ◌||◌, ◌==◌, inl, inr, List, [], ◌∷◌, map, if◌then◌else◌, refl, sym, ap, ◌∙◌, arith}
 use Rattle.std.proofs.lemmas.Bool.{or_parts}
 use Rattle.std.proofs.lemmas.Bool.Decides.{nat_tests}
+use Rattle.image_frames.specs.Placings.{is_among}
 use Rattle.spm_placement.specs.declared.item.Item.{Item}
 use Rattle.spm_placement.specs.Sets.{IsPartOf, bytes, number}
-use Rattle.spm_placement.specs.Placings.{AreApart, bytes_where, is_among}
+use Rattle.spm_placement.specs.Placings.{AreApart, bytes_where}
 
 -- who has the number of no item has that of none of their part
 pub not_among : (s xs : List Item) (n : ℕ) → IsPartOf s xs → is_among (map number xs) n ≡ false → is_among (map number s) n ≡ false

@@ -1,6 +1,6 @@
 // The placement of chosen items.
 ghost use Rattle.std.specs.Prelude.{◌≡◌, ℕ, ◌+◌, ◌<◌, ◌==◌, ◌||◌, false, length, IfOk};
-ghost use Rattle.spm_placement.specs.Placings.{HasPlaced, is_among, mark_at};
+ghost use Rattle.image_frames.specs.Placings.{HasPlaced, is_among, mark_at};
 
 use image_memory::Placement;
 use std::alloc::Global;

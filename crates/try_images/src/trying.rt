@@ -15,7 +15,9 @@ use layout_laid::Laid;
 use low_copies::without_copies;
 use low_ir::LowReg;
 use low_make::lower;
+use low_promotes::promoted;
 use low_reloads::without_reloads;
+use low_threads::threaded;
 use meaning_semantics::SourceRun;
 use std::alloc::Global;
 use std::fs;
@@ -106,8 +108,11 @@ fn print_places(
     made: &Carried,
 ) -> Result<(), Fault> {
     let low = lower(rt.alloc(), &made.program)?;
+    let low = promoted(rt.alloc(), low)?;
+    let low = threaded(rt.alloc(), low)?;
     let low = without_reloads(rt.alloc(), low)?;
     let low = without_copies(rt.alloc(), low)?;
+    let low = threaded(rt.alloc(), low)?;
     let code = with_places(rt.alloc(), low, places)?;
     let printed = print_both(rt, name, input, meant, &made.copies.marks, &code);
     drop(code);
@@ -154,8 +159,11 @@ fn places_named(word: &str) -> Result<Places, Fault> {
 
 fn lowered(alloc: Global, program: &High, places: Places) -> Result<LowReg, Memory> {
     let low = lower(alloc, program)?;
+    let low = promoted(alloc, low)?;
+    let low = threaded(alloc, low)?;
     let low = without_reloads(alloc, low)?;
     let low = without_copies(alloc, low)?;
+    let low = threaded(alloc, low)?;
     with_places(alloc, low, places)
 }
 

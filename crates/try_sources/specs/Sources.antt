@@ -3,7 +3,8 @@ use Rattle.std.specs.Prelude.{◌≡◌, ℕ, false, List}
 use Rattle.types_tree.specs.Tree.{Program}
 use Rattle.facts_definitions.specs.FlowFacts.{main_of}
 use Rattle.facts_definitions.specs.declared.facts.Facts.{Facts}
-use Rattle.facts_front.specs.Fronts.{IsSource, RefusesSource}
+use Rattle.facts_front.specs.Fronts.{RefusesSource}
+use Rattle.facts_sources.specs.Sources.{IsSource}
 use Rattle.facts_front.specs.declared.refusal.Refusal.{Refusal}
 use Rattle.meaning_semantics.specs.Runs.{meaning}
 use Rattle.meaning_semantics.specs.declared.source_run.SourceRun.{SourceRun}

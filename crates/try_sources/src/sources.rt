@@ -1,6 +1,7 @@
 // From the bytes of a source to its program and its meaning.
 ghost use Rattle.std.specs.Prelude.{ℕ, false, List, IfErr, IfOk};
-ghost use Rattle.facts_front.specs.Fronts.{IsSource, Fails as IsUnread};
+ghost use Rattle.facts_front.specs.Fronts.{Fails as IsUnread};
+ghost use Rattle.facts_sources.specs.Sources.{IsSource};
 ghost use Rattle.types_tree.specs.View.{program_of};
 ghost use Rattle.try_sources.specs.Sources.{Fails, IsMade, IsMeant};
 

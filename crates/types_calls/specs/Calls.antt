@@ -1,5 +1,6 @@
 -- Which defined functions a program's functions call, as often and in the order in which the calls stand.
-use Rattle.std.specs.Prelude.{ℕ, nat_lt, List, [], ◌∷◌, ◌++◌, length, map, filter, Option, Some, None}
+use Rattle.std.specs.Prelude.{ℕ, ◌<◌, nat_lt, List, [], ◌∷◌, ◌++◌, length, map, filter, Option, Some, None}
+use Rattle.std.specs.List.{All}
 use Rattle.types_tree.specs.declared.expression.Callee.{Callee}
 use Rattle.types_tree.specs.declared.expression.Callee.TheVariants.{Getchar, Putchar, Function as Own}
 use Rattle.types_tree.specs.Tree.{Place, Scalar, Element, Within, Expr, Number, Character, Read, Array, Paren, Call, Step, Signed, Cast, Convert, Operate, And, Or, Comma, Conditional, Assign, Update, Exprs, NoExpr, WithExpr, Shape, Single, Unsized, Sized, Initial, Absent, Value, Listed, Object, Declared, Param, Parameter, Declaration, Objects, Prototype, Label, Case, Default, ForStart, NoStart, StartValue, StartDeclaration, Statement, Block, Empty, Evaluate, Marker, If, IfElse, While, Do, For, Switch, Break, Continue, Return, Items, NoItem, WithDeclaration, WithStatement, WithRestriction, WithLabel, Function, Defined, Program}
@@ -116,3 +117,7 @@ calls_below count calls = filter (λ g. nat_lt g count) calls
 -- of all functions, whether main reaches them or not
 abbrev pub graph_of : Program → Graph
 graph_of program = map (λ f. calls_below (length program.functions) (function_calls f)) program.functions
+
+-- every function that a program's functions call is one of them
+abbrev pub CallsDefined : Program → Type 0
+CallsDefined program = All (λ function. All (λ number. number < length program.functions) (function_calls function)) program.functions

@@ -9,3 +9,4 @@ pub mod StatementRules
 pub mod Sights
 pub mod Typing
 pub mod Limits
+pub mod Typed

@@ -3,7 +3,8 @@
 //!
 //! `specs/` is read from the top: what specifiers spell, what is visible at a node, constants and types of
 //! expressions, the rules in groups, the nodes of a unit in source order with what is visible at each, the
-//! first of them at which a rule fails, the typed tree, and the limits.
+//! first of them at which a rule fails, the typed tree, the limits, and which unit has a typed tree, and why
+//! another has none.
 //!
 //! This crate has definitions and the types that they speak of; it knows no walk and no table.
 #![tactic(auto)]

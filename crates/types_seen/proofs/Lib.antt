@@ -8,3 +8,6 @@ pub mod Fronts
 pub mod Objects
 pub mod Units
 pub mod Known
+pub mod OutlineKept
+pub mod CallsBelow
+pub mod Calls

@@ -2,7 +2,7 @@
 use Rattle.std.specs.Prelude.{◌≡◌, ℕ, List, [], None}
 use Rattle.c_tree.specs.Tree.{Row, External, TranslationUnit}
 use Rattle.types_tree.specs.Tree as typed
-use Rattle.c_types.specs.Typed.{fault_of, typed_of}
+use Rattle.types_rules.specs.Typed.{fault_of, typed_of}
 use Rattle.types_rules.specs.Scope.{Outline, started}
 use Rattle.types_rules.specs.Sights.{after_external, definitions, externals_nodes, first_fault}
 use Rattle.types_rules.specs.Typing.{and_external, typed_row}

@@ -2,7 +2,7 @@
 use Rattle.std.specs.Prelude.{◌≡◌, ℕ, List, [], length}
 use Rattle.rv_core.specs.Table.{Table, table_of}
 use Rattle.facts_definitions.specs.declared.facts.Facts.{Facts}
-use Rattle.facts_front.specs.Fronts.{IsSourceBy}
+use Rattle.facts_sources.specs.Sources.{IsSourceBy}
 use Rattle.types_tree.specs.Tree.{Program}
 use Rattle.low_ir.specs.Placings.{placed_of}
 use Rattle.claims_image.specs.Images.{laid_of}

@@ -1,7 +1,7 @@
 use Rattle.std.proofs.Common.{◌≡◌, ◌++◌, drop, map, All}
 use Rattle.low_ir.specs.View.{block_of}
 use Rattle.asm_program.specs.Functions.{blocks_from}
-use Rattle.asm_sound.specs.Ranges.{InBlock}
+use Rattle.asm_program.specs.Ranges.{InBlock}
 use Rattle.asm_code.specs.Scopes.{memory, program, placed_blocks}
 use Rattle.asm_code.proofs.blocks.all_blocks.Given as goal
 

@@ -1,7 +1,7 @@
 use Rattle.std.proofs.Common.{◌≡◌, suc, ◌+◌, All, drop, map, subst, sym, arith}
 use Rattle.low_ir.specs.View.{instr_of}
 use Rattle.low_ir.specs.Places.{place_code}
-use Rattle.asm_sound.specs.Ranges.{InInstr}
+use Rattle.asm_program.specs.Ranges.{InInstr}
 use Rattle.asm_emission.specs.View.{place_at}
 use Rattle.asm_code.specs.Scopes.{kept_at, memory, program}
 use Rattle.asm_code.proofs.Steps.{drop-at, code-there, code-step}

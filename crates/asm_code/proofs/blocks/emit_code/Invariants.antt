@@ -1,6 +1,6 @@
 use Rattle.std.proofs.Common.{◌≡◌, ◌+◌, ◌++◌, drop, map, All}
 use Rattle.low_ir.specs.View.{instr_of}
-use Rattle.asm_sound.specs.Ranges.{InInstr}
+use Rattle.asm_program.specs.Ranges.{InInstr}
 use Rattle.asm_code.specs.Scopes.{memory, program, placed_code}
 use Rattle.asm_code.specs.Bodies.{instrs_items}
 use Rattle.asm_code.proofs.blocks.emit_code.Given as goal

@@ -4,7 +4,7 @@ use Rattle.low_ir.specs.View as view
 use Rattle.low_ir.specs.Places.{machine_registers, registers_of, place_operand}
 use Rattle.asm_program.specs.Emission.{kept_among}
 use Rattle.asm_program.specs.Functions.{function_in}
-use Rattle.asm_sound.specs.Ranges.{IsRegister, InOperand}
+use Rattle.asm_program.specs.Ranges.{IsRegister, InOperand}
 use Rattle.asm_emission.specs.View.{place_at}
 use Rattle.asm_code.specs.Scopes.{program}
 use Rattle.asm_code.proofs.Parameters.{few, parameters-there}

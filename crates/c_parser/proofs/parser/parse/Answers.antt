@@ -6,7 +6,8 @@ use Rattle.c_parser.proofs.Finishing.{each_fault, each_unit}
 use Rattle.c_parser.proofs.Refusals.{one_tree, only_memory, refused}
 use Rattle.c_parser.proofs.Words.{passed_on}
 use Rattle.c_parser.specs.declared.fault.ParseFault.TheVariants.{Memory}
-use Rattle.c_parser.specs.Refused.{IsRefused, IsTreeOf, Stops}
+use Rattle.c_parser.specs.Refused.{IsRefused, Stops}
+use Rattle.c_tree.specs.Formed.{IsTreeOf}
 use Rattle.c_parser.proofs.parser.parse.Goals as goal
 
 pub returns-in_err-state-clause-err : goal.returns-in_err-state-clause-err

@@ -12,7 +12,8 @@ use Rattle.parse_grammar.specs.Depth.{deep}
 use Rattle.parse_grammar.specs.Machine.{Goes}
 use Rattle.c_parser.proofs.Finishing.{IsMade, at_end, count_of, each_fault, each_unit, empty_of, formed_of, led_listed, led_named, made_of, shallow_of, small_of, spelled_of}
 use Rattle.c_parser.proofs.Listing.{in_order}
-use Rattle.c_parser.specs.Refused.{IsTreeOf, Stops}
+use Rattle.c_parser.specs.Refused.{Stops}
+use Rattle.c_tree.specs.Formed.{IsTreeOf}
 use Rattle.c_parser.proofs.unit.finish.Goals as goal
 
 pub unit-requires-clause-formed : goal.unit-requires-clause-formed

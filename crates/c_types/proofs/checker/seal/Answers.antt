@@ -3,8 +3,9 @@ use Rattle.c_tree.specs.Tree.{Nothing}
 use Rattle.c_tree.specs.Units.{tree_of}
 use Rattle.c_tree.specs.View.{external_of as source_external, row_of}
 use Rattle.types_tree.specs.View.{external_of, function_of}
-use Rattle.c_types.specs.Typed.{CallsDefined}
-use Rattle.c_types.proofs.Seals.{calls_defined, same_program, sealed}
+use Rattle.types_calls.specs.Calls.{CallsDefined}
+use Rattle.c_types.proofs.Seals.{same_program, sealed}
+use Rattle.types_seen.proofs.Calls.{calls_defined}
 use Rattle.c_types.proofs.checker.seal.Goals as goal
 
 pub invariant_of-result : goal.invariant_of-result

@@ -1,5 +1,5 @@
 use Rattle.std.proofs.Common.{subst, sym}
-use Rattle.claims_shapes.specs.Shapes.{AreShaped}
+use Rattle.claims_definition.specs.Shapes.{AreShaped}
 use Rattle.claims_lists.proofs.Listing.{are_shaped}
 use Rattle.claims_lists.proofs.shapes.shapes_of.Goals as goal
 

@@ -1,7 +1,7 @@
 use Rattle.std.proofs.Common.{map, sym, ap, ◌∙◌, subst}
 use Rattle.low_ir.specs.Placings.{assignment_of, placed_of}
 use Rattle.low_ir.specs.Programs.{low_of}
-use Rattle.asm_sound.specs.Ranges.{InProgram}
+use Rattle.asm_program.specs.Ranges.{InProgram}
 use Rattle.asm_code.specs.Scopes.{memory, program}
 use Rattle.asm_code.proofs.Registers.{placed_there}
 use Rattle.asm_code.proofs.Steps.{own-blocks, own-there}

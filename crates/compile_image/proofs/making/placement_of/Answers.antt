@@ -1,7 +1,7 @@
 use Rattle.std.proofs.Common.{length, subst, ◌∙◌}
 use Rattle.std.specs.Prelude.{IfOk}
 use Rattle.low_ir.specs.Placings.{placed_of}
-use Rattle.spm_placement.specs.Placings.{HasPlaced}
+use Rattle.image_frames.specs.Placings.{HasPlaced}
 use Rattle.compile_image.proofs.Counting.{functions_many, objects_many}
 use Rattle.compile_image.proofs.making.placement_of.Goals as goal
 

@@ -1,6 +1,6 @@
 use Rattle.std.proofs.Common.{ap, subst, ◌∙◌}
 use Rattle.code_flow_system.specs.Claims.{Claims}
-use Rattle.claims_shapes.specs.Shapes.{AreShaped}
+use Rattle.claims_definition.specs.Shapes.{AreShaped}
 use Rattle.low_layout.proofs.laying.claims_in.Goals as goal
 
 pub returns-in-Ok : goal.returns-in-Ok

@@ -5,7 +5,7 @@ use Rattle.std.proofs.lemmas.Int.{to_z-of_z}
 use Rattle.rv_core.specs.Table.{table_of}
 use Rattle.path_duals.specs.Duals.{final_level, final_pairs}
 use Rattle.path_flows.specs.Flows.{amounts_of, parts_of}
-use Rattle.path_best.specs.Priced.{fact_prices}
+use Rattle.path_cert.specs.Priced.{fact_prices}
 use Rattle.path_fact_columns.specs.Laws.{IsAnswer}
 use Rattle.path_fact_columns.proofs.WalkLemmas.{walks_small, amounts_small}
 use Rattle.path_fact_columns.proofs.AddableLemmas.{are_multiplied, found_long, found_worth, found_addable, found_certificate}

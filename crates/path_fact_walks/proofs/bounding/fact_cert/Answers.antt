@@ -4,7 +4,7 @@ use Rattle.std.proofs.lemmas.Int.{to_z-of_z}
 use Rattle.frac128.specs.Terms.{coefficient}
 use Rattle.rv_core.specs.Table.{table_of}
 use Rattle.code_flow_system.specs.Certificates.{whole_part}
-use Rattle.path_best.specs.Priced.{fact_price}
+use Rattle.path_cert.specs.Priced.{fact_price}
 use Rattle.path_fact_walks.specs.Plain.{values_in}
 use Rattle.path_fact_walks.proofs.OweLemmas.{some_of, items_of, plain_is, nevers_found, loops_found, cert_is, worth_found}
 use Rattle.path_fact_walks.proofs.bounding.fact_cert.Goals as goal

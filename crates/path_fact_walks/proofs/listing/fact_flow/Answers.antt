@@ -10,7 +10,7 @@ use Rattle.path_flows.specs.Flows.{amounts_of, parts_of}
 use Rattle.path_rows.specs.Driver.{blank}
 use Rattle.path_walks.specs.Prices.{price_in, prices_of}
 use Rattle.path_walks.specs.Sizes.{AllStaySmall}
-use Rattle.path_best.specs.Priced.{fact_price, fact_prices}
+use Rattle.path_cert.specs.Priced.{fact_price, fact_prices}
 use Rattle.path_values.proofs.SameLemmas.{values_same, small_same, price_is}
 use Rattle.path_amounts.proofs.CostLemmas.{amounts_same}
 use Rattle.path_fact_walks.proofs.listing.fact_flow.Goals as goal

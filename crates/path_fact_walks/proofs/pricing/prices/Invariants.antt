@@ -1,6 +1,6 @@
 use Rattle.std.proofs.Common.{◌≡◌, ◌++◌, drop, map}
 use Rattle.rv_core.specs.Table.{table_of}
-use Rattle.path_best.specs.Priced.{fact_price}
+use Rattle.path_cert.specs.Priced.{fact_price}
 use Rattle.path_fact_walks.proofs.pricing.prices.Given as goal
 
 abbrev pub invariant-loop-i : goal.invariant-loop-i

@@ -1,5 +1,5 @@
 use Rattle.std.proofs.Common.{◌≡◌, ◌+◌, ◌*◌, ◌≤◌, ◌^◌, drop}
-use Rattle.path_best.specs.Facts.{sizes_of}
+use Rattle.path_cert.specs.Priced.{sizes_of}
 use Rattle.path_fact_walks.proofs.pricing.sizes.Given as goal
 
 abbrev pub invariant-loop-i : goal.invariant-loop-i

@@ -10,7 +10,7 @@ use Rattle.path_rows.specs.Driver.{blank}
 use Rattle.path_walks.specs.declared.walks.Settled.{Settled}
 use Rattle.path_walks.specs.Prices.{price_in, prices_of}
 use Rattle.path_walks.specs.Sizes.{AllStaySmall}
-use Rattle.path_best.specs.Priced.{fact_price, fact_prices}
+use Rattle.path_cert.specs.Priced.{fact_price, fact_prices}
 use Rattle.path_values.proofs.SameLemmas.{values_same, small_same, price_is}
 use Rattle.path_fact_walks.proofs.walking.settle_facts.Goals as goal
 

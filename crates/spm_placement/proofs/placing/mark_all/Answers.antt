@@ -1,5 +1,5 @@
 use Rattle.std.proofs.Common.{◌+◌, ◌∙◌, ◌||◌, ap, arith}
-use Rattle.spm_placement.specs.Placings.{is_among, mark_at}
+use Rattle.image_frames.specs.Placings.{is_among, mark_at}
 use Rattle.spm_placement.proofs.Marks.{mark_next, marks_end}
 use Rattle.spm_placement.proofs.placing.mark_all.Goals as goal
 

@@ -1,5 +1,5 @@
 use Rattle.std.proofs.Common.{◌≡◌, ℕ, ◌+◌, ◌<◌, ◌||◌, drop, length}
-use Rattle.spm_placement.specs.Placings.{is_among, mark_at}
+use Rattle.image_frames.specs.Placings.{is_among, mark_at}
 use Rattle.spm_placement.proofs.placing.mark_all.Given as goal
 
 abbrev pub invariant-loop-number : goal.invariant-loop-number

@@ -1,7 +1,7 @@
 use Rattle.std.proofs.Common.{◌≡◌, ◌++◌, false, drop, length, take, ap, ◌∙◌, arith}
 use Rattle.std.proofs.Math.Seq.{take-append_seam}
 use Rattle.std.proofs.lemmas.List.{length-replicate}
-use Rattle.spm_placement.specs.Placings.{mark_at}
+use Rattle.image_frames.specs.Placings.{mark_at}
 use Rattle.spm_placement.proofs.Marks.{marks_none}
 use Rattle.spm_placement.proofs.placing.marks_of.Goals as goal
 

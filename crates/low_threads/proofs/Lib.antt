@@ -1,0 +1,4 @@
+pub mod Lists
+pub mod Knowing
+pub mod Leading
+pub mod Blocks
