@@ -1,6 +1,7 @@
 -- What a source becomes is light: its facts allow few nodes to be executed.
 use Rattle.std.proofs.Common.{◌≡◌, ℕ, ◌*◌, ◌^◌, ◌<◌, ◌≤◌, Bool, true, false, List, refl, sym, subst, arith}
-use Rattle.std.specs.Prelude.{if◌then◌else◌, nat_lt, Result, Ok, Err}
+use Rattle.std.specs.Prelude.{◌+◌, if◌then◌else◌, max, nat_lt, Result, Ok, Err}
+use Rattle.std.proofs.Math.Nat.{max-le}
 use Rattle.std.proofs.lemmas.Bool.{ltb-true}
 use Rattle.facts_definitions.specs.FlowFacts.{AreFacts, bounds_in, facts_of, most_main, unless_faulty, unless_too_often}
 use Rattle.facts_definitions.specs.Most.{cut}
@@ -39,5 +40,8 @@ most_limited source names facts are =
 pub source_light : (source : c.Program) (names : List (List ℕ)) (facts : Facts) (p : high.Program) (q : Low) → AreFacts source names facts → high_weight p ≤ 16 * facts.most → KeepsProgram p q → 4000 * weight q < 2 ^ 60
 source_light source names facts p q are small keeps =
     let most = most_limited source names facts are in
+    let least : 16 * high_weight p + 64 ≤ 2 ^ 48 + 64 = omega (arith, most, small) in
+    let rest : 2 ^ 48 ≤ 2 ^ 48 + 64 = omega arith in
     let low = keeps.weight in
-    omega (arith, most, low, small)
+    let few : max (16 * high_weight p + 64) (2 ^ 48) ≤ 2 ^ 48 + 64 = max-le least rest in
+    omega (arith, low, few)

@@ -8,7 +8,7 @@ use Rattle.std.proofs.lemmas.List.Sums.{sum_by-cons}
 use Rattle.low_ir.specs.Code.{Operand, Base, Fixed, Through, Plain, Set, Operate, Point, Load, Store, Put, Get, Instr, Do, Call, End, Jump, Branch, Return, Block, Loop, Function, Low, Note}
 use Rattle.low_ir.specs.Room.{access_room, address_room, block_room, called, end_room, function_room, instr_room, marks_once, plain_room, reaches, repeated, repeated_in, times, weight, weights}
 use Rattle.low_copied.specs.Renaming.{renamed_base, renamed_end, renamed_instr, renamed_operand, renamed_plain}
-use Rattle.low_copied.specs.Copies.{Beginnings, Carries, Code, Follows, FunctionCopied, IsCopied, LeavesOut, Standing}
+use Rattle.low_copied.specs.Copies.{Beginnings, Carries, Code, Follows, FunctionCopied, IsCopied, LeavesOut, Omits, Standing, WritesOnly}
 use Rattle.low_copied.specs.Laws.{CostsNoMore}
 use Rattle.low_copied.proofs.Blocks.{SomeCopied, copied_blocks}
 
@@ -63,6 +63,10 @@ called_eq f g eq (Call d h args note) = ap (λ n. n + 0) (eq h)
 set_calls : (f : ℕ → ℕ) (i : Instr ℕ Note) (is : Code) (d : ℕ) (x : Operand ℕ) → i ≡ Do (Set d x) → called f (i ∷ is) ≡ called f is
 set_calls f i is d x e = ap (λ j. called f (j ∷ is)) e
 
+omitted_calls : (f : ℕ → ℕ) (i : Instr ℕ Note) (is : Code) (d : ℕ) → WritesOnly i d → called f (i ∷ is) ≡ called f is
+omitted_calls f (Do i) is d only = refl
+omitted_calls f (Call into g args note) is d only = absurd only
+
 module _ (size : ℕ) (out : Beginnings) (end end2 : End ℕ) where
   -- the room of a block's rest
   code_room : (is : Code) (at : Standing) (js : Code) → Follows size out end end2 is at js → sum_by instr_room js + end_room end2 ≤ sum_by instr_room is + end_room end
@@ -78,9 +82,13 @@ module _ (size : ℕ) (out : Beginnings) (end end2 : End ℕ) where
       let e : sum_by instr_room js ≡ instr_room (renamed_instr c.name c.into i) + sum_by instr_room c.behind = ap (sum_by instr_room) c.is ∙ sum_by-cons instr_room (renamed_instr c.name c.into i) c.behind in
       let f = instr_same c.name c.into i in
       omega arith)
+      (⊎_elim
       (λ (c : LeavesOut (Follows size out end end2 is) i at js).
       let k = code_room is c.now js c.goes_on in
       omega arith)
+      (λ (c : Omits (Follows size out end end2 is) i at js).
+      let k = code_room is c.now js c.goes_on in
+      omega arith))
       h
 
   code_called : (f g : ℕ → ℕ) → ((n : ℕ) → f n ≤ g n) → (is : Code) (at : Standing) (js : Code) → Follows size out end end2 is at js → called f js ≤ called g is
@@ -95,10 +103,15 @@ module _ (size : ℕ) (out : Beginnings) (end end2 : End ℕ) where
       let l = called_le f g le i in
       let m = called_cons g i is in
       omega arith)
+      (⊎_elim
       (λ (c : LeavesOut (Follows size out end end2 is) i at js).
       let k = code_called f g le is c.now js c.goes_on in
       let e = set_calls g i is c.into c.value c.is in
       omega arith)
+      (λ (c : Omits (Follows size out end end2 is) i at js).
+      let k = code_called f g le is c.now js c.goes_on in
+      let e = omitted_calls g i is c.into c.only in
+      omega arith))
       h
 
   code_called_same : (f g : ℕ → ℕ) → ((n : ℕ) → f n ≡ g n) → (is : Code) (at : Standing) (js : Code) → Follows size out end end2 is at js → called f js ≡ called g is
@@ -111,8 +124,11 @@ module _ (size : ℕ) (out : Beginnings) (end end2 : End ℕ) where
       let l = called_eq f g eq i in
       let m = called_cons g i is in
       omega arith)
+      (⊎_elim
       (λ (c : LeavesOut (Follows size out end end2 is) i at js).
       code_called_same f g eq is c.now js c.goes_on ∙ sym (set_calls g i is c.into c.value c.is))
+      (λ (c : Omits (Follows size out end end2 is) i at js).
+      code_called_same f g eq is c.now js c.goes_on ∙ sym (omitted_calls g i is c.into c.only)))
       h
 
 blocks_room : (size : ℕ) (out : Beginnings) (bs cs : List (Block ℕ Note)) → AllZip (SomeCopied size out) bs cs → sum_by block_room cs ≤ sum_by block_room bs

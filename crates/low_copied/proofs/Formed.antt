@@ -8,7 +8,7 @@ use Rattle.low_ir.specs.Formed.{AreNested, CallsBelow, HasMarkBelow, IsFunction,
 use Rattle.low_ir.specs.Runs.{block_in}
 use Rattle.low_ir.specs.Turns.{mark_in}
 use Rattle.low_copied.specs.Renaming.{renamed_address, renamed_base, renamed_end, renamed_instr, renamed_into, renamed_operand}
-use Rattle.low_copied.specs.Copies.{Becomes, Beginnings, BlockCopied, Carries, Code, Copied, Finds, Follows, FunctionCopied, IsCopied, KeepsBases, LeavesOut, Stands, Standing, operands}
+use Rattle.low_copied.specs.Copies.{Becomes, Beginnings, BlockCopied, Carries, Code, Copied, Finds, Follows, FunctionCopied, IsCopied, KeepsBases, LeavesOut, Omits, Stands, Standing, operands}
 use Rattle.low_copied.proofs.Blocks.{SomeCopied, copied_blocks, found_block}
 use Rattle.low_copied.proofs.Lists.{as_long, before}
 use Rattle.low_copied.proofs.Renamed.{dest_renamed, reads_renamed}
@@ -28,7 +28,9 @@ module _ (P Q : Instr ℕ Note → Type 0) (keeps : (name : ℕ → ℕ) (into :
       ⊎_elim
       (λ (c : Carries size (Follows size out end end2 is) i at js).
       subst (All Q) (sym c.is) (All-cons Q (renamed_instr c.name c.into i) c.behind (keeps c.name c.into i c.bases (All-head P i is all)) (code_keeps size out end end2 is c.now c.behind c.goes_on (All-tail P i is all))))
+      (⊎_elim
       (λ (c : LeavesOut (Follows size out end end2 is) i at js). code_keeps size out end end2 is c.now js c.goes_on (All-tail P i is all))
+      (λ (c : Omits (Follows size out end end2 is) i at js). code_keeps size out end end2 is c.now js c.goes_on (All-tail P i is all)))
       h
 
   pub blocks_keep : (size : ℕ) (out : Beginnings) (bs cs : List (Block ℕ Note)) → AllZip (SomeCopied size out) bs cs → All (λ (b : Block ℕ Note). All P b.code) bs → All (λ (c : Block ℕ Note). All Q c.code) cs
@@ -120,8 +122,10 @@ code_in size out end end2 (i ∷ is) at js range h all last =
     let read = subst (All (λ r. r < size)) (sym (operands_renamed c.name c.into i)) (found_in size at c.name range (operands i) c.finds (subst (All (λ r. r < size)) (operands_read i) one.0)) in
     let written = subst (λ o. All (λ r. r < size) (option_to_list o)) (sym (written_renamed c.name c.into i)) (one_in size (written_by i) c.into at c.now c.becomes) in
     (subst (All (RegistersWithin size)) (sym c.is) (All-cons (RegistersWithin size) j c.behind (read, written) k.0), k.1))
+    (⊎_elim
     (λ (c : LeavesOut (Follows size out end end2 is) i at js).
     code_in size out end end2 is c.now js (range_copied size i c.into c.value at c.now c.is one range c.copied) c.goes_on rest last)
+    (λ (c : Omits (Follows size out end end2 is) i at js). code_in size out end end2 is c.now js (λ v w q lt. range v w (c.forgets v w q).1 lt) c.goes_on rest last))
     h
 
 block_in_range : (size : ℕ) (out : Beginnings) (b c : Block ℕ Note) → ((n v w : ℕ) → out n v ≡ Some w → w ≡ v) → SomeCopied size out b c → UsesRegisters size b → UsesRegisters size c
@@ -169,7 +173,9 @@ end_leads size out end end2 [] at js n h leads = leads_renamed h.name end n (sub
 end_leads size out end end2 (i ∷ is) at js n h leads =
     ⊎_elim
     (λ (c : Carries size (Follows size out end end2 is) i at js). end_leads size out end end2 is c.now c.behind n c.goes_on leads)
+    (⊎_elim
     (λ (c : LeavesOut (Follows size out end end2 is) i at js). end_leads size out end end2 is c.now js n c.goes_on leads)
+    (λ (c : Omits (Follows size out end end2 is) i at js). end_leads size out end end2 is c.now js n c.goes_on leads))
     h
 
 block_leads : (size : ℕ) (out : Beginnings) (bs cs : List (Block ℕ Note)) (b n : ℕ) → AllZip (SomeCopied size out) bs cs → LeadsTo_as (slice_get cs b) n → LeadsTo_as (slice_get bs b) n

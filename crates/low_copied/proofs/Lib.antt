@@ -1,6 +1,7 @@
 pub mod Lists
 pub mod Blocks
 pub mod Stores
+pub mod Omitted
 pub mod Renamed
 pub mod Serving
 pub mod Costs

@@ -13,11 +13,12 @@ use Rattle.low_ir.specs.Formed.{LeadsOn, end_operands}
 use Rattle.low_ir.specs.Runs.{Waiting, Running, Run, Going, Done, Bad, Bank, operand_value, values, values_cons, write_to, goes_on, finish, enter, block_in, went_to, write_all, begin, only_where, waiting, call, at_instr, come_back, give_back, chosen, branches, at_end, at_code, step, run, first, first_in, lrun, virtual}
 use Rattle.low_ir.specs.Turns.{IsGood, KeepsLoop, KeepsLoops}
 use Rattle.low_copied.specs.Renaming.{renamed_end, renamed_into, renamed_operand, renamed_plain}
-use Rattle.low_copied.specs.Copies.{Becomes, Carries, Code, Copied, Ends, Fewer, Finds, Follows, FunctionCopied, IsCopied, LeavesOut, Standing}
+use Rattle.low_copied.specs.Copies.{Becomes, Carries, Code, Copied, Ends, Fewer, Finds, Follows, Forgets, FunctionCopied, IsCopied, LeavesOut, Omits, Standing, WritesOnly}
 use Rattle.low_copied.specs.Laws.{RunsOn}
 use Rattle.low_copied.proofs.Blocks.{found_block}
 use Rattle.low_copied.proofs.Lists.{before, found}
 use Rattle.low_copied.proofs.Renamed.{dest_renamed, effects_renamed, reads_renamed}
+use Rattle.low_copied.proofs.Omitted.{value_forgotten, world_stays, writes_dest}
 use Rattle.low_copied.proofs.Stores.{Shows, all_length, both_written, copy_written, finds_rest, value_found, values_found}
 
 abbrev LowRunning : Type 0
@@ -195,6 +196,31 @@ module _ (p q : Low) (copied : IsCopied p q) where
                 waits = waits;
               }
 
+  -- what nothing needs is left out
+  omit_serves : (r : LowRunning) (i : Instr ℕ Note) (is : Code) (code : Code) (end : End ℕ) (t : Bank) (ws : List LowWaiting) (w : Two r.top.func) (at now : Standing) (d : ℕ) → length t ≡ w.fn.size → Shows at r.top.store t → WritesOnly i d → Forgets d at now → Follows w.fn.size w.same.out r.top.end end is now code → Waits r.below ws → Serves (at_instr virtual p r i is) (Going (running r code end t ws))
+  omit_serves r (Call into f args note) is code end t ws w at now d long shows only forgets follows waits = absurd only
+  omit_serves r (Do i) is code end t ws w at now d long shows only forgets follows waits =
+      let into = writes_dest i d only in
+      subst (λ e. Serves (finish virtual r is e (effect_of p.claims i (values virtual r.top.store (reads i)) r.world)) (Going (running r code end t ws))) (sym into)
+      (by_effect (effect_of p.claims i (values virtual r.top.store (reads i)) r.world) refl)
+    where
+      by_effect : (o : Option Did) → effect_of p.claims i (values virtual r.top.store (reads i)) r.world ≡ o → Serves (finish virtual r is (Some d) o) (Going (running r code end t ws))
+      by_effect None e = tt
+      by_effect (Some did) e = by_write (write_to virtual r.top.store (Some d) did.value) refl
+        where
+          by_write : (o : Option Bank) → write_to virtual r.top.store (Some d) did.value ≡ o → Serves (goes_on r is did.world o) (Going (running r code end t ws))
+          by_write None h = tt
+          by_write (Some s) h =
+              record {
+                code = code;
+                end = end;
+                store = t;
+                below = ws;
+                is = ap (λ u. Going (record { top = (running r code end t ws).top; below = ws; world = u })) (sym (world_stays p.claims i (values virtual r.top.store (reads i)) r.world did d only e));
+                top = record { two = w; at = now; long = long; shows = value_forgotten at now r.top.store s t d did.value forgets shows h; follows = follows };
+                waits = waits;
+              }
+
   -- a function gives its value back
   back_serves : (u : World) (v : ℕ) (ws us : List LowWaiting) → Waits ws us → Serves (come_back virtual u ws v) (come_back virtual u us v)
   back_serves u v [] [] waits = refl
@@ -313,8 +339,11 @@ module _ (p q : Low) (copied : IsCopied p q) where
       ⊎_elim
       (λ (c : Carries w.fn.size (Follows w.fn.size w.same.out r.top.end end2 is) i at code2).
       one_step (at_instr virtual p r i is) (Going (running r code2 end2 t ws)) (carry_serves r i is code2 end2 t ws w at long shows c waits))
+      (⊎_elim
       (λ (c : LeavesOut (Follows w.fn.size w.same.out r.top.end end2 is) i at code2).
       record { steps = 0; serves = leave_serves r i is code2 end2 t ws w at long shows c waits })
+      (λ (c : Omits (Follows w.fn.size w.same.out r.top.end end2 is) i at code2).
+      record { steps = 0; serves = omit_serves r i is code2 end2 t ws w at c.now c.into long shows c.only c.forgets c.goes_on waits }))
       follows
 
   -- one step

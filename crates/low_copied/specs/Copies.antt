@@ -1,7 +1,7 @@
--- Programs of which one leaves out copies that the other makes: within a block the value of a register may stand in another one.
+-- Programs of which one leaves out copies that the other makes, and what nothing needs: within a block the value of a register may stand in another one.
 use Rattle.std.specs.Prelude.{◌≡◌, ◌≢◌, ◌⊎◌, ℕ, suc, ◌<◌, List, [], ◌∷◌, Option, Some, None}
 use Rattle.std.specs.List.{AllZip}
-use Rattle.low_ir.specs.Code.{Operand, Register, Constant, Base, Fixed, Through, Address, Set, Instr, Do, Call, End, Block, Function, Note, Low}
+use Rattle.low_ir.specs.Code.{Operand, Register, Constant, Base, Fixed, Through, Address, Set, Operate, Point, Load, Store, Put, Get, Instr, Do, Call, End, Block, Function, Note, Low}
 use Rattle.low_ir.specs.Effects.{reads}
 use Rattle.low_ir.specs.Formed.{LeadsOn, addresses, end_operands, written_by}
 use Rattle.low_copied.specs.Renaming.{renamed_end, renamed_instr}
@@ -38,6 +38,21 @@ Stands at (Constant c) w = ⊥
 -- once the first program alone wrote an operand to the register d
 abbrev pub Copied : ℕ → Operand ℕ → Standing → Standing → Type 0
 Copied d x at now = (v w : ℕ) → now v ≡ Some w → ((v ≡ d) × Stands at x w) ⊎ ((v ≢ d) × (at v ≡ Some w))
+
+-- once the first program alone wrote to the register d what nothing needs
+abbrev pub Forgets : ℕ → Standing → Standing → Type 0
+Forgets d at now = (v w : ℕ) → now v ≡ Some w → (v ≢ d) × (at v ≡ Some w)
+
+-- an instruction changes nothing but this register
+abbrev pub WritesOnly : Instr ℕ Note → ℕ → Type 0
+WritesOnly (Do (Set d x)) e = d ≡ e
+WritesOnly (Do (Operate operator d x y)) e = d ≡ e
+WritesOnly (Do (Point d a)) e = d ≡ e
+WritesOnly (Do (Load kind d a)) e = d ≡ e
+WritesOnly (Do (Store kind a x)) e = ⊥
+WritesOnly (Do (Put x)) e = ⊥
+WritesOnly (Do (Get d)) e = ⊥
+WritesOnly (Call d f args note) e = ⊥
 
 -- the names of operands are where they stand
 abbrev pub Finds : Standing → (ℕ → ℕ) → List (Operand ℕ) → Type 0
@@ -79,6 +94,14 @@ pub record LeavesOut (rest : Standing → Code → Type 0) (i : Instr ℕ Note) 
   pub copied : Copied into value at now
   pub goes_on : rest now code
 
+-- the instruction does nothing that is needed, and the second program does without it
+pub record Omits (rest : Standing → Code → Type 0) (i : Instr ℕ Note) (at : Standing) (code : Code) : Type 0 where
+  pub into : ℕ
+  pub only : WritesOnly i into
+  pub now : Standing
+  pub forgets : Forgets into at now
+  pub goes_on : rest now code
+
 -- a block ends in the same way, and at its end stands what each block counts on to which it leads
 pub record Ends (out : Beginnings) (end new : End ℕ) (at : Standing) (code : Code) : Type 0 where
   pub done : code ≡ []
@@ -90,7 +113,7 @@ pub record Ends (out : Beginnings) (end new : End ℕ) (at : Standing) (code : C
 -- the rest of a block, in the first program and in the second
 abbrev pub Follows : ℕ → Beginnings → End ℕ → End ℕ → Code → Standing → Code → Type 0
 Follows size out end new [] at code = Ends out end new at code
-Follows size out end new (i ∷ is) at code = Carries size (Follows size out end new is) i at code ⊎ LeavesOut (Follows size out end new is) i at code
+Follows size out end new (i ∷ is) at code = Carries size (Follows size out end new is) i at code ⊎ (LeavesOut (Follows size out end new is) i at code ⊎ Omits (Follows size out end new is) i at code)
 
 -- the block of this number
 pub record BlockCopied (size : ℕ) (out : Beginnings) (n : ℕ) (b c : Block ℕ Note) : Type 0 where

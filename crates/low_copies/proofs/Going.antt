@@ -44,7 +44,7 @@ carried size out end new k into i j rest js now h becomes follows =
     })
 
 left_out : (size : ℕ) (out : Beginnings) (end new : End ℕ) (at : Standing) (d : ℕ) (x : Operand ℕ) (rest js : Code) (now : Standing) → Copied d x at now → Follows size out end new rest now js → Follows size out end new (Do (Set d x) ∷ rest) at js
-left_out size out end new at d x rest js now copied follows = inr (record { into = d; value = x; is = refl; now = now; copied = copied; goes_on = follows })
+left_out size out end new at d x rest js now copied follows = inr (inl (record { into = d; value = x; is = refl; now = now; copied = copied; goes_on = follows }))
 
 -- an instruction behind what was made
 behind : (made more js : Code) (j : Instr ℕ Note) → more ≡ made ++ j ∷ [] → made ++ j ∷ js ≡ more ++ js

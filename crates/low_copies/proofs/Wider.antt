@@ -2,7 +2,7 @@
 use Rattle.std.proofs.Common.{◌≡◌, ◌≢◌, ◌⊎◌, ℕ, List, [], ◌∷◌, Option, Some, None, ⊎_elim, inl, inr}
 use Rattle.low_ir.specs.Code.{Operand, Register, Constant, End}
 use Rattle.low_ir.specs.Formed.{end_operands, written_by}
-use Rattle.low_copied.specs.Copies.{Becomes, Beginnings, Carries, Code, Copied, Fewer, Finds, Follows, LeavesOut, Standing, Stands, operands}
+use Rattle.low_copied.specs.Copies.{Becomes, Beginnings, Carries, Code, Copied, Fewer, Finds, Follows, LeavesOut, Omits, Standing, Stands, operands}
 
 finds_more : (at more : Standing) (name : ℕ → ℕ) → Fewer more at → (xs : List (Operand ℕ)) → Finds at name xs → Finds more name xs
 finds_more at more name fewer [] f = f
@@ -45,6 +45,9 @@ follows_more size out end new (i ∷ is) at more js fewer h =
       becomes = becomes_more size (written_by i) c.into at more c.now fewer c.becomes;
       goes_on = c.goes_on;
     }))
+    (⊎_elim
     (λ (c : LeavesOut (Follows size out end new is) i at js).
-    inr (record { into = c.into; value = c.value; is = c.is; now = c.now; copied = copied_more c.into c.value at more c.now fewer c.copied; goes_on = c.goes_on }))
+    inr (inl (record { into = c.into; value = c.value; is = c.is; now = c.now; copied = copied_more c.into c.value at more c.now fewer c.copied; goes_on = c.goes_on })))
+    (λ (c : Omits (Follows size out end new is) i at js).
+    inr (inr (record { into = c.into; only = c.only; now = c.now; forgets = λ v w q. let f = c.forgets v w q in (f.0, fewer v w f.1); goes_on = c.goes_on }))))
     h

@@ -1,5 +1,5 @@
 -- A low program without its copies keeps what it kept.
-use Rattle.std.proofs.Common.{◌≡◌, ◌+◌, ℕ, List, [], ◌∷◌, ◌++◌, length, map, Option, Some, None, refl, sym, ap, ◌∙◌, subst, ⊎_elim, arith}
+use Rattle.std.proofs.Common.{◌≡◌, ◌+◌, ℕ, List, [], ◌∷◌, ◌++◌, length, map, Option, Some, None, refl, sym, ap, ◌∙◌, subst, ⊎_elim, inl, inr, arith}
 use Rattle.std.specs.Prelude.{All, option_to_list, slice_get, slice_index_or, sum_by, true}
 use Rattle.std.specs.List.{AllZip, flat_map}
 use Rattle.std.proofs.lemmas.List.Elements.{All-cons, All-head, All-nil}
@@ -23,7 +23,7 @@ use Rattle.low_copied.proofs.Formed.{blocks_keep, formed, mark_same, opening_sam
 use Rattle.low_copied.proofs.Lists.{as_long, before}
 use Rattle.low_copied.proofs.Serving.{served}
 use Rattle.lower_budget.specs.Costs.{bounded, marks_at, marks_in}
-use Rattle.lower_law.specs.Arrays.{IsAccess, IsArrayParameter, local_array_bytes}
+use Rattle.lower_law.specs.Arrays.{IsAccess, IsOfOne, IsOfParameter, local_array_bytes}
 use Rattle.lower_law.specs.Functions.{AccessesOf, ComesFrom}
 use Rattle.lower_law.specs.Programs.{KeepsProgram}
 use Rattle.lower_origins.specs.Passing.{IsPassed}
@@ -65,32 +65,34 @@ module _ (p : high.Program) (q r : Low) (copied : IsCopied q r) where
       record { steps = s.steps; world = k.world; good = s.good; output = k.output; marks = passed_same k.world.trace ∙ k.marks }
 
   module _ (f : ℕ) (h : high.Function) (fn gn : Function ℕ Note) (same : FunctionCopied fn gn) where
-    base_kept : (name : ℕ → ℕ) (base : Base ℕ) → KeepsBase name base → IsAccess p q f h fn base → IsAccess p r f h gn (renamed_base name base)
+    base_kept : (name : ℕ → ℕ) (base : Base ℕ) → KeepsBase name base → IsAccess p q f h base → IsAccess p r f h (renamed_base name base)
     base_kept name (Fixed o) keeps a = a
     base_kept name (Through x claim) keeps a =
-        subst (λ y. IsArrayParameter p r f h gn y claim) (sym keeps)
-        (record {
-          parameter = a.parameter;
-          there = a.there;
-          register = ap (λ rs. slice_get rs (h.values + a.parameter)) same.parameters ∙ a.register;
-          passed = subst (λ cs. (o : ℕ) → is_member (slice_index_or cs claim []) o ≡ true → IsPassed p f a.parameter o) (sym copied.claims) a.passed;
-          listed = subst (λ cs. (o : ℕ) → IsPassed p f a.parameter o → is_member (slice_index_or cs claim []) o ≡ true) (sym copied.claims) a.listed;
-        })
+        ⊎_elim
+        (λ (k : IsOfParameter p q f h claim).
+        inl (record {
+          parameter = k.parameter;
+          there = k.there;
+          passed = subst (λ cs. (o : ℕ) → is_member (slice_index_or cs claim []) o ≡ true → IsPassed p f k.parameter o) (sym copied.claims) k.passed;
+          listed = subst (λ cs. (o : ℕ) → IsPassed p f k.parameter o → is_member (slice_index_or cs claim []) o ≡ true) (sym copied.claims) k.listed;
+        }))
+        (λ (k : IsOfOne p q claim). inr (record { object = k.object; there = k.there; is = ap (λ cs. slice_get cs claim) copied.claims ∙ k.is }))
+        a
 
     abbrev Old : Instr ℕ Note → Type 0
-    Old i = All (λ (a : Address ℕ). IsAccess p q f h fn a.base) (addresses i)
+    Old i = All (λ (a : Address ℕ). IsAccess p q f h a.base) (addresses i)
 
     abbrev New : Instr ℕ Note → Type 0
-    New i = All (λ (a : Address ℕ). IsAccess p r f h gn a.base) (addresses i)
+    New i = All (λ (a : Address ℕ). IsAccess p r f h a.base) (addresses i)
 
-    one_kept : (name : ℕ → ℕ) (a : Address ℕ) → KeepsBase name a.base → All (λ (x : Address ℕ). IsAccess p q f h fn x.base) (a ∷ []) → All (λ (x : Address ℕ). IsAccess p r f h gn x.base) (renamed_address name a ∷ [])
+    one_kept : (name : ℕ → ℕ) (a : Address ℕ) → KeepsBase name a.base → All (λ (x : Address ℕ). IsAccess p q f h x.base) (a ∷ []) → All (λ (x : Address ℕ). IsAccess p r f h x.base) (renamed_address name a ∷ [])
     one_kept name a keeps all =
-        All-cons (λ (x : Address ℕ). IsAccess p r f h gn x.base) (renamed_address name a) []
-        (base_kept name a.base keeps (All-head (λ (x : Address ℕ). IsAccess p q f h fn x.base) a [] all))
-        (All-nil (λ (x : Address ℕ). IsAccess p r f h gn x.base))
+        All-cons (λ (x : Address ℕ). IsAccess p r f h x.base) (renamed_address name a) []
+        (base_kept name a.base keeps (All-head (λ (x : Address ℕ). IsAccess p q f h x.base) a [] all))
+        (All-nil (λ (x : Address ℕ). IsAccess p r f h x.base))
 
-    none_there : All (λ (x : Address ℕ). IsAccess p r f h gn x.base) []
-    none_there = All-nil (λ (x : Address ℕ). IsAccess p r f h gn x.base)
+    none_there : All (λ (x : Address ℕ). IsAccess p r f h x.base) []
+    none_there = All-nil (λ (x : Address ℕ). IsAccess p r f h x.base)
 
     access_kept : (name : ℕ → ℕ) (into : ℕ) (i : Instr ℕ Note) → KeepsBases name (addresses i) → Old i → New (renamed_instr name into i)
     access_kept name into (Do (Set d x)) keeps all = none_there
@@ -102,7 +104,7 @@ module _ (p : high.Program) (q r : Low) (copied : IsCopied q r) where
     access_kept name into (Do (Get d)) keeps all = none_there
     access_kept name into (Call d g args note) keeps all = none_there
 
-    accesses_kept : All (AccessesOf p q f h fn) fn.blocks → All (AccessesOf p r f h gn) gn.blocks
+    accesses_kept : All (AccessesOf p q f h) fn.blocks → All (AccessesOf p r f h) gn.blocks
     accesses_kept all = blocks_keep Old New access_kept fn.size same.out fn.blocks gn.blocks (copied_blocks fn gn same) all
 
   comes : (fn gn : Function ℕ Note) → FunctionCopied fn gn → ComesFrom p q fn → ComesFrom p r gn

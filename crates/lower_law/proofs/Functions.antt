@@ -1,11 +1,8 @@
 -- The functions of a low program are those that calls reach from main.
-use Rattle.std.proofs.Common.{◌≡◌, ℕ, ◌+◌, ◌*◌, ◌<◌, ◌≤◌, Bool, true, false, [], ◌++◌, length, get_or, Option, Some, None, refl, sym, ap, ◌∙◌, subst, arith, length-append}
+use Rattle.std.proofs.Common.{◌≡◌, ℕ, ◌+◌, ◌*◌, ◌<◌, ◌≤◌, Bool, true, false, [], length, Option, Some, None, refl, sym, ap, ◌∙◌, subst, inl, arith, length-append}
 use Rattle.std.specs.Prelude.{if◌then◌else◌, nat_lt, slice_get, slice_index_or}
-use Rattle.std.specs.List.{range_with_len}
 use Rattle.std.proofs.lemmas.Bool.{ltb-true}
-use Rattle.std.proofs.lemmas.List.{get_or-append-add}
-use Rattle.std.proofs.lemmas.List.FromFn.{get_or-range_with_len, length-range_with_len}
-use Rattle.std.proofs.lemmas.Option.{same_Some, slice_get_read, slice_get_within}
+use Rattle.std.proofs.lemmas.Option.{same_Some, slice_get_within}
 use Rattle.high_ir.specs.declared.object.Base.{Base as HighBase}
 use Rattle.high_ir.specs.declared.object.Base.TheVariants.{Object, Parameter}
 use Rattle.high_ir.specs.Formed.{IsHigh}
@@ -33,22 +30,10 @@ use Rattle.lower_origins.specs.Reached.{IsReached, ListsReached}
 use Rattle.lower_origins.specs.Passing.{ListsPassed}
 use Rattle.lower_origins.proofs.Reaching.{lists_reached}
 use Rattle.lower_origins.proofs.Passings.{lists_passed}
-use Rattle.lower_law.specs.Arrays.{IsAccess, IsArrayParameter}
+use Rattle.lower_law.specs.Arrays.{IsAccess, IsOfParameter}
 use Rattle.lower_law.specs.Functions.{ComesFrom}
 use Rattle.lower_law.specs.Programs.{HasFunction}
 use Rattle.lower_law.proofs.Bases.{function_begins}
-
--- the register of an array parameter
-parameter_at : (values variables arrays j : ℕ) → j < arrays → slice_get (range_with_len 0 values ++ range_with_len variables arrays) (values + j) ≡ Some (variables + j)
-parameter_at values variables arrays j low =
-    let xs = range_with_len 0 values in
-    let ys = range_with_len variables arrays in
-    let x = variables + j in
-    let nx = length-range_with_len 0 values in
-    let ny = length-range_with_len variables arrays in
-    let total = length-append xs ys in
-    let read : get_or (xs ++ ys) (values + j) x ≡ x = ap (λ n. get_or (xs ++ ys) (n + j) x) (sym nx) ∙ get_or-append-add xs ys j x ∙ get_or-range_with_len variables arrays j x low in
-    slice_get_read (xs ++ ys) (values + arrays) (values + j) x (omega (arith, nx, ny, total)) (omega (arith, low)) (sym read)
 
 -- each mark is an operation
 mutual
@@ -105,7 +90,7 @@ module _ (p : high.Program) (is_high : IsHigh p) where
     arrays : length scope.claims ≡ h.arrays
     arrays = length-numbered s.number (listed table f) ∙ listed_count p f h e
 
-    parameter_is : (j claim : ℕ) → slice_get scope.claims j ≡ Some (Some claim) → IsArrayParameter p q f h fn (pointer scope j) claim
+    parameter_is : (j claim : ℕ) → slice_get scope.claims j ≡ Some (Some claim) → IsOfParameter p q f h claim
     parameter_is j claim named =
         let low = slice_get_within scope.claims j (Some claim) named in
         let count = arrays in
@@ -115,23 +100,22 @@ module _ (p : high.Program) (is_high : IsHigh p) where
         record {
           parameter = j;
           there = inside;
-          register = parameter_at h.values scope.variables h.arrays j inside;
           passed = λ o m. passes.passed f j o (ap (λ l. is_member l o) (sym same) ∙ m);
           listed = λ o x. ap (λ l. is_member l o) same ∙ passes.listed f j o x;
         }
 
-    named : (b : HighBase) (c : Base ℕ) → base_of scope b ≡ Some c → IsAccess p q f h fn c
+    named : (b : HighBase) (c : Base ℕ) → base_of scope b ≡ Some c → IsAccess p q f h c
     named (Object o) c k = by_test (nat_lt o scope.objects) refl k
       where
-        by_test : (t : Bool) → nat_lt o scope.objects ≡ t → (if t then Some (Fixed o) else None) ≡ Some c → IsAccess p q f h fn c
-        by_test true t k = subst (IsAccess p q f h fn) (same_Some (Fixed o) c k) (ltb-true o scope.objects t)
+        by_test : (t : Bool) → nat_lt o scope.objects ≡ t → (if t then Some (Fixed o) else None) ≡ Some c → IsAccess p q f h c
+        by_test true t k = subst (IsAccess p q f h) (same_Some (Fixed o) c k) (ltb-true o scope.objects t)
         by_test false t k = cc
     named (Parameter j) c k = by_claim (slice_get scope.claims j) refl k
       where
-        by_claim : (o : Option (Option ℕ)) → slice_get scope.claims j ≡ o → through (pointer scope j) o ≡ Some c → IsAccess p q f h fn c
+        by_claim : (o : Option (Option ℕ)) → slice_get scope.claims j ≡ o → through (pointer scope j) o ≡ Some c → IsAccess p q f h c
         by_claim None is k = cc
         by_claim (Some None) is k = cc
-        by_claim (Some (Some claim)) is k = subst (IsAccess p q f h fn) (same_Some (Through (pointer scope j) claim) c k) (parameter_is j claim is)
+        by_claim (Some (Some claim)) is k = subst (IsAccess p q f h) (same_Some (Through (pointer scope j) claim) c k) (inl (parameter_is j claim is))
 
     function_comes : is_member (order p) f ≡ true → Comes fn
     function_comes m =
@@ -149,7 +133,7 @@ module _ (p : high.Program) (is_high : IsHigh p) where
             loops = loops_kept scope f h;
             registers = omega (arith, few, free);
             marks = omega (arith, marks, less);
-            accesses = function_begins (IsAccess p q f h fn) scope named f h;
+            accesses = function_begins (IsAccess p q f h) scope named f h;
           };
           spared = omega (arith, few, free);
         }

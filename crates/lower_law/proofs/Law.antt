@@ -1,6 +1,7 @@
 -- The low program of a program keeps it with words in registers too.
-use Rattle.std.proofs.Common.{◌≡◌, ℕ, suc, ◌+◌, ◌≤◌, List, [], ◌∷◌, ◌++◌, length, map, Option, Some, None, refl, sym, ap, ◌∙◌, subst, arith}
-use Rattle.std.specs.Prelude.{All, option_to_list, slice_get, sum_by}
+use Rattle.std.proofs.Common.{◌≡◌, ℕ, suc, ◌+◌, ◌≤◌, List, [], ◌∷◌, ◌++◌, length, map, Option, Some, None, refl, sym, ap, ◌∙◌, subst, ⊎_elim, inl, inr, arith}
+use Rattle.std.specs.Prelude.{All, ◌*◌, ◌^◌, option_to_list, slice_get, sum_by}
+use Rattle.std.proofs.Math.Nat.{le-max_left}
 use Rattle.std.proofs.lemmas.List.Concat.{flat_map-cons}
 use Rattle.std.proofs.lemmas.List.Elements.{All-append, All-nil, All-weaker}
 use Rattle.std.proofs.lemmas.List.Sums.{sum_by-cons}
@@ -9,6 +10,7 @@ use Rattle.high_ir.specs.Formed.{IsHigh}
 use Rattle.high_ir.specs.Runs.{Run, hrun}
 use Rattle.high_ir.specs.Size.{operations}
 use Rattle.high_ir.specs.Tree as high
+use Rattle.high_ir.specs.Weight.{weight as high_weight}
 use Rattle.low_ir.specs.Code.{Address, Base, Block, Fixed, Function, Instr, Low, Note, Through}
 use Rattle.low_ir.specs.declared.run.Began.{Began}
 use Rattle.low_ir.specs.Formed.{addresses, opening}
@@ -33,7 +35,7 @@ use Rattle.lower_budget.proofs.Loops.{marks_few}
 use Rattle.lower_budget.proofs.Programs.{room_few}
 use Rattle.lower_budget.proofs.Reaches.{reach_less}
 use Rattle.lower_budget.proofs.Weights.{weight_less}
-use Rattle.lower_law.specs.Arrays.{IsAccess}
+use Rattle.lower_law.specs.Arrays.{IsAccess, IsOfOne, IsOfParameter}
 use Rattle.lower_law.specs.Functions.{AccessesOf, ComesFrom, registers_of}
 use Rattle.lower_law.specs.Programs.{KeepsProgram, SparesRegisters}
 use Rattle.lower_law.proofs.Functions.{functions_come, main_there, marks_less, reached_there}
@@ -98,26 +100,30 @@ module _ (p : high.Program) (q : Low) (wss : List (List ℕ)) (f : ℕ) (h : hig
   abbrev g : Function ℕ Note
   g = holding ws fn
 
-  access_held : (b : Base ℕ) → IsAccess p q f h fn b → IsAccess p r f h g b
+  access_held : (b : Base ℕ) → IsAccess p q f h b → IsAccess p r f h b
   access_held (Fixed o) k = k
-  access_held (Through s claim) k = record { parameter = k.parameter; there = k.there; register = k.register; passed = k.passed; listed = k.listed }
+  access_held (Through s claim) k =
+      ⊎_elim
+      (λ (x : IsOfParameter p q f h claim). inl (record { parameter = x.parameter; there = x.there; passed = x.passed; listed = x.listed }))
+      (λ (x : IsOfOne p q claim). inr (record { object = x.object; there = x.there; is = x.is }))
+      k
 
   abbrev Begins : Instr ℕ Note → Type 0
-  Begins i = All (λ (a : Address ℕ). IsAccess p q f h fn a.base) (addresses i)
+  Begins i = All (λ (a : Address ℕ). IsAccess p q f h a.base) (addresses i)
 
   abbrev Begins2 : Instr ℕ Note → Type 0
-  Begins2 i = All (λ (a : Address ℕ). IsAccess p r f h g a.base) (addresses i)
+  Begins2 i = All (λ (a : Address ℕ). IsAccess p r f h a.base) (addresses i)
 
   instr_held : (i : Instr ℕ Note) → Begins i → Begins2 (held_instr fn.size ws i)
   instr_held i k =
-      subst (λ ls. All (λ (a : Address ℕ). IsAccess p r f h g a.base) ls) (sym (addresses_held fn.size ws i))
-      (All-weaker (λ (a : Address ℕ). IsAccess p q f h fn a.base) (λ (a : Address ℕ). IsAccess p r f h g a.base) (λ a x. access_held a.base x) (addresses i) k)
+      subst (λ ls. All (λ (a : Address ℕ). IsAccess p r f h a.base) ls) (sym (addresses_held fn.size ws i))
+      (All-weaker (λ (a : Address ℕ). IsAccess p q f h a.base) (λ (a : Address ℕ). IsAccess p r f h a.base) (λ a x. access_held a.base x) (addresses i) k)
 
-  accesses_held : All (AccessesOf p q f h fn) fn.blocks → All (AccessesOf p r f h g) g.blocks
+  accesses_held : All (AccessesOf p q f h) fn.blocks → All (AccessesOf p r f h) g.blocks
   accesses_held all =
-      blocks_all fn.size ws (AccessesOf p q f h fn) (AccessesOf p r f h g)
+      blocks_all fn.size ws (AccessesOf p q f h) (AccessesOf p r f h)
       (λ bl k. code_all fn.size ws Begins Begins2 instr_held bl.code k)
-      (λ bl k. All-append Begins2 (fills fn.size ws) (map (held_instr fn.size ws) bl.code) (fills_all Begins2 fn.size ws (λ s w low. All-nil (λ (a : Address ℕ). IsAccess p r f h g a.base))) (code_all fn.size ws Begins Begins2 instr_held bl.code k))
+      (λ bl k. All-append Begins2 (fills fn.size ws) (map (held_instr fn.size ws) bl.code) (fills_all Begins2 fn.size ws (λ s w low. All-nil (λ (a : Address ℕ). IsAccess p r f h a.base))) (code_all fn.size ws Begins Begins2 instr_held bl.code k))
       fn.blocks all
 
 module _ (p : high.Program) (is_high : IsHigh p) (wss : List (List ℕ)) where
@@ -180,6 +186,6 @@ module _ (p : high.Program) (is_high : IsHigh p) (wss : List (List ℕ)) where
         loops = let a = loops_few p is_high in let b = loops_held wss 0 q.functions in omega (arith, a, b);
         marks = let a = total_less measure (λ fn. sum_by marks_at fn.blocks) places_less p is_high in let b = all_marks wss 0 q.functions in omega (arith, a, b);
         room = let a = room_few p is_high in let b = rooms_held wss 0 q.functions in let c = length_held wss 0 q.functions in omega (arith, a, b, c);
-        weight = weight_less p is_high held.functions (spared_held wss q low);
+        weight = let a = weight_less p is_high held.functions (spared_held wss q low) in let b = le-max_left (16 * high_weight p + 64) (2 ^ 48) in omega (arith, a, b);
         reach = λ mark. let a = reach_held wss q low mark in let b = reach_less p is_high mark in omega (arith, a, b);
       }

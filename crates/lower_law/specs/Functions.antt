@@ -10,8 +10,8 @@ use Rattle.lower_origins.specs.Reached.{IsReached}
 use Rattle.lower_law.specs.Arrays.{IsAccess}
 
 -- each access of a block
-abbrev pub AccessesOf : high.Program → Low → ℕ → high.Function → Function ℕ Note → Block ℕ Note → Type 0
-AccessesOf p q f h fn b = All (λ (i : Instr ℕ Note). All (λ (a : Address ℕ). IsAccess p q f h fn a.base) (addresses i)) b.code
+abbrev pub AccessesOf : high.Program → Low → ℕ → high.Function → Block ℕ Note → Type 0
+AccessesOf p q f h b = All (λ (i : Instr ℕ Note). All (λ (a : Address ℕ). IsAccess p q f h a.base) (addresses i)) b.code
 
 -- so many registers more a function may have than it is made with
 abbrev pub spare_registers : ℕ
@@ -33,4 +33,4 @@ pub record ComesFrom (p : high.Program) (q : Low) (fn : Function ℕ Note) : Typ
   pub registers : fn.size ≤ registers_of function + spare_registers
   -- its marks stand at no more places than it has operations, the opening mark included
   pub marks : sum_by marks_at fn.blocks ≤ operations function.body + 1
-  pub accesses : All (AccessesOf p q number function fn) fn.blocks
+  pub accesses : All (AccessesOf p q number function) fn.blocks

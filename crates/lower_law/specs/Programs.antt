@@ -41,9 +41,9 @@ pub record KeepsProgram (p : Program) (q : Low) : Type 0 where
   -- it has no more loops, and no more places with marks than the program has operations
   pub loops : sum_by (λ (fn : Function ℕ Note). length fn.loops) q.functions ≤ p.loops
   pub marks : sum_by (λ (fn : Function ℕ Note). sum_by marks_at fn.blocks) q.functions ≤ program_operations p
-  -- how many machine instructions it takes, by the operations that it has or might have, how many a run may execute, and how often a run may pass a mark
+  -- how many machine instructions it takes, by the operations that it has or might have, how many a run may execute, by the weight that it has or might have, and how often a run may pass a mark
   pub room : room q ≤ 16 * max (program_operations p) 98304 + 64 * length q.functions
-  pub weight : weight q ≤ 16 * high.weight p + 64
+  pub weight : weight q ≤ max (16 * high.weight p + 64) (2 ^ 48)
   pub reach : (mark : ℕ) → reach q mark ≤ high.reach p mark
 
 -- no function has one of the spare registers yet

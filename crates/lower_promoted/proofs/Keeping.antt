@@ -1,5 +1,5 @@
 -- A low program with scalars in registers keeps what it kept.
-use Rattle.std.proofs.Common.{◌≡◌, ◌<◌, ◌≤◌, ◌+◌, ◌^◌, ℕ, suc, List, [], ◌∷◌, ◌++◌, length, map, Option, Some, None, refl, sym, ap, ◌∙◌, subst, ⊎_elim, arith}
+use Rattle.std.proofs.Common.{◌≡◌, ◌<◌, ◌≤◌, ◌+◌, ◌^◌, ℕ, suc, List, [], ◌∷◌, ◌++◌, length, map, Option, Some, None, refl, sym, ap, ◌∙◌, subst, ⊎_elim, arith, inl, inr}
 use Rattle.std.specs.Prelude.{All, option_to_list, slice_get, sum_by}
 use Rattle.std.specs.List.{flat_map}
 use Rattle.std.proofs.lemmas.List.{length-map}
@@ -31,7 +31,7 @@ use Rattle.low_promoted.proofs.Formed.{block_mark, codes_all, formed, length_pro
 use Rattle.low_promoted.proofs.Tables.{of_function, promoted_at}
 use Rattle.lower_budget.specs.Costs.{bounded, marks_at}
 use Rattle.lower_definition.specs.Objects.{object_of}
-use Rattle.lower_law.specs.Arrays.{IsAccess}
+use Rattle.lower_law.specs.Arrays.{IsAccess, IsOfOne, IsOfParameter}
 use Rattle.lower_law.specs.Functions.{AccessesOf, ComesFrom}
 use Rattle.lower_law.specs.Programs.{KeepsProgram, SparesRegisters}
 use Rattle.lower_program.specs.Kept.{IsKept}
@@ -87,20 +87,24 @@ module _ (p : high.Program) (q : Low) (hss : List (List Resident)) where
     g = promoted_function hs fn
 
     abbrev Begins : Address ℕ → Type 0
-    Begins a = IsAccess p r f h g a.base
+    Begins a = IsAccess p r f h a.base
 
     abbrev Old : Instr ℕ Note → Type 0
-    Old i = All (λ (a : Address ℕ). IsAccess p q f h fn a.base) (addresses i)
+    Old i = All (λ (a : Address ℕ). IsAccess p q f h a.base) (addresses i)
 
     abbrev New : Instr ℕ Note → Type 0
     New i = All Begins (addresses i)
 
-    base_kept : (b : Base ℕ) → IsAccess p q f h fn b → IsAccess p r f h g b
+    base_kept : (b : Base ℕ) → IsAccess p q f h b → IsAccess p r f h b
     base_kept (Fixed o) k = k
-    base_kept (Through s claim) k = record { parameter = k.parameter; there = k.there; register = k.register; passed = k.passed; listed = k.listed }
+    base_kept (Through s claim) k =
+        ⊎_elim
+        (λ (x : IsOfParameter p q f h claim). inl (record { parameter = x.parameter; there = x.there; passed = x.passed; listed = x.listed }))
+        (λ (x : IsOfOne p q claim). inr (record { object = x.object; there = x.there; is = x.is }))
+        k
 
-    one_kept : (a : Address ℕ) → All (λ (x : Address ℕ). IsAccess p q f h fn x.base) (a ∷ []) → All Begins (a ∷ [])
-    one_kept a all = All-cons Begins a [] (base_kept a.base (All-head (λ (x : Address ℕ). IsAccess p q f h fn x.base) a [] all)) (All-nil Begins)
+    one_kept : (a : Address ℕ) → All (λ (x : Address ℕ). IsAccess p q f h x.base) (a ∷ []) → All Begins (a ∷ [])
+    one_kept a all = All-cons Begins a [] (base_kept a.base (All-head (λ (x : Address ℕ). IsAccess p q f h x.base) a [] all)) (All-nil Begins)
 
     one_new : (i : Instr ℕ Note) → New i → All New (i ∷ [])
     one_new i h = All-cons New i [] h (All-nil New)
@@ -139,7 +143,7 @@ module _ (p : high.Program) (q : Low) (hss : List (List Resident)) where
     instr_kept (Do (Get d)) all = without (Do (Get d)) refl
     instr_kept (Call d c args note) all = without (Call d c args note) refl
 
-    accesses_kept : AreScalars q.objects hs → length q.objects ≡ length p.objects → All (AccessesOf p q f h fn) fn.blocks → All (AccessesOf p r f h g) g.blocks
+    accesses_kept : AreScalars q.objects hs → length q.objects ≡ length p.objects → All (AccessesOf p q f h) fn.blocks → All (AccessesOf p r f h) g.blocks
     accesses_kept scalars count all =
         codes_all q.objects fn.size hs scalars Old New instr_kept
         (λ kind s o low there. All-cons Begins (scalar_address o) [] (omega (arith, there, count)) (All-nil Begins))

@@ -1,5 +1,5 @@
 -- A low program with copies in place of loads keeps what it kept.
-use Rattle.std.proofs.Common.{◌≡◌, ◌<◌, ◌+◌, ◌^◌, ℕ, List, [], ◌∷◌, ◌++◌, length, map, Option, Some, None, refl, sym, ap, ◌∙◌, subst, arith}
+use Rattle.std.proofs.Common.{◌≡◌, ◌<◌, ◌+◌, ◌^◌, ℕ, List, [], ◌∷◌, ◌++◌, length, map, Option, Some, None, refl, sym, ap, ◌∙◌, subst, ⊎_elim, inl, inr, arith}
 use Rattle.std.specs.Prelude.{All, option_to_list, slice_get, slice_index_or, sum_by, true}
 use Rattle.std.specs.List.{AllZip, flat_map}
 use Rattle.std.proofs.lemmas.List.Elements.{All-nil, All-weaker}
@@ -21,7 +21,7 @@ use Rattle.low_reloaded.proofs.Formed.{blocks_keep, formed, mark_same, opening_s
 use Rattle.low_reloaded.proofs.Lists.{as_long, before}
 use Rattle.low_reloaded.proofs.Serving.{served}
 use Rattle.lower_budget.specs.Costs.{bounded, marks_at, marks_in}
-use Rattle.lower_law.specs.Arrays.{IsAccess, local_array_bytes}
+use Rattle.lower_law.specs.Arrays.{IsAccess, IsOfOne, IsOfParameter, local_array_bytes}
 use Rattle.lower_law.specs.Functions.{AccessesOf, ComesFrom}
 use Rattle.lower_law.specs.Programs.{KeepsProgram}
 use Rattle.lower_origins.specs.Passing.{IsPassed}
@@ -51,24 +51,27 @@ module _ (p : high.Program) (q r : Low) (reloaded : IsReloaded q r) where
       record { steps = k.steps; world = k.world; good = served q r reloaded input k.steps x.value k.world bytes k.good; output = k.output; marks = passed_same k.world.trace ∙ k.marks }
 
   module _ (f : ℕ) (h : high.Function) (fn gn : Function ℕ Note) (same : FunctionReloaded q.claims fn gn) where
-    base_kept : (base : Base ℕ) → IsAccess p q f h fn base → IsAccess p r f h gn base
+    base_kept : (base : Base ℕ) → IsAccess p q f h base → IsAccess p r f h base
     base_kept (Fixed o) a = a
     base_kept (Through x claim) a =
-        record {
-          parameter = a.parameter;
-          there = a.there;
-          register = ap (λ rs. slice_get rs (h.values + a.parameter)) same.parameters ∙ a.register;
-          passed = subst (λ cs. (o : ℕ) → is_member (slice_index_or cs claim []) o ≡ true → IsPassed p f a.parameter o) (sym reloaded.claims) a.passed;
-          listed = subst (λ cs. (o : ℕ) → IsPassed p f a.parameter o → is_member (slice_index_or cs claim []) o ≡ true) (sym reloaded.claims) a.listed;
-        }
+        ⊎_elim
+        (λ (k : IsOfParameter p q f h claim).
+        inl (record {
+          parameter = k.parameter;
+          there = k.there;
+          passed = subst (λ cs. (o : ℕ) → is_member (slice_index_or cs claim []) o ≡ true → IsPassed p f k.parameter o) (sym reloaded.claims) k.passed;
+          listed = subst (λ cs. (o : ℕ) → IsPassed p f k.parameter o → is_member (slice_index_or cs claim []) o ≡ true) (sym reloaded.claims) k.listed;
+        }))
+        (λ (k : IsOfOne p q claim). inr (record { object = k.object; there = k.there; is = ap (λ cs. slice_get cs claim) reloaded.claims ∙ k.is }))
+        a
 
-    all_kept : (xs : List (Address ℕ)) → All (λ (a : Address ℕ). IsAccess p q f h fn a.base) xs → All (λ (a : Address ℕ). IsAccess p r f h gn a.base) xs
-    all_kept = All-weaker (λ (a : Address ℕ). IsAccess p q f h fn a.base) (λ (a : Address ℕ). IsAccess p r f h gn a.base) (λ a k. base_kept a.base k)
+    all_kept : (xs : List (Address ℕ)) → All (λ (a : Address ℕ). IsAccess p q f h a.base) xs → All (λ (a : Address ℕ). IsAccess p r f h a.base) xs
+    all_kept = All-weaker (λ (a : Address ℕ). IsAccess p q f h a.base) (λ (a : Address ℕ). IsAccess p r f h a.base) (λ a k. base_kept a.base k)
 
-    accesses_kept : All (AccessesOf p q f h fn) fn.blocks → All (AccessesOf p r f h gn) gn.blocks
+    accesses_kept : All (AccessesOf p q f h) fn.blocks → All (AccessesOf p r f h) gn.blocks
     accesses_kept all =
-        blocks_keep (λ i. All (λ (a : Address ℕ). IsAccess p q f h fn a.base) (addresses i)) (λ i. All (λ (a : Address ℕ). IsAccess p r f h gn a.base) (addresses i))
-        (λ i. all_kept (addresses i)) (λ kind d x a k. All-nil (λ (a : Address ℕ). IsAccess p r f h gn a.base)) q.claims fn.blocks gn.blocks same.blocks all
+        blocks_keep (λ i. All (λ (a : Address ℕ). IsAccess p q f h a.base) (addresses i)) (λ i. All (λ (a : Address ℕ). IsAccess p r f h a.base) (addresses i))
+        (λ i. all_kept (addresses i)) (λ kind d x a k. All-nil (λ (a : Address ℕ). IsAccess p r f h a.base)) q.claims fn.blocks gn.blocks same.blocks all
 
   comes : (fn gn : Function ℕ Note) → FunctionReloaded q.claims fn gn → ComesFrom p q fn → ComesFrom p r gn
   comes fn gn same k =

@@ -1,5 +1,5 @@
 -- A low program with shorter ways keeps what it kept.
-use Rattle.std.proofs.Common.{◌≡◌, ◌≤◌, ◌+◌, ℕ, suc, List, [], ◌∷◌, length, map, Option, Some, None, refl, sym, ap, ◌∙◌, subst, ⊎_elim, arith}
+use Rattle.std.proofs.Common.{◌≡◌, ◌≤◌, ◌+◌, ℕ, suc, List, [], ◌∷◌, length, map, Option, Some, None, refl, sym, ap, ◌∙◌, subst, ⊎_elim, arith, inl, inr}
 use Rattle.std.specs.Prelude.{All, slice_get, slice_index_or, sum_by, true}
 use Rattle.std.specs.List.{AllZip}
 use Rattle.std.proofs.lemmas.List.Sums.{sum_by-cons}
@@ -21,7 +21,7 @@ use Rattle.low_threaded.proofs.Lists.{as_long, before, found}
 use Rattle.low_threaded.proofs.Numbers.{IsLeft, LeftOut}
 use Rattle.low_threaded.proofs.Serving.{served}
 use Rattle.lower_budget.specs.Costs.{bounded, marks_at, marks_in}
-use Rattle.lower_law.specs.Arrays.{IsAccess, local_array_bytes}
+use Rattle.lower_law.specs.Arrays.{IsAccess, IsOfOne, IsOfParameter, local_array_bytes}
 use Rattle.lower_law.specs.Functions.{AccessesOf, ComesFrom}
 use Rattle.lower_law.specs.Programs.{KeepsProgram}
 use Rattle.lower_origins.specs.Passing.{IsPassed}
@@ -90,24 +90,27 @@ module _ (p : high.Program) (q r : Low) (threaded : IsThreaded q r) (low : IsLow
           ap (λ o. mark_in (block_in o 0)) k.there ∙ opening_same fn k.it k.related (low.functions f fn there).opens ∙ mark
 
   module _ (f : ℕ) (h : high.Function) (fn gn : LowFunction) (same : FunctionThreaded fn gn) where
-    base_kept : (base : Base ℕ) → IsAccess p q f h fn base → IsAccess p r f h gn base
+    base_kept : (base : Base ℕ) → IsAccess p q f h base → IsAccess p r f h base
     base_kept (Fixed o) a = a
     base_kept (Through x claim) a =
-        record {
-          parameter = a.parameter;
-          there = a.there;
-          register = ap (λ rs. slice_get rs (h.values + a.parameter)) same.parameters ∙ a.register;
-          passed = subst (λ cs. (o : ℕ) → is_member (slice_index_or cs claim []) o ≡ true → IsPassed p f a.parameter o) (sym threaded.claims) a.passed;
-          listed = subst (λ cs. (o : ℕ) → IsPassed p f a.parameter o → is_member (slice_index_or cs claim []) o ≡ true) (sym threaded.claims) a.listed;
-        }
+        ⊎_elim
+        (λ (k : IsOfParameter p q f h claim).
+        inl (record {
+          parameter = k.parameter;
+          there = k.there;
+          passed = subst (λ cs. (o : ℕ) → is_member (slice_index_or cs claim []) o ≡ true → IsPassed p f k.parameter o) (sym threaded.claims) k.passed;
+          listed = subst (λ cs. (o : ℕ) → IsPassed p f k.parameter o → is_member (slice_index_or cs claim []) o ≡ true) (sym threaded.claims) k.listed;
+        }))
+        (λ (k : IsOfOne p q claim). inr (record { object = k.object; there = k.there; is = ap (λ cs. slice_get cs claim) threaded.claims ∙ k.is }))
+        a
 
-    access_kept : (n : ℕ) (b c : LowBlock) → BlockThreaded fn same.plan n b c → AccessesOf p q f h fn b → AccessesOf p r f h gn c
+    access_kept : (n : ℕ) (b c : LowBlock) → BlockThreaded fn same.plan n b c → AccessesOf p q f h b → AccessesOf p r f h c
     access_kept n b c k all =
-        subst (λ is. All (λ (i : Instr ℕ Note). All (λ (a : Address ℕ). IsAccess p r f h gn a.base) (addresses i)) is) (sym k.code)
+        subst (λ is. All (λ (i : Instr ℕ Note). All (λ (a : Address ℕ). IsAccess p r f h a.base) (addresses i)) is) (sym k.code)
         (λ j d lt i e inside. base_kept (slice_index_or (addresses (slice_index_or b.code j d)) i e).base (all j d lt i e inside))
 
-    accesses_kept : All (AccessesOf p q f h fn) fn.blocks → All (AccessesOf p r f h gn) gn.blocks
-    accesses_kept all = all_kept fn same.plan (AccessesOf p q f h fn) (AccessesOf p r f h gn) access_kept fn.blocks 0 0 gn.blocks same.blocks all
+    accesses_kept : All (AccessesOf p q f h) fn.blocks → All (AccessesOf p r f h) gn.blocks
+    accesses_kept all = all_kept fn same.plan (AccessesOf p q f h) (AccessesOf p r f h) access_kept fn.blocks 0 0 gn.blocks same.blocks all
 
   comes : (f : ℕ) (fn gn : LowFunction) → IsFunction q f fn → FunctionThreaded fn gn → ComesFrom p q fn → ComesFrom p r gn
   comes f fn gn formed_fn same k =
