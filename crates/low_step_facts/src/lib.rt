@@ -4,7 +4,7 @@
 //! other registers (`facts`, `forms`; `specs/Facts` says what it means). A proposal has facts for each block of a function and the
 //! edits that make its new code of the old (`proposals`): who proposes needn't be believed.
 //!
-//! Proved: the sums of `forms`, modulo 2^32.
+//! Proved: the arithmetic of `forms`, modulo 2^32.
 //!
 //! The crate knows no pass.
 #![tactic(auto)]
