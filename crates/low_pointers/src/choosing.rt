@@ -17,8 +17,8 @@ const CALL: i64 = 3;
 /// How many registers are looked at for one choice.
 const DEAD: usize = 100_000;
 
-/// Less than any gain.
-const LEAST: i64 = -4_000_000_000_000_000_000;
+/// How often candidates are left out at most.
+const ROUNDS: u32 = 12;
 
 /// How many instructions set a pointer.
 fn entry_of(form: Form) -> i64 {
@@ -192,31 +192,54 @@ pub fn chosen_in(found: &Found) -> u32 {
     all
 }
 
-/// The candidate without which the rest is worth most, if that is so much at least.
-fn worst(
+/// By candidate that is chosen, what the rest is worth without it.
+fn gains_without(
     alloc: Global,
     market: &Market<'_>,
     found: &mut Found,
     counts: &mut Counts,
-    least: i64,
-) -> Result<Option<usize>, Memory> {
-    let mut best = least;
-    let mut place = None;
+) -> Result<Vec<(i64, usize)>, Memory> {
+    let mut gains = Vec::new(alloc);
     for at in 0..found.candidates.len() {
         if is_chosen(&found.candidates, at) {
             set_chosen(found, at, false);
-            let gain = gain_of(alloc, market, found, counts)?;
+            gains.push((gain_of(alloc, market, found, counts)?, at))?;
             set_chosen(found, at, true);
-            if gain >= best {
-                best = gain;
-                place = Some(at);
-            }
         }
     }
-    Ok(place)
+    Ok(gains)
 }
 
-/// Leaves out what doesn't pay, and that for which there is no room.
+/// Leaves out those that don't pay, and says whether there were any. What a candidate is worth doesn't grow as others are left out.
+fn leave_out_poor(found: &mut Found, gains: &[(i64, usize)], now: i64) -> bool {
+    let mut changed = false;
+    for pair in gains {
+        if pair.0 >= now {
+            set_chosen(found, pair.1, false);
+            changed = true;
+        }
+    }
+    changed
+}
+
+/// Leaves out so many, those without which the rest is worth most.
+fn leave_out_worst(
+    found: &mut Found,
+    gains: Vec<(i64, usize)>,
+    number: usize,
+) -> Result<(), Memory> {
+    let mut gains = gains;
+    gains.sort_by_key(|pair| pair.0)?;
+    let count = gains.len();
+    for back in 0..number.min(count) {
+        if let Some(pair) = gains.get(count.wrapping_sub(back).wrapping_sub(1)) {
+            set_chosen(found, pair.1, false);
+        }
+    }
+    Ok(())
+}
+
+/// Leaves out what doesn't pay, and then that for which there is no room.
 pub fn select(
     alloc: Global,
     market: &Market<'_>,
@@ -224,16 +247,19 @@ pub fn select(
     counts: &mut Counts,
     room: u32,
 ) -> Result<(), Memory> {
-    for _ in 0..found.candidates.len() {
-        let least = if chosen_in(found) > room {
-            LEAST
-        } else {
-            gain_of(alloc, market, found, counts)?
-        };
-        match worst(alloc, market, found, counts, least)? {
-            None => return Ok(()),
-            Some(at) => set_chosen(found, at, false),
+    for _ in 0..ROUNDS {
+        let now = gain_of(alloc, market, found, counts)?;
+        let gains = gains_without(alloc, market, found, counts)?;
+        if !leave_out_poor(found, &gains, now) {
+            let number = chosen_in(found).saturating_sub(room);
+            if number == 0 {
+                return Ok(());
+            }
+            leave_out_worst(found, gains, number as usize)?;
         }
+    }
+    for at in 0..found.candidates.len() {
+        set_chosen(found, at, false);
     }
     Ok(())
 }

@@ -185,7 +185,11 @@ pub fn find(alloc: Global, looking: &Looking<'_>, parts: &mut Parts) -> Result<F
         steps: Vec::new(alloc),
     };
     for row in 0..looking.flow.blocks() {
-        look_through(alloc, looking, parts, &mut found, row)?;
+        if looking.flow.is_seen(row) {
+            look_through(alloc, looking, parts, &mut found, row)?;
+        } else {
+            found.steps.push(Vec::new(alloc))?;
+        }
     }
     Ok(found)
 }

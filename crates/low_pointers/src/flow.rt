@@ -119,15 +119,6 @@ impl Flow {
         super::tables::flag_at(&self.seen, row)
     }
 
-    fn all_seen(&self) -> bool {
-        for seen in &self.seen {
-            if !*seen {
-                return false;
-            }
-        }
-        true
-    }
-
     /// A way leads to a block with these forms.
     fn lead_to(&mut self, row: usize, new: &[Option<Form>]) -> bool {
         let first = !self.is_seen(row);
@@ -218,7 +209,7 @@ pub fn flow_of(
     let mut flow = Flow::new(alloc, each, crossing)?;
     for _ in 0..SWEEPS {
         if !flow.sweep(alloc, drafts, words, parts)? {
-            return if flow.all_seen() { Ok(Some(flow)) } else { Ok(None) };
+            return Ok(Some(flow));
         }
     }
     Ok(None)

@@ -1,9 +1,10 @@
 // What is known of registers as a block goes on, in the way in which the checker finds it.
 use super::acts::{Act, written};
-use super::forms::behind;
-use super::parts::operated;
+use super::forms::{behind, word_in};
+use super::parts::{negative, operated};
 use low_ir::Operand;
 use low_step_facts::Form;
+use rv_core::Alu;
 use std::alloc::Global;
 use wcc_base::Memory;
 
@@ -78,7 +79,7 @@ impl Knowing {
 
     fn set_begun(&mut self, register: u32, form: Option<Form>) {
         match form {
-            None => {}
+            None => self.know(register, None, false),
             Some(form) => {
                 if form.has(register) {
                     self.know(register, None, true);
@@ -202,7 +203,8 @@ impl Knowing {
                 };
             }
         }
-        self.know(register, form, true);
+        let is_word = self.is_word(Operand::Register(register));
+        self.know(register, form, is_word);
     }
 
     /// How much an instruction adds to the register that it writes, if that is known.
@@ -214,22 +216,23 @@ impl Knowing {
             right,
         } = act
         {
-            let sum = operated(operator, behind(into, 0), self.form_of(right))?;
-            if is_register(left, into) && sum.factor(into) == 1 {
-                return self.added(sum, into);
-            }
-            let sum = operated(operator, self.form_of(left), behind(into, 0))?;
-            if is_register(right, into) && sum.factor(into) == 1 {
-                return self.added(sum, into);
-            }
+            return match operator {
+                Alu::Sum => {
+                    if is_register(left, into) {
+                        word_in(self.form_of(right))
+                    } else if is_register(right, into) {
+                        word_in(self.form_of(left))
+                    } else {
+                        None
+                    }
+                }
+                Alu::Difference => {
+                    if is_register(left, into) { negative(right) } else { None }
+                }
+                _ => None,
+            };
         }
         None
-    }
-
-    /// What is added to a register in a sum.
-    fn added(&self, sum: Form, register: u32) -> Option<u32> {
-        let rest = sum.plus(0xffff_ffff, behind(register, 0))?;
-        if rest.is_constant() { Some(rest.constant) } else { None }
     }
 
     fn operate(&mut self, act: Act) {
@@ -243,7 +246,7 @@ impl Knowing {
             match self.step_of(act) {
                 Some(by) => self.grow(into, by),
                 None => {
-                    let form = operated(operator, self.form_of(left), self.form_of(right));
+                    let form = operated(operator, self.form_of(left), self.form_of(right), right);
                     self.write(into, form, true);
                 }
             }

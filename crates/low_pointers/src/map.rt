@@ -1,6 +1,6 @@
 // The blocks and loops of a function.
 use super::acts::nexts;
-use super::tables::{add_one, number_at, set_flag, set_number};
+use super::tables::{add_one, flag_at, number_at, set_flag, set_number};
 use low_ir::{Block, Function, Instr, Loop};
 use std::alloc::Global;
 use wcc_base::Memory;
@@ -10,7 +10,9 @@ const MANY: i64 = 1_000_000_000;
 
 #[derive(Drop)]
 pub struct Map {
-    /// By block, those that lead to it.
+    /// By block, whether a way leads to it.
+    pub reached: Vec<bool>,
+    /// By block, those that lead to it and are reached themselves.
     pub sources: Vec<Vec<u32>>,
     /// By block, how often it may start for each call of its function.
     pub times: Vec<i64>,
@@ -29,21 +31,67 @@ fn add_source(sources: &mut [Vec<u32>], block: u32, source: u32) -> Result<(), M
     }
 }
 
-fn sources_of(alloc: Global, blocks: &[Block]) -> Result<Vec<Vec<u32>>, Memory> {
+fn add_sources(sources: &mut [Vec<u32>], block: &Block, number: u32) -> Result<(), Memory> {
+    for next in nexts(block.end) {
+        if let Some(next) = next {
+            add_source(sources, next, number)?;
+        }
+    }
+    Ok(())
+}
+
+fn sources_of(
+    alloc: Global,
+    blocks: &[Block],
+    reached: &[bool],
+) -> Result<Vec<Vec<u32>>, Memory> {
     let mut sources = Vec::new(alloc);
     for _ in 0..blocks.len() {
         sources.push(Vec::new(alloc))?;
     }
     let mut number = 0u32;
     for block in blocks {
-        for next in nexts(block.end) {
-            if let Some(next) = next {
-                add_source(&mut sources, next, number)?;
-            }
+        if flag_at(reached, number as usize) {
+            add_sources(&mut sources, block, number)?;
         }
         number = number.saturating_add(1);
     }
     Ok(sources)
+}
+
+/// The blocks to which one leads are still to be gone through, those that are new.
+fn reach_from(
+    reached: &mut [bool],
+    work: &mut Vec<usize>,
+    block: &Block,
+) -> Result<(), Memory> {
+    for next in nexts(block.end) {
+        if let Some(next) = next {
+            let next = next as usize;
+            if next < reached.len() && !flag_at(reached, next) {
+                set_flag(reached, next, true);
+                work.push(next)?;
+            }
+        }
+    }
+    Ok(())
+}
+
+fn reached_in(alloc: Global, blocks: &[Block]) -> Result<Vec<bool>, Memory> {
+    let mut reached = vec![in alloc; false; blocks.len()]?;
+    let mut work = vec![in alloc; 0usize; 1]?;
+    set_flag(&mut reached, 0, true);
+    for _ in 0..blocks.len() {
+        match work.pop() {
+            None => return Ok(reached),
+            Some(number) => {
+                if let Some(block) = blocks.get(number) {
+                    reach_from(&mut reached, &mut work, block)?;
+                }
+            }
+        }
+    }
+    Ok(reached)
 }
 
 fn calls_in(block: &Block) -> u32 {
@@ -133,8 +181,10 @@ fn heights_of(alloc: Global, loops: &[Loop], blocks: usize) -> Result<Vec<u32>, 
 
 pub fn map_of(alloc: Global, function: &Function) -> Result<Map, Memory> {
     let blocks = function.blocks.len();
+    let reached = reached_in(alloc, &function.blocks)?;
     Ok(Map {
-        sources: sources_of(alloc, &function.blocks)?,
+        sources: sources_of(alloc, &function.blocks, &reached)?,
+        reached,
         times: times_of(alloc, &function.loops, blocks)?,
         bounds: bounds_of(alloc, &function.loops, blocks)?,
         calls: calls_of(alloc, &function.blocks)?,

@@ -45,6 +45,18 @@ fn add_operands(living: &mut Living, act: Act) -> Result<(), Memory> {
     Ok(())
 }
 
+/// A register that is a word stays one where it is stepped.
+fn add_itself(living: &mut Living, act: Act, into: u32) -> Result<(), Memory> {
+    for register in read_by(act) {
+        if let Some(register) = register {
+            if register == into {
+                living.add(register)?;
+            }
+        }
+    }
+    Ok(())
+}
+
 /// What has to be known where a register that is wanted is written.
 fn add_made(living: &mut Living, act: Act, want: Want) -> Result<(), Memory> {
     match act {
@@ -52,11 +64,11 @@ fn add_made(living: &mut Living, act: Act, want: Want) -> Result<(), Memory> {
             value: Operand::Register(register),
             ..
         } => living.add(register),
-        Act::Operate { .. } => {
+        Act::Operate { into, .. } => {
             if wants_forms(want) {
                 add_operands(living, act)
             } else {
-                Ok(())
+                add_itself(living, act, into)
             }
         }
         _ => Ok(()),

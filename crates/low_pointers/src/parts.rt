@@ -55,10 +55,11 @@ fn part_at(parts: &[Part], register: u32) -> Part {
     }
 }
 
-fn negative(word: Option<u32>) -> Option<u32> {
-    match word {
-        None => None,
-        Some(word) => Some(0u32.wrapping_sub(word)),
+/// What takes so much away that stands in the instruction.
+pub fn negative(operand: Operand) -> Option<u32> {
+    match operand {
+        Operand::Register(_) => None,
+        Operand::Constant(word) => Some(0u32.wrapping_sub(word)),
     }
 }
 
@@ -93,7 +94,7 @@ pub fn step_of(words: &Words, act: Act) -> Option<u32> {
             right,
         } => {
             if is_register(left, into) {
-                negative(words.word_of(right))
+                negative(right)
             } else {
                 None
             }
@@ -112,18 +113,24 @@ fn product(a: Form, b: Form) -> Option<Form> {
     }
 }
 
-fn shifted(a: Form, b: Form) -> Option<Form> {
-    let by = word_in(b)?;
-    times(a, 1u32.wrapping_shl(by % 32))
+fn difference(a: Form, right: Operand) -> Option<Form> {
+    Some(a.moved(negative(right)?))
 }
 
-/// What an operation gives.
-pub fn operated(operator: Alu, a: Form, b: Form) -> Option<Form> {
+fn shifted(a: Form, right: Operand) -> Option<Form> {
+    match right {
+        Operand::Register(_) => None,
+        Operand::Constant(word) => times(a, 1u32.wrapping_shl(word % 32)),
+    }
+}
+
+/// What an operation gives that has this right operand, of these forms of both.
+pub fn operated(operator: Alu, a: Form, b: Form, right: Operand) -> Option<Form> {
     match operator {
         Alu::Sum => a.plus(1, b),
-        Alu::Difference => a.plus(0xffff_ffff, b),
+        Alu::Difference => difference(a, right),
         Alu::Product => product(a, b),
-        Alu::ShiftLeft => shifted(a, b),
+        Alu::ShiftLeft => shifted(a, right),
         _ => None,
     }
 }
@@ -306,9 +313,9 @@ impl Parts {
                 right,
                 ..
             } => {
-                let left = self.form_of(words, begun, left)?;
-                let right = self.form_of(words, begun, right)?;
-                operated(operator, left, right)
+                let a = self.form_of(words, begun, left)?;
+                let b = self.form_of(words, begun, right)?;
+                operated(operator, a, b, right)
             }
             _ => None,
         }

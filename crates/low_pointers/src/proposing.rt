@@ -11,8 +11,8 @@ use super::needs::needs_of;
 use super::parts::Parts;
 use super::rewriting::{Chosen, enter_all, registers_for, serve, step};
 use super::sketch::{Draft, Pointer, Sketch, lines_of, sketch_of};
-use super::stating::{add_pointers, words_known};
-use super::tables::number_at;
+use super::stating::{Stated, add_pointers, add_unreached, words_known};
+use super::tables::{flag_at, number_at};
 use super::words::{Words, words_of};
 use low_ir::{Base, Function, Instr, Loop};
 use low_step_facts::{Change, Edit, Fact, Proposal};
@@ -24,6 +24,9 @@ const REGISTERS: u32 = 24;
 
 /// How many loops within one another are gone through.
 const HEIGHTS: u32 = 6;
+
+/// How often a function is searched at most.
+const SEARCHES: u32 = 4;
 
 /// What is known of a function all the time.
 #[derive(Clone, Copy)]
@@ -261,7 +264,8 @@ fn step_height(
     let mut standing = Standing { lives, counts };
     let mut parts = Parts::new(alloc, known.function.registers)?;
     for (number, each) in known.function.loops.iter().enumerate() {
-        if number_at(&known.map.heights, number) == height {
+        let is_reached = flag_at(&known.map.reached, each.header as usize);
+        if is_reached && number_at(&known.map.heights, number) == height {
             if !step_loop(
                 alloc,
                 known,
@@ -393,23 +397,56 @@ fn spare_in(alloc: Global, function: &Function) -> Result<Vec<bool>, Memory> {
     Ok(spare)
 }
 
-/// By block the facts with which a sketch can be followed.
-fn facts_of(
+/// What has come of a search.
+#[derive(Drop)]
+enum Answer {
+    Nothing,
+    Found(Proposal),
+    /// These registers may hold pointers where they are to be words.
+    Lacks(Vec<u32>),
+}
+
+/// The facts with which a sketch can be followed.
+fn followed(
     alloc: Global,
+    known: &Known<'_>,
     sketch: &Sketch,
-    registers: u32,
-) -> Result<Option<Vec<Vec<Fact>>>, Memory> {
-    let Some(needs) = needs_of(alloc, sketch, registers)? else {
-        return Ok(None);
+    spare: Vec<bool>,
+) -> Result<Answer, Memory> {
+    let reached = &known.map.reached;
+    let Some(needs) = needs_of(alloc, sketch, known.function.registers)? else {
+        return Ok(Answer::Nothing);
     };
-    let Some(mut facts) = words_known(alloc, sketch, &needs, registers)? else {
-        return Ok(None);
+    let Some(stated) = words_known(alloc, sketch, &needs, known.function)? else {
+        return Ok(Answer::Nothing);
     };
-    if add_pointers(sketch, &mut facts)? {
-        Ok(Some(facts))
-    } else {
-        Ok(None)
+    let Stated { facts, lacking } = stated;
+    if !lacking.is_empty() {
+        return Ok(Answer::Lacks(lacking));
     }
+    let mut facts = facts;
+    if !add_pointers(sketch, reached, &mut facts)? {
+        return Ok(Answer::Nothing);
+    }
+    add_unreached(sketch, reached, &mut facts)?;
+    Ok(Answer::Found(Proposal {
+        spare,
+        changes: changes_of(alloc, &sketch.drafts, facts)?,
+    }))
+}
+
+fn searched(
+    alloc: Global,
+    known: &Known<'_>,
+    alone: &mut Vec<u32>,
+) -> Result<Answer, Memory> {
+    let spare = spare_in(alloc, known.function)?;
+    let mut sketch = sketch_of(alloc, known.function, &spare)?;
+    if !step_all(alloc, known, &mut sketch, alone)? || sketch.pointers.is_empty() {
+        return Ok(Answer::Nothing);
+    }
+    sketch.tidy(alloc)?;
+    followed(alloc, known, &sketch, spare)
 }
 
 /// Pointers that step with the induction variables of a function's loops, where that pays. Claims that list one array alone come
@@ -420,31 +457,26 @@ pub fn proposed(
     alone: &mut Vec<u32>,
     function: &Function,
 ) -> Result<Option<Proposal>, Memory> {
-    if function.loops.is_empty() {
-        return Ok(None);
-    }
     let Ok(count) = u32::try_from(claims.len()) else {
         return Ok(None);
     };
-    let map = map_of(alloc, function)?;
-    let words = words_of(alloc, function)?;
-    let spare = spare_in(alloc, function)?;
-    let known = Known {
-        function,
-        map: &map,
-        words: &words,
-        claims: count,
-    };
-    let mut sketch = sketch_of(alloc, function, &spare)?;
-    if !step_all(alloc, &known, &mut sketch, alone)? || sketch.pointers.is_empty() {
+    if function.loops.is_empty() {
         return Ok(None);
     }
-    sketch.tidy(alloc)?;
-    match facts_of(alloc, &sketch, function.registers)? {
-        None => Ok(None),
-        Some(facts) => Ok(Some(Proposal {
-            spare,
-            changes: changes_of(alloc, &sketch.drafts, facts)?,
-        })),
+    let map = map_of(alloc, function)?;
+    let mut words = words_of(alloc, function)?;
+    for _ in 0..SEARCHES {
+        let known = Known {
+            function,
+            map: &map,
+            words: &words,
+            claims: count,
+        };
+        match searched(alloc, &known, alone)? {
+            Answer::Nothing => return Ok(None),
+            Answer::Found(proposal) => return Ok(Some(proposal)),
+            Answer::Lacks(registers) => words.forget(&function.blocks, &registers),
+        }
     }
+    Ok(None)
 }

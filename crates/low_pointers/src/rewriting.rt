@@ -46,14 +46,19 @@ fn word_behind(words: &Words, sketch: &Sketch, block: usize, register: u32) -> O
     None
 }
 
-/// How many registers a pointer takes at most, with those that are needed to set it.
+/// How many registers a pointer takes at most, with those for multiples and sums by which it is set.
 pub fn registers_for(form: Form, entries: usize) -> usize {
-    let mut each = 0usize;
+    let mut terms = 0usize;
+    let mut multiples = 0usize;
     for term in form.terms {
         if term.factor != 0 {
-            each = each.wrapping_add(2);
+            terms = terms.wrapping_add(1);
+        }
+        if term.factor > 1 {
+            multiples = multiples.wrapping_add(1);
         }
     }
+    let each = multiples.wrapping_add(terms.saturating_sub(1));
     each.saturating_mul(entries).saturating_add(1)
 }
 

@@ -98,13 +98,16 @@ fn words_in(alloc: Global, function: &Function, writes: &[u32]) -> Result<Vec<bo
     for parameter in &function.parameters {
         set_flag(&mut are_words, *parameter as usize, false);
     }
-    let mut changed = true;
+    narrow_all(&mut are_words, &function.blocks);
+    Ok(are_words)
+}
+
+fn narrow_all(are_words: &mut [bool], blocks: &[Block]) {
     for _ in 0..SWEEPS {
-        if changed {
-            changed = narrow(&mut are_words, &function.blocks);
+        if !narrow(are_words, blocks) {
+            return;
         }
     }
-    Ok(are_words)
 }
 
 pub fn words_of(alloc: Global, function: &Function) -> Result<Words, Memory> {
@@ -122,6 +125,14 @@ impl Words {
             None => None,
             Some(word) => *word,
         }
+    }
+
+    /// Some registers may be no words.
+    pub fn forget(&mut self, blocks: &[Block], registers: &[u32]) {
+        for register in registers {
+            set_flag(&mut self.are_words, *register as usize, false);
+        }
+        narrow_all(&mut self.are_words, blocks);
     }
 
     pub fn is_word(&self, register: u32) -> bool {
