@@ -84,7 +84,7 @@ function_changed claims alone objects spare changes fn gn bare unnamed blocks id
     }
 
 -- a function that stays
-none_spare : ℕ → Bool
+abbrev none_spare : ℕ → Bool
 none_spare r = false
 
 all_unnamed : (rs : List ℕ) → All (IsNamed none_spare) rs
@@ -99,7 +99,7 @@ blocks_unnamed : (bs : List (Block ℕ Note)) → All (BlockNamesNoSpare none_sp
 blocks_unnamed [] = All-nil (BlockNamesNoSpare none_spare)
 blocks_unnamed (b ∷ bs) = All-cons (BlockNamesNoSpare none_spare) b bs (code_unnamed b.code, all_unnamed (end_reads b.end)) (blocks_unnamed bs)
 
-all_known : Knowing
+abbrev all_known : Knowing
 all_known s = true
 
 module _ (p q : Low) (fn : Function ℕ Note) where

@@ -56,10 +56,10 @@ module _ (claims : List (Vec ℕ Global)) (alone : List ℕ) (objects registers 
 
   placed : (i : Plain ℕ) (j : Instr ℕ Note) → j ≡ Do i → IsPlacedWell registers objects news j → IsPlaced sc.old sc.new sc.fn i
   placed i j becomes well =
-      let within : RegistersWithin registers (Do i) = subst (RegistersWithin registers) becomes well.within in
+      let within : RegistersWithin {K = Note} registers (Do i) = subst (RegistersWithin {K = Note} registers) becomes well.within in
       let begins : All (λ (a : Address ℕ). CanBegin objects news a.base) (addresses {R = ℕ} {K = Note} (Do i)) = subst (λ (x : Instr ℕ Note). All (λ (a : Address ℕ). CanBegin objects news a.base) (addresses x)) becomes well.begins in
       record {
-        registers = subst (λ n. RegistersWithin n (Do i)) (sym fits.size) within;
+        registers = subst (λ n. RegistersWithin {K = Note} n (Do i)) (sym fits.size) within;
         names = All-weaker (λ (a : Address ℕ). CanBegin objects news a.base) (IsThere sc.new) (λ a can. base_there a.base can) (addresses {R = ℕ} {K = Note} (Do i)) begins;
         begins = All-weaker (λ (a : Address ℕ). CanBegin objects news a.base) (λ (a : Address ℕ). MayBegin sc.new.claims sc.fn a.base) (λ a can. base_begins a.base can) (addresses {R = ℕ} {K = Note} (Do i)) begins;
       }

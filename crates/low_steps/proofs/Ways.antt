@@ -106,6 +106,12 @@ points_there claims d a s u h k =
     }
 
 -- what is known to be something is
-pub value_held : (x : Operand ℕ) (s : Bank) (o : Option Value) (origin : Origin) → operand_value virtual s x ≡ o → is_from origin o ≡ true → is_from origin None ≡ false → HoldsValue x s
-value_held x s None origin k h none = absurd (false≢true (sym none ∙ h))
-value_held x s (Some v) origin k h none = record { value = v; is = k }
+pub value_held : (x : Operand ℕ) (s : Bank) (o : Option Value) (origin known : Origin) → operand_value virtual s x ≡ o → origin ≡ known → is_from known None ≡ false → is_from origin o ≡ true → HoldsValue x s
+value_held x s None origin known k e none h = absurd (false≢true (sym none ∙ ap (λ q. is_from q None) (sym e) ∙ h))
+value_held x s (Some v) origin known k e none h = record { value = v; is = k }
+
+-- an address that begins at a pointer begins somewhere
+pub pointer_begins : (claims : List (List ℕ)) (r claim o : ℕ) (s : Bank) → is_from (Object o) (slice_index_or s r None) ≡ true → ListsAlone claims claim o → HasBeginning claims (Through r claim) s
+pointer_begins claims r claim o s held lists =
+    let h = points_in s r o held in
+    record { object = o; bytes = h.bytes; begins = record { is = h.is; may = listed claims claim o lists } }
