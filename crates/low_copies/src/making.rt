@@ -1,5 +1,5 @@
 // A program without its copies.
-ghost use Rattle.std.specs.Prelude.{◌≡◌, ◌<◌, ◌+◌, true, [], ◌∷◌, Some, length, map, IfOk, IfSome};
+ghost use Rattle.std.specs.Prelude.{◌≡◌, ◌<◌, ◌+◌, true, [], ◌∷◌, Some, length, map, IfOk, IfSome, false, slice_index_or};
 ghost use Rattle.std.specs.List.{AllZip};
 ghost use Rattle.low_ir.specs.Code.{Do, Register, Set};
 ghost use Rattle.low_ir.specs.Formed.{written_by};
@@ -71,6 +71,13 @@ fn put_one(
     }
 }
 
+/// Whether no block counts on a register at its beginning.
+fn is_brief(known: &Known, register: u32) -> bool
+    ensures { result ≡ true → slice_index_or known.now.lasting register false ≡ false }
+{
+    !known.is_lasting(register)
+}
+
 /// An instruction that delivers its value to where the next one would copy it.
 fn put_delivered(
     alloc: Global,
@@ -103,6 +110,42 @@ fn leave_out(known: &mut Known, into: u32, source: u32) -> bool
     }
 }
 
+/// An instruction that writes this register, but whose value goes to another one alone.
+fn put_parted(
+    alloc: Global,
+    known: &mut Known,
+    register: u32,
+    place: u32,
+    instr: &Instr,
+    made: &mut Vec<Instr>,
+) -> Result<bool, Memory>
+    requires { written_by (instr_of instr.now) ≡ Some register }
+    ensures { IfOk result (λ b. b ≡ true → (rest : Code) → Goes (instr_of instr.now ∷ rest) known.old (map instr_of made.old.items) rest known.new (map instr_of made.new.items)) }
+{
+    if is_brief(known, register) && is_brief(known, place) {
+        if put(alloc, known, place, instr, made)? {
+            return Ok(known.part(register, place));
+        }
+    }
+    Ok(false)
+}
+
+/// An instruction whose value goes to another register alone; or it can't be made.
+fn put_apart(
+    alloc: Global,
+    known: &mut Known,
+    place: u32,
+    instr: &Instr,
+    made: &mut Vec<Instr>,
+) -> Result<bool, Memory>
+    ensures { IfOk result (λ b. b ≡ true → (rest : Code) → Goes (instr_of instr.now ∷ rest) known.old (map instr_of made.old.items) rest known.new (map instr_of made.new.items)) }
+{
+    match written(instr) {
+        None => Ok(false),
+        Some(register) => put_parted(alloc, known, register, place, instr, made),
+    }
+}
+
 fn choice_at(choices: &[Choice], at: usize) -> Choice {
     match choices.get(at) {
         None => Choice::Stays,
@@ -128,6 +171,14 @@ fn is_unread(choice: Choice) -> bool {
     match choice {
         Choice::Unread => true,
         _ => false,
+    }
+}
+
+/// The register to which a value goes that lives in the block alone, if it goes to another one.
+fn apart(choice: Choice) -> Option<u32> {
+    match choice {
+        Choice::Apart(place) => Some(place),
+        _ => None,
     }
 }
 
@@ -166,6 +217,42 @@ fn put_single(
         Ok(Some(at + 1))
     } else {
         Ok(None)
+    }
+}
+
+fn put_elsewhere(
+    alloc: Global,
+    known: &mut Known,
+    code: &[Instr],
+    at: usize,
+    place: u32,
+    made: &mut Vec<Instr>,
+) -> Result<Option<usize>, Memory>
+    requires { at < length code.now }
+    ensures { IfOk result (λ o. IfSome o (Continues (map instr_of code.now) at known.old (map instr_of made.old.items) known.new (map instr_of made.new.items))) }
+{
+    if put_apart(alloc, known, place, &code[at], made)? {
+        Ok(Some(at + 1))
+    } else {
+        Ok(None)
+    }
+}
+
+/// An instruction that is no copy, as was chosen.
+fn put_value(
+    alloc: Global,
+    known: &mut Known,
+    code: &[Instr],
+    choices: &[Choice],
+    at: usize,
+    made: &mut Vec<Instr>,
+) -> Result<Option<usize>, Memory>
+    requires { at < length code.now }
+    ensures { IfOk result (λ o. IfSome o (Continues (map instr_of code.now) at known.old (map instr_of made.old.items) known.new (map instr_of made.new.items))) }
+{
+    match apart(choice_at(choices, at)) {
+        None => put_single(alloc, known, code, at, made),
+        Some(place) => put_elsewhere(alloc, known, code, at, place, made),
     }
 }
 
@@ -239,7 +326,7 @@ fn put_next(
     } else if leaves_out(known, code, choices, at) {
         Ok(leave_copy(known, code, at))
     } else {
-        put_single(alloc, known, code, at, made)
+        put_value(alloc, known, code, choices, at, made)
     }
 }
 
