@@ -1,8 +1,8 @@
-// What becomes of each copy of a block. Nothing is proved of it: a choice that can't be followed leaves the program as it is.
-use super::copy::{Copied, copy_at, word_at};
+// What becomes of each instruction of a block. Nothing is proved of it: a choice that can't be followed leaves the program as it is.
+use super::copy::{Copied, copy_at};
 use super::known::Known;
 use super::reading::{Reader, read_end, read_instr};
-use super::renaming::{writes, written};
+use super::renaming::{only_written, writes, written};
 use low_ir::{Block, End, Instr};
 use std::alloc::Global;
 use wcc_base::Memory;
@@ -15,7 +15,7 @@ pub enum Choice {
     Delivered,
     /// A copy: what reads it reads what it is a copy of.
     LeftOut,
-    /// A word to which a register is set that nothing reads.
+    /// An instruction that only writes a register, which nothing reads then.
     Unread,
 }
 
@@ -137,25 +137,38 @@ impl Behind {
         }
     }
 
-    /// What becomes of what is set at a place, if it is a word.
-    fn choice_of_word(&self, known: &Known, code: &[Instr], at: usize) -> Choice {
-        match word_at(code, at) {
-            None => Choice::Stays,
-            Some(set) => {
-                if known.is_lasting(set.into) || place_of(&self.read, set.into) >= self.first {
-                    Choice::Stays
-                } else {
-                    Choice::Unread
-                }
-            }
+    /// The register that an instruction writes, if it does nothing else and nothing behind it reads that.
+    fn unread(&self, known: &Known, instr: &Instr) -> Option<u32> {
+        let register = only_written(instr)?;
+        if known.is_lasting(register) || place_of(&self.read, register) >= self.first {
+            None
+        } else {
+            Some(register)
         }
     }
 
     fn choice_of(&self, known: &Known, code: &[Instr], at: usize) -> Choice {
         match copy_at(code, at) {
-            None => self.choice_of_word(known, code, at),
+            None => Choice::Stays,
             Some(copy) => self.choice(known, code, at, copy),
         }
+    }
+
+    /// What becomes of the instruction at a place. One that is left out reads nothing.
+    fn pass_at(
+        &mut self,
+        known: &Known,
+        code: &[Instr],
+        at: usize,
+        instr: &Instr,
+    ) -> Result<Choice, Memory> {
+        if let Some(register) = self.unread(known, instr) {
+            self.write(register);
+            return Ok(Choice::Unread);
+        }
+        let choice = self.choice_of(known, code, at);
+        self.pass(instr)?;
+        Ok(choice)
     }
 
     /// By instruction of a block, what becomes of it.
@@ -175,12 +188,11 @@ impl Behind {
         read_end(self, block.end)?;
         for at in (0..places).rev() {
             self.at = self.at.wrapping_sub(1);
-            let new = self.choice_of(known, &block.code, at);
-            if let Some(choice) = choices.get_mut(at) {
-                *choice = new;
-            }
             if let Some(instr) = block.code.get(at) {
-                self.pass(instr)?;
+                let new = self.pass_at(known, &block.code, at, instr)?;
+                if let Some(choice) = choices.get_mut(at) {
+                    *choice = new;
+                }
             }
         }
         self.first = self.last.wrapping_add(1);

@@ -109,11 +109,7 @@ pub fn read_by(act: Act) -> [Option<u32>; 3] {
         Act::Point { address, .. } => [pointer_of(address.base), address.offset, None],
         Act::Load { address, .. } => [pointer_of(address.base), address.offset, None],
         Act::Store { address, value } => {
-            [
-                register_of(value),
-                pointer_of(address.base),
-                address.offset,
-            ]
+            [register_of(value), pointer_of(address.base), address.offset]
         }
         Act::Put { value } => [register_of(value), None, None],
         Act::Get { .. } => [None, None, None],

@@ -148,7 +148,12 @@ fn is_chosen(candidates: &[Candidate], at: usize) -> bool {
 }
 
 /// What the chosen candidates are worth.
-fn gain_of(alloc: Global, market: &Market<'_>, found: &Found, counts: &mut Counts) -> Result<i64, Memory> {
+fn gain_of(
+    alloc: Global,
+    market: &Market<'_>,
+    found: &Found,
+    counts: &mut Counts,
+) -> Result<i64, Memory> {
     let mut dying = Dying {
         drafts: market.drafts,
         map: market.map,

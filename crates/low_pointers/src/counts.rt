@@ -65,7 +65,12 @@ impl Counts {
         }
     }
 
-    fn count_draft(&mut self, function: &Function, block: usize, draft: &Draft) -> Result<(), Memory> {
+    fn count_draft(
+        &mut self,
+        function: &Function,
+        block: usize,
+        draft: &Draft,
+    ) -> Result<(), Memory> {
         for (at, line) in draft.lines.iter().enumerate() {
             if !line.dead {
                 let place = Place { block, at };

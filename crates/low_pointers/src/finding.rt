@@ -116,13 +116,15 @@ impl Found {
     fn add(&mut self, reach: Reach, block: usize, at: usize) -> Result<(), Memory> {
         match self.candidate_for(reach)? {
             None => Ok(()),
-            Some(candidate) => Ok(self.uses.push(Use {
-                candidate,
-                block,
-                at,
-                total: reach.form.constant,
-                offset: reach.offset,
-            })?),
+            Some(candidate) => Ok(
+                self.uses.push(Use {
+                    candidate,
+                    block,
+                    at,
+                    total: reach.form.constant,
+                    offset: reach.offset,
+                })?,
+            ),
         }
     }
 }

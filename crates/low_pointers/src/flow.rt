@@ -30,11 +30,19 @@ pub struct Flow {
 }
 
 /// Registers that are no induction variables and live from one block to another.
-fn crossing_in(alloc: Global, lives: &Lives, parts: &mut Parts, each: Loop) -> Result<Vec<u32>, Memory> {
+fn crossing_in(
+    alloc: Global,
+    lives: &Lives,
+    parts: &mut Parts,
+    each: Loop,
+) -> Result<Vec<u32>, Memory> {
     let mut crossing = Vec::new(alloc);
     for block in each.header..=each.latch {
         for register in list_at(&lives.registers, block as usize) {
-            if block != each.header && parts.is_other(*register) && parts.rank(*register).is_none() {
+            if block != each.header
+                && parts.is_other(*register)
+                && parts.rank(*register).is_none()
+            {
                 parts.set_rank(*register, crossing.len());
                 crossing.push(*register)?;
             }

@@ -8,7 +8,11 @@ pub fn behind(register: u32, by: u32) -> Form {
 
 /// The word, if a form has no terms.
 pub fn word_in(form: Form) -> Option<u32> {
-    if form.is_constant() { Some(form.constant) } else { None }
+    if form.is_constant() {
+        Some(form.constant)
+    } else {
+        None
+    }
 }
 
 /// So many times a form.

@@ -107,14 +107,26 @@ impl Knowing {
     fn known(&self, register: u32) -> Option<Known> {
         match self.known.get(register as usize) {
             None => None,
-            Some(known) => { if known.visit == self.visit { Some(*known) } else { None } }
+            Some(known) => {
+                if known.visit == self.visit {
+                    Some(*known)
+                } else {
+                    None
+                }
+            }
         }
     }
 
     fn grown(&self, register: u32) -> u32 {
         match self.written.get(register as usize) {
             None => 0,
-            Some(written) => { if written.visit == self.visit { written.grown } else { 0 } }
+            Some(written) => {
+                if written.visit == self.visit {
+                    written.grown
+                } else {
+                    0
+                }
+            }
         }
     }
 
@@ -139,7 +151,11 @@ impl Knowing {
     fn form_known(&self, register: u32) -> Option<Form> {
         let known = self.known(register)?;
         let form = known.form?;
-        if self.lasts(form, known.at) { Some(form) } else { None }
+        if self.lasts(form, known.at) {
+            Some(form)
+        } else {
+            None
+        }
     }
 
     fn form_at(&self, register: u32) -> Form {
@@ -227,7 +243,11 @@ impl Knowing {
                     }
                 }
                 Alu::Difference => {
-                    if is_register(left, into) { negative(right) } else { None }
+                    if is_register(left, into) {
+                        negative(right)
+                    } else {
+                        None
+                    }
                 }
                 _ => None,
             };

@@ -47,7 +47,11 @@ impl Lags {
 
     fn row_of(&self, block: u32) -> Option<usize> {
         let row = (block as usize).wrapping_sub(self.first);
-        if row < self.growths.len() { Some(row) } else { None }
+        if row < self.growths.len() {
+            Some(row)
+        } else {
+            None
+        }
     }
 
     /// By how much the pointer lags behind all blocks that lead to one, if that is the same.
@@ -124,7 +128,11 @@ impl Lags {
         }
         let changed = number_at(&self.behind, row) != behind;
         set_number(&mut self.behind, row, behind);
-        if is_near(behind) { changed } else { self.flush(row) }
+        if is_near(behind) {
+            changed
+        } else {
+            self.flush(row)
+        }
     }
 
     fn sweep(&mut self, map: &Map) -> bool {

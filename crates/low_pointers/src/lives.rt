@@ -34,7 +34,12 @@ fn is_needed(living: &Living, line: Line) -> bool {
 }
 
 /// What is live before an instruction that is needed.
-fn pass(living: &mut Living, function: &Function, line: Line, place: (usize, usize)) -> Result<(), Memory> {
+fn pass(
+    living: &mut Living,
+    function: &Function,
+    line: Line,
+    place: (usize, usize),
+) -> Result<(), Memory> {
     if let Some(into) = written(line.act) {
         living.remove(into);
     }

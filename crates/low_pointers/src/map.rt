@@ -40,11 +40,7 @@ fn add_sources(sources: &mut [Vec<u32>], block: &Block, number: u32) -> Result<(
     Ok(())
 }
 
-fn sources_of(
-    alloc: Global,
-    blocks: &[Block],
-    reached: &[bool],
-) -> Result<Vec<Vec<u32>>, Memory> {
+fn sources_of(alloc: Global, blocks: &[Block], reached: &[bool]) -> Result<Vec<Vec<u32>>, Memory> {
     let mut sources = Vec::new(alloc);
     for _ in 0..blocks.len() {
         sources.push(Vec::new(alloc))?;
@@ -60,11 +56,7 @@ fn sources_of(
 }
 
 /// The blocks to which one leads are still to be gone through, those that are new.
-fn reach_from(
-    reached: &mut [bool],
-    work: &mut Vec<usize>,
-    block: &Block,
-) -> Result<(), Memory> {
+fn reach_from(reached: &mut [bool], work: &mut Vec<usize>, block: &Block) -> Result<(), Memory> {
     for next in nexts(block.end) {
         if let Some(next) = next {
             let next = next as usize;

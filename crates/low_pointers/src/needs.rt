@@ -13,6 +13,7 @@ const SWEEPS: u32 = 16;
 
 /// How many registers are wanted of a block on an average at most, and of all beside that.
 const EACH: usize = 16;
+
 const BESIDE: usize = 65536;
 
 /// What is asked for.
@@ -190,7 +191,12 @@ impl<'a> Wanting<'a> {
     }
 
     fn is_too_much(&self) -> bool {
-        self.all > self.drafts.len().saturating_mul(EACH).saturating_add(BESIDE)
+        self.all
+            > self
+                .drafts
+                .len()
+                .saturating_mul(EACH)
+                .saturating_add(BESIDE)
     }
 
     fn sweep(&mut self, alloc: Global, living: &mut Living) -> Result<bool, Memory> {

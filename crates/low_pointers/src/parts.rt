@@ -322,12 +322,7 @@ impl Parts {
     }
 
     /// The block goes on by an instruction.
-    pub fn pass(
-        &mut self,
-        words: &Words,
-        begun: &[Option<Form>],
-        act: Act,
-    ) -> Result<(), Memory> {
+    pub fn pass(&mut self, words: &Words, begun: &[Option<Form>], act: Act) -> Result<(), Memory> {
         let Some(into) = written(act) else {
             return Ok(());
         };

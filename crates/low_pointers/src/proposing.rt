@@ -230,7 +230,14 @@ fn step_loop(
     standing: &mut Standing,
     (each, stepping): (Loop, bool),
 ) -> Result<bool, Memory> {
-    let chance = chance_of(alloc, known, sketch, parts, &standing.lives, (each, stepping))?;
+    let chance = chance_of(
+        alloc,
+        known,
+        sketch,
+        parts,
+        &standing.lives,
+        (each, stepping),
+    )?;
     parts.leave();
     let Some(mut chance) = chance else {
         return Ok(true);
@@ -240,7 +247,13 @@ fn step_loop(
         drafts: &sketch.drafts,
         map: known.map,
     };
-    select(alloc, &market, &mut chance.found, &mut standing.counts, room)?;
+    select(
+        alloc,
+        &market,
+        &mut chance.found,
+        &mut standing.counts,
+        room,
+    )?;
     if chosen_in(&chance.found) == 0 {
         return Ok(true);
     }
@@ -435,11 +448,7 @@ fn followed(
     }))
 }
 
-fn searched(
-    alloc: Global,
-    known: &Known<'_>,
-    alone: &mut Vec<u32>,
-) -> Result<Answer, Memory> {
+fn searched(alloc: Global, known: &Known<'_>, alone: &mut Vec<u32>) -> Result<Answer, Memory> {
     let spare = spare_in(alloc, known.function)?;
     let mut sketch = sketch_of(alloc, known.function, &spare)?;
     if !step_all(alloc, known, &mut sketch, alone)? || sketch.pointers.is_empty() {

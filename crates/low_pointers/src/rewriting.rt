@@ -123,7 +123,9 @@ fn with_term(
         None => with_multiple(sketch, block, begun, term),
         Some(word) => Ok(Some(Begun {
             offset: begun.offset,
-            displacement: begun.displacement.wrapping_add(word.wrapping_mul(term.factor)),
+            displacement: begun
+                .displacement
+                .wrapping_add(word.wrapping_mul(term.factor)),
         })),
     }
 }
@@ -157,14 +159,17 @@ pub fn enter(
             Some(next) => begun = next,
         }
     }
-    sketch.push(block, Act::Point {
-        into: chosen.register,
-        address: Address {
-            base: Base::Object(chosen.candidate.object),
-            offset: begun.offset,
-            displacement: begun.displacement,
+    sketch.push(
+        block,
+        Act::Point {
+            into: chosen.register,
+            address: Address {
+                base: Base::Object(chosen.candidate.object),
+                offset: begun.offset,
+                displacement: begun.displacement,
+            },
         },
-    })?;
+    )?;
     add_entered(sketch, block, form)?;
     Ok(true)
 }
@@ -191,8 +196,15 @@ pub fn enter_all(
 /// An access goes through its pointer.
 pub fn serve(sketch: &mut Sketch, flow: &Flow, chosen: Chosen, lags: &Lags, each: Use) {
     let lag = number_at(&lags.lags, each.block.wrapping_sub(flow.first));
-    let by = each.total.wrapping_sub(chosen.candidate.form.constant).wrapping_add(lag);
-    sketch.serve(each.block, each.at, through(chosen.register, chosen.claim, by));
+    let by = each
+        .total
+        .wrapping_sub(chosen.candidate.form.constant)
+        .wrapping_add(lag);
+    sketch.serve(
+        each.block,
+        each.at,
+        through(chosen.register, chosen.claim, by),
+    );
 }
 
 /// Steps a pointer at the ends of the blocks where it is to be.
@@ -200,10 +212,13 @@ pub fn step(sketch: &mut Sketch, flow: &Flow, chosen: Chosen, lags: &Lags) -> Re
     for row in 0..flow.blocks() {
         let by = lags.step_at(row);
         if by != 0 {
-            sketch.push(flow.first.wrapping_add(row), Act::Point {
-                into: chosen.register,
-                address: through(chosen.register, chosen.claim, by),
-            })?;
+            sketch.push(
+                flow.first.wrapping_add(row),
+                Act::Point {
+                    into: chosen.register,
+                    address: through(chosen.register, chosen.claim, by),
+                },
+            )?;
         }
     }
     Ok(())

@@ -314,12 +314,15 @@ impl Sketch {
         let Some(into) = self.fresh() else {
             return Ok(None);
         };
-        self.push(block, Act::Operate {
-            operator,
-            into,
-            left,
-            right,
-        })?;
+        self.push(
+            block,
+            Act::Operate {
+                operator,
+                into,
+                left,
+                right,
+            },
+        )?;
         Ok(Some(into))
     }
 

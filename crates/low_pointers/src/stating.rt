@@ -48,7 +48,13 @@ fn met(register: u32, old: Option<Form>, new: Option<Form>) -> Option<Form> {
         None => None,
         Some(a) => match new {
             None => None,
-            Some(b) => { if is_same(a, b) { Some(a) } else { Some(behind(register, 0)) } }
+            Some(b) => {
+                if is_same(a, b) {
+                    Some(a)
+                } else {
+                    Some(behind(register, 0))
+                }
+            }
         },
     }
 }
@@ -90,7 +96,13 @@ impl<'a> Stating<'a> {
     }
 
     /// Notes which registers a loop writes.
-    fn note(&mut self, alloc: Global, drafts: &[Draft], flags: &mut [bool], each: Loop) -> Result<(), Memory> {
+    fn note(
+        &mut self,
+        alloc: Global,
+        drafts: &[Draft],
+        flags: &mut [bool],
+        each: Loop,
+    ) -> Result<(), Memory> {
         set_written(drafts, flags, each, true);
         let mut varying = Vec::new(alloc);
         for register in list_at(self.lists, each.header as usize) {
@@ -138,8 +150,16 @@ impl<'a> Stating<'a> {
         let mut changed = first;
         for (at, register) in list_at(self.lists, block).iter().enumerate() {
             let now = knowing.now(*register);
-            let new = if self.varies(block, at) { itself(*register, now) } else { now };
-            let both = if first { new } else { met(*register, self.form_at(block, at), new) };
+            let new = if self.varies(block, at) {
+                itself(*register, now)
+            } else {
+                now
+            };
+            let both = if first {
+                new
+            } else {
+                met(*register, self.form_at(block, at), new)
+            };
             if self.put(block, at, both) {
                 changed = true;
             }
