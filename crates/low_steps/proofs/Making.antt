@@ -1,19 +1,18 @@
 -- Code that is made.
-use Rattle.std.proofs.Common.{◌≡◌, ◌<◌, ◌≤◌, ℕ, zero, suc, ◌+◌, Bool, true, false, List, [], ◌∷◌, ◌++◌, drop, length, map, Option, Some, None, refl, sym, ap, ◌∙◌, subst, inl, inr, ⊎_elim, arith}
-use Rattle.std.specs.Prelude.{All, Vec, option_to_list, slice_get, slice_index_or}
+use Rattle.std.proofs.Common.{◌≡◌, ◌<◌, ◌≤◌, ℕ, ◌+◌, Bool, true, false, List, [], ◌∷◌, ◌++◌, drop, length, map, Some, refl, sym, ap, ◌∙◌, subst, inl, inr, ⊎_elim}
+use Rattle.std.specs.Prelude.{All, Vec, slice_get, slice_index_or}
 use Rattle.std.specs.Global.{Global}
-use Rattle.std.proofs.lemmas.List.{append-nil, append_assoc, drop_all, drop_more, map_push}
+use Rattle.std.proofs.lemmas.List.{append_assoc, drop_all, drop_more, map_push}
 use Rattle.std.proofs.lemmas.List.Elements.{All-cons, All-nil, All-weaker}
 use Rattle.std.proofs.lemmas.Option.{slice_get_within}
 use Rattle.low_ir.specs.declared.instruction.Instr.{Instr as Instr'}
-use Rattle.low_ir.specs.declared.run.Value.{Value}
 use Rattle.low_ir.specs.Code.{Address, Base, Fixed, Through, Plain, Instr, Do, Call, End, Note}
-use Rattle.low_ir.specs.Effects.{World, Did, dest}
-use Rattle.low_ir.specs.Formed.{IsThere, NamesThere, RegistersWithin, addresses, base_claims, base_objects, written_by}
+use Rattle.low_ir.specs.Effects.{dest}
+use Rattle.low_ir.specs.Formed.{IsThere, RegistersWithin, addresses, base_claims, base_objects, written_by}
 use Rattle.low_ir.specs.Runs.{Bank}
 use Rattle.low_ir.specs.View.{claim_of, instr_of}
 use Rattle.low_stepped.specs.Knowing.{AlwaysGives, DoesTheSame, InstrTeaches, Knowing, Teaches, with_value}
-use Rattle.low_stepped.specs.Steps.{Carries, Code, Ends, Follows, Inserts, IsPlaced, MayBegin, Passes, Replaces, claims_of}
+use Rattle.low_stepped.specs.Steps.{Carries, Code, Follows, Inserts, IsPlaced, MayBegin, Passes, Replaces, claims_of}
 use Rattle.low_step_facts.specs.declared.facts.Fact.{Fact}
 use Rattle.low_step_facts.specs.Facts.{all_true}
 use Rattle.low_steps.specs.Making.{CanBegin, IsPlacedWell, IsSure, Stands, WritesSpare}

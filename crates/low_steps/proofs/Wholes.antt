@@ -1,5 +1,5 @@
 -- Programs with pointers that step.
-use Rattle.std.proofs.Common.{◌≡◌, ◌<◌, ◌≤◌, ℕ, suc, List, [], ◌++◌, length, map, refl, subst, sym}
+use Rattle.std.proofs.Common.{◌≡◌, ◌<◌, ◌≤◌, ℕ, suc, List, ◌++◌, length, map, refl, subst, sym}
 use Rattle.std.specs.Prelude.{All, Vec, sum_by}
 use Rattle.std.specs.Global.{Global}
 use Rattle.std.specs.List.{AllZip}

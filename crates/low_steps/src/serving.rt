@@ -35,13 +35,7 @@ pub fn array_of(scope: &Scope, facts: &[Fact], register: u32, claim: u32) -> Opt
         None => None,
         Some(object) => match only_one(scope, claim) {
             None => None,
-            Some(listed) => {
-                if listed == object {
-                    Some(object)
-                } else {
-                    None
-                }
-            }
+            Some(listed) => { if listed == object { Some(object) } else { None } }
         },
     }
 }

@@ -1,4 +1,3 @@
-use Rattle.std.proofs.Common.{map}
 use Rattle.low_step_facts.specs.Facts.{all_true}
 use Rattle.low_steps.proofs.Making.{kept_all, kept_made}
 use Rattle.low_steps.proofs.editing.keep_rest.Goals as goal

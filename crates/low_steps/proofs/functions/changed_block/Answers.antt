@@ -4,7 +4,6 @@ use Rattle.std.specs.Global.{Global}
 use Rattle.low_ir.specs.declared.instruction.Instr.{Instr}
 use Rattle.low_ir.specs.Formed.{LeadsOn}
 use Rattle.low_ir.specs.View.{block_of, end_of, instr_of}
-use Rattle.low_step_facts.specs.declared.facts.Fact.{Fact}
 use Rattle.low_step_facts.specs.declared.proposals.Change.{Change}
 use Rattle.low_step_facts.specs.Facts.{all_true}
 use Rattle.low_step_known.specs.Learning.{Sure}

@@ -1,8 +1,8 @@
-use Rattle.std.proofs.Common.{rules, ◌≡◌, ◌+◌, ◌≤◌, arith, map, subst}
+use Rattle.std.proofs.Common.{rules, ◌≡◌, ◌+◌, ◌≤◌, arith, subst}
 use Rattle.low_ir.specs.Room.{frame_room, repeated}
 use Rattle.low_ir.specs.View.{function_of}
 use Rattle.low_steps.specs.Weighing.{block_worth, worth_in}
-use Rattle.low_steps.proofs.Weights.{below_step, none_below}
+use Rattle.low_steps.proofs.Weights.{below_step}
 use Rattle.low_steps.proofs.weighing.are_bounded.Goals as goal
 
 pub loop-function-preserved : goal.loop-function-preserved
