@@ -5,7 +5,7 @@ use Rattle.std.proofs.lemmas.Slice.Eq.{bytes_eq-Decides}
 use Rattle.std.proofs.lemmas.List.{map-append, take-append-drop, take-set, drop-set}
 use Rattle.std.proofs.lemmas.Grind.{common_steps}
 use Rattle.wcc_base.specs.Outside.{file_of, bytes_of, put_file}
-use Rattle.wcc_base.specs.FileList.{told, IsPlace, Passed}
+use Rattle.base_stores.specs.FileList.{told, IsPlace, Passed}
 
 -- one entry and the rest
 at_drop : {X : Type 0} (es : List X) (i : ℕ) (e : X) → i < length es → e ≡ get_or es i e → drop i es ≡ e ∷ drop (i + 1) es

@@ -1,5 +1,5 @@
-use Rattle.wcc_base.proofs.FileListLaws.{put_back}
-use Rattle.wcc_base.proofs.file_list.empty_file.Goals as goal
+use Rattle.base_stores.proofs.FileListLaws.{put_back}
+use Rattle.base_stores.proofs.file_list.empty_file.Goals as goal
 
 pub returns-in-Some-clause-ok : goal.returns-in-Some-clause-ok
 returns-in-Some-clause-ok c =

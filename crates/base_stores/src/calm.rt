@@ -1,11 +1,11 @@
 // Files and a sink in memory that never fail.
 ghost use Rattle.std.specs.Prelude.{◌≡◌, ◌<◌, ◌-◌, ◌++◌, [], Ok, length, min, IsSome, IfOk, OnErr, IsErrOf};
 ghost use Rattle.wcc_base.specs.Outside.{StoreState, SinkState, bytes_of, file_of, put_file, Reads};
-ghost use Rattle.wcc_base.specs.States.{calm_files, calm_store, calm_sink};
+ghost use Rattle.base_stores.specs.States.{calm_files, calm_store, calm_sink};
 
 use crate::file_list::{add_to, copy_from, empty_file, place};
-use crate::{Fault, Sink, Store};
 use std::alloc::Global;
+use wcc_base::{Fault, Sink, Store};
 
 /// Files in memory. It never fails: an absent file reads as an empty one, and each call moves all
 /// that it can.

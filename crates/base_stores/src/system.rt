@@ -2,11 +2,11 @@
 ghost use Rattle.std.specs.Prelude.{◌≡◌, ◌<◌, ◌≤◌, None, length, IfOk, IsErrOf};
 ghost use Rattle.wcc_base.specs.Outside.{StoreState, SinkState, counted};
 
-use crate::{Fault, Sink, Store};
 use std::alloc::Global;
 use std::fs::{self, OpenOptions};
 use std::io::{self, Read, Seek, SeekFrom, Write};
 use std::rt::Runtime;
+use wcc_base::{Fault, Sink, Store};
 
 /// The files of the system. Each error of the system is a fault, and so is a write that takes nothing.
 #[derive(Drop)]

@@ -1,10 +1,10 @@
 // Files kept as a list of names and contents.
 ghost use Rattle.std.specs.Prelude.{◌≡◌, ◌<◌, ◌≤◌, ◌-◌, [], ◌++◌, length, take, min, IfSome, IfNone, OnOk, OnErr, IsErrOf, IsNone, string_bytes};
 ghost use Rattle.wcc_base.specs.Outside.{file_of, bytes_of, put_file, Reads};
-ghost use Rattle.wcc_base.specs.FileList.{told, IsAbsent, IsPlace};
+ghost use Rattle.base_stores.specs.FileList.{told, IsAbsent, IsPlace};
 
-use crate::Fault;
 use std::alloc::{AllocError, Global};
+use wcc_base::Fault;
 
 // The place of the first file of that name.
 pub(crate) fn place(files: &[(String, Vec<u8>)], name: &str) -> Option<usize>

@@ -1,11 +1,11 @@
 // Files and a sink in memory whose calls fail by a list.
 ghost use Rattle.std.specs.Prelude.{◌≡◌, ◌⊎◌, ◌↔◌, ◌<◌, ◌-◌, ◌++◌, [], length, take, min, IsTrue, IsErr, IsErrOf, IsNone, IsSome, IfOk, OnOk, OnErr};
 ghost use Rattle.wcc_base.specs.Outside.{StoreState, SinkState, bytes_of, file_of, put_file, raised, counted, Reads, CountsRead, CountsWrite};
-ghost use Rattle.wcc_base.specs.Failing.{NextFails};
+ghost use Rattle.base_stores.specs.Failing.{NextFails};
 
 use crate::file_list::{add_to, copy_from, empty_file, place};
-use crate::{Fault, Sink, Store};
 use std::alloc::Global;
+use wcc_base::{Fault, Sink, Store};
 
 /// Files in memory. A call moves at most `step` bytes. Calls are numbered from 1, and those whose
 /// numbers are listed fail. A read of an absent file fails too.
@@ -55,7 +55,7 @@ fn next_fails(calls: &mut u64, failing: &[u32]) -> bool
 }
 
 impl Store for MemStore {
-    ghost use Rattle.wcc_base.specs.States.{mem_files, mem_store};
+    ghost use Rattle.base_stores.specs.States.{mem_files, mem_store};
 
     ghost state = { mem_store };
 
@@ -156,7 +156,7 @@ impl MemSink {
 }
 
 impl Sink for MemSink {
-    ghost use Rattle.wcc_base.specs.States.{mem_sink};
+    ghost use Rattle.base_stores.specs.States.{mem_sink};
 
     ghost state = { mem_sink };
 

@@ -1,5 +1,5 @@
-use Rattle.wcc_base.proofs.FileListLaws.{add_back, same_back}
-use Rattle.wcc_base.proofs.file_list.add_to.Goals as goal
+use Rattle.base_stores.proofs.FileListLaws.{add_back, same_back}
+use Rattle.base_stores.proofs.file_list.add_to.Goals as goal
 
 pub returns-in-Ok-clause-ok : goal.returns-in-Ok-clause-ok
 returns-in-Ok-clause-ok c =

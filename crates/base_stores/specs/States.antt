@@ -1,11 +1,11 @@
 -- What each store and each sink is seen as.
 use Rattle.std.specs.Prelude.{Some, string_bytes}
 use Rattle.wcc_base.specs.Outside.{Files, StoreState, SinkState}
-use Rattle.wcc_base.specs.FileList.{told}
-use Rattle.wcc_base.specs.declared.calm.CalmStore.{CalmStore}
-use Rattle.wcc_base.specs.declared.calm.CalmSink.{CalmSink}
-use Rattle.wcc_base.specs.declared.failing.MemStore.{MemStore}
-use Rattle.wcc_base.specs.declared.failing.MemSink.{MemSink}
+use Rattle.base_stores.specs.FileList.{told}
+use Rattle.base_stores.specs.declared.calm.CalmStore.{CalmStore}
+use Rattle.base_stores.specs.declared.calm.CalmSink.{CalmSink}
+use Rattle.base_stores.specs.declared.failing.MemStore.{MemStore}
+use Rattle.base_stores.specs.declared.failing.MemSink.{MemSink}
 
 -- files in memory tell what they hold
 abbrev pub calm_files : CalmStore → Files
