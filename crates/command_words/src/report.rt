@@ -5,8 +5,10 @@ ghost use Rattle.command_words.specs.Commands.{report_command};
 ghost use Rattle.command_words.specs.Asked.{report_asked};
 ghost use Rattle.command_words.specs.Held.{request_of};
 
+use crate::argument::Argument;
+use crate::arguments;
 use crate::request::{ReportRequest, Request};
-use crate::{arguments, values};
+use crate::values;
 use clap::{ArgMatches, Command};
 use std::alloc::{AllocError, Global};
 
@@ -14,7 +16,13 @@ use std::alloc::{AllocError, Global};
 pub fn command<'a>(alloc: Global) -> Result<Command<'a>, AllocError>
     ensures { IfOk result (λ c. app_of c ≡ report_command) }
 {
-    Command::new(alloc, "report").arg(arguments::file(alloc, "REPORT"))
+    arguments::command(
+        alloc,
+        "report",
+        &[
+            Argument::File("REPORT"),
+        ],
+    )
 }
 
 /// What the matches ask.
