@@ -7,9 +7,8 @@ ghost use Rattle.command_words.specs.Asked.{compile_asked};
 ghost use Rattle.command_words.specs.Held.{request_of};
 
 use crate::argument::{Argument, Numbers};
-use crate::arguments;
 use crate::request::{CompileRequest, Request};
-use crate::values;
+use crate::{arguments, values};
 use clap::{ArgMatches, Command};
 use std::alloc::{AllocError, Global};
 
@@ -30,9 +29,27 @@ pub fn command<'a>(alloc: Global) -> Result<Command<'a>, AllocError>
             Argument::File("SOURCE"),
             Argument::File("IMAGE"),
             Argument::File("REPORT"),
-            Argument::NumberOption("spm", Numbers { least: 0, most: SPM_MOST }),
-            Argument::NumberOption("unroll", Numbers { least: 1, most: UNROLL_MOST }),
-            Argument::NumberOption("inline", Numbers { least: 0, most: INLINE_MOST }),
+            Argument::NumberOption(
+                "spm",
+                Numbers {
+                    least: 0,
+                    most: SPM_MOST,
+                },
+            ),
+            Argument::NumberOption(
+                "unroll",
+                Numbers {
+                    least: 1,
+                    most: UNROLL_MOST,
+                },
+            ),
+            Argument::NumberOption(
+                "inline",
+                Numbers {
+                    least: 0,
+                    most: INLINE_MOST,
+                },
+            ),
             Argument::FileOption("table"),
             Argument::Flag("derive"),
         ],

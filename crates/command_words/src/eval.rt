@@ -6,9 +6,8 @@ ghost use Rattle.command_words.specs.Asked.{eval_asked};
 ghost use Rattle.command_words.specs.Held.{request_of};
 
 use crate::argument::Argument;
-use crate::arguments;
 use crate::request::{EvalRequest, Request};
-use crate::values;
+use crate::{arguments, values};
 use clap::{ArgMatches, Command};
 use std::alloc::{AllocError, Global};
 

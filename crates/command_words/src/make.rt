@@ -7,9 +7,8 @@ ghost use Rattle.command_words.specs.Asked.{make_asked};
 ghost use Rattle.command_words.specs.Held.{request_of};
 
 use crate::argument::{Argument, Numbers};
-use crate::arguments;
 use crate::request::{MakeRequest, Request};
-use crate::values;
+use crate::{arguments, values};
 use clap::{ArgMatches, Command};
 use std::alloc::{AllocError, Global};
 
@@ -21,7 +20,13 @@ pub fn command<'a>(alloc: Global) -> Result<Command<'a>, AllocError>
         alloc,
         "make",
         &[
-            Argument::Number("N", Numbers { least: 1, most: 100 }),
+            Argument::Number(
+                "N",
+                Numbers {
+                    least: 1,
+                    most: 100,
+                },
+            ),
             Argument::File("SOURCE"),
             Argument::File("IMAGE"),
             Argument::File("REPORT"),

@@ -6,9 +6,8 @@ ghost use Rattle.command_words.specs.Asked.{report_asked};
 ghost use Rattle.command_words.specs.Held.{request_of};
 
 use crate::argument::Argument;
-use crate::arguments;
 use crate::request::{ReportRequest, Request};
-use crate::values;
+use crate::{arguments, values};
 use clap::{ArgMatches, Command};
 use std::alloc::{AllocError, Global};
 
@@ -16,13 +15,7 @@ use std::alloc::{AllocError, Global};
 pub fn command<'a>(alloc: Global) -> Result<Command<'a>, AllocError>
     ensures { IfOk result (λ c. app_of c ≡ report_command) }
 {
-    arguments::command(
-        alloc,
-        "report",
-        &[
-            Argument::File("REPORT"),
-        ],
-    )
+    arguments::command(alloc, "report", &[Argument::File("REPORT")])
 }
 
 /// What the matches ask.

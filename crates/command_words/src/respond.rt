@@ -6,9 +6,8 @@ ghost use Rattle.command_words.specs.Asked.{respond_asked};
 ghost use Rattle.command_words.specs.Held.{request_of};
 
 use crate::argument::Argument;
-use crate::arguments;
 use crate::request::{Request, RespondRequest};
-use crate::values;
+use crate::{arguments, values};
 use clap::{ArgMatches, Command};
 use std::alloc::{AllocError, Global};
 
@@ -19,10 +18,7 @@ pub fn command<'a>(alloc: Global) -> Result<Command<'a>, AllocError>
     arguments::command(
         alloc,
         "respond",
-        &[
-            Argument::File("TASKS"),
-            Argument::FileOption("table"),
-        ],
+        &[Argument::File("TASKS"), Argument::FileOption("table")],
     )
 }
 

@@ -7,9 +7,8 @@ ghost use Rattle.command_words.specs.Asked.{run_asked};
 ghost use Rattle.command_words.specs.Held.{request_of};
 
 use crate::argument::{Argument, Numbers};
-use crate::arguments;
 use crate::request::{Request, RunRequest};
-use crate::values;
+use crate::{arguments, values};
 use clap::{ArgMatches, Command};
 use std::alloc::{AllocError, Global};
 
@@ -27,7 +26,13 @@ pub fn command<'a>(alloc: Global) -> Result<Command<'a>, AllocError>
             Argument::File("IMAGE"),
             Argument::File("INPUT"),
             Argument::File("OUTPUT"),
-            Argument::NumberOption("limit", Numbers { least: 0, most: LIMIT_MOST }),
+            Argument::NumberOption(
+                "limit",
+                Numbers {
+                    least: 0,
+                    most: LIMIT_MOST,
+                },
+            ),
             Argument::FileOption("table"),
         ],
     )
