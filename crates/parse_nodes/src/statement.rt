@@ -178,10 +178,10 @@ pub fn begin_for_body(alloc: Global, head: HeadedFor, under: Box<Frames>) -> Res
     ensures { (f : Names) → Gives f result (Goes (Begins (InFor head.bound (start_part_of f head.start) (maybe_of f head.test) (maybe_of f head.step) head.at (frames_of f under.value)))) }
 {
     match head.boxed(alloc) {
-        Ok(head) => match Frames::InFor(head, under).boxed(alloc) {
-            Ok(under) => Ok(State::OfStatement(AtStatement::Begins, under)),
-            Err(refusal) => Err(refusal),
-        },
+        Ok(head) => {
+            let under = Frames::InFor(head, under).boxed(alloc)?;
+            Ok(State::OfStatement(AtStatement::Begins, under))
+        }
         Err(refusal) => {
             Frames::let_go(under);
             Err(refusal)
