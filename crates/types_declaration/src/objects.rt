@@ -90,11 +90,11 @@ fn check_object(
     ensures { IfOk result (λ r. IsObject r (base_said base) (source_object object.now) table.old table.new) }
 {
     let number = narrow(table.objects())?;
-    let shape = check_shape(&object.shape, table, alloc)?;
     let early = early_rule(object, table);
     let wrong = has_wrong_initial(&object.shape, &object.initial, base.is_const, table);
     let filled = is_filled(&object.shape, &object.initial, table)?;
     let held = extent(&object.shape, &object.initial)?;
+    let shape = check_shape(&object.shape, table, alloc)?;
     table.declare(object.name.0, base.kind, base.is_const, held)?;
     let filling = fill(filled, table)?;
     let initial = check_initial(base.kind, filling, &object.initial, table, alloc)?;
