@@ -56,6 +56,18 @@ delivered k r place =
       clock = suc k.clock;
     }
 
+-- the value of a register was written to another one alone
+abbrev pub parted : Knowing → ℕ → ℕ → Knowing
+parted k r place =
+    record {
+      lasting = k.lasting;
+      places = slice_set k.places r place;
+      times = slice_set k.times r k.clock;
+      written = slice_set k.written place k.clock;
+      began = k.began;
+      clock = suc k.clock;
+    }
+
 -- a register is a copy of what stands in another one
 abbrev pub copied : Knowing → ℕ → ℕ → Knowing
 copied k r place =
@@ -66,6 +78,18 @@ copied k r place =
       written = k.written;
       began = k.began;
       clock = suc k.clock;
+    }
+
+-- the value of a register stands nowhere any more
+abbrev pub forgotten : Knowing → ℕ → Knowing
+forgotten k r =
+    record {
+      lasting = k.lasting;
+      places = k.places;
+      times = slice_set k.times r 0;
+      written = k.written;
+      began = k.began;
+      clock = k.clock;
     }
 
 -- nothing is known yet

@@ -1,11 +1,14 @@
-// What becomes of each copy of a block. Nothing is proved of it: a choice that can't be followed leaves the program as it is.
-use super::copy::{Copied, copy_at, word_at};
+// What becomes of each instruction of a block. Nothing is proved of it: a choice that can't be followed leaves the program as it is.
+use super::copy::{Copied, copy_at};
 use super::known::Known;
 use super::reading::{Reader, read_end, read_instr};
-use super::renaming::{writes, written};
-use low_ir::{Block, End, Instr};
+use super::renaming::{only_written, writes, written};
+use low_ir::{Base, Block, End, Instr, Operand};
 use std::alloc::Global;
 use wcc_base::Memory;
+
+/// How many registers are looked at for a value.
+const LOOKED_AT: usize = 8;
 
 /// What becomes of an instruction.
 #[derive(Clone, Copy)]
@@ -15,8 +18,10 @@ pub enum Choice {
     Delivered,
     /// A copy: what reads it reads what it is a copy of.
     LeftOut,
-    /// A word to which a register is set that nothing reads.
+    /// An instruction that only writes a register, which nothing reads then.
     Unread,
+    /// The value goes to another register alone.
+    Apart(u32),
 }
 
 /// What lies behind an instruction, of each register. Places of the code are counted from block to block, so that nothing has to be
@@ -27,12 +32,26 @@ pub struct Behind {
     read: Vec<u64>,
     /// The next place where it is written.
     written: Vec<u64>,
+    /// The last place where the value that it has here is read where it has to stand in its own register.
+    bound: Vec<u64>,
+    /// Registers that hold values of the block alone, those that were written first in it last.
+    own: Vec<u32>,
     /// The first place of the block.
     first: u64,
     /// A place behind its last one, where the blocks to which it leads read what they count on.
     last: u64,
     /// The place.
     at: u64,
+}
+
+/// The register that an operation, an element or a word goes to.
+fn computed(instr: &Instr) -> Option<u32> {
+    match instr {
+        Instr::Operate { into, .. } => Some(*into),
+        Instr::Load { into, .. } => Some(*into),
+        Instr::Set { into, .. } => Some(*into),
+        _ => None,
+    }
 }
 
 fn place_of(places: &[u64], register: u32) -> u64 {
@@ -61,6 +80,8 @@ impl Behind {
         Ok(Behind {
             read: vec![in alloc; 0u64; registers as usize]?,
             written: vec![in alloc; 0u64; registers as usize]?,
+            bound: vec![in alloc; 0u64; registers as usize]?,
+            own: Vec::new(alloc),
             first: 1,
             last: 1,
             at: 1,
@@ -75,12 +96,58 @@ impl Behind {
         if let Some(place) = self.written.get_mut(register as usize) {
             *place = at;
         }
+        if let Some(place) = self.bound.get_mut(register as usize) {
+            *place = 0;
+        }
+    }
+
+    /// A value is read that is best in its own register, or has to be there.
+    fn bind(&mut self, operand: Operand) {
+        let at = self.at;
+        if let Operand::Register(register) = operand {
+            if let Some(place) = self.bound.get_mut(register as usize) {
+                *place = at;
+            }
+        }
+    }
+
+    fn bind_base(&mut self, base: Base) {
+        if let Base::Pointer { register, .. } = base {
+            self.bind(Operand::Register(register));
+        }
+    }
+
+    fn bind_all(&mut self, operands: &[Operand]) {
+        for operand in operands {
+            self.bind(*operand);
+        }
+    }
+
+    /// Pointers, copies, and what is handed on.
+    fn bind_instr(&mut self, instr: &Instr) {
+        match instr {
+            Instr::Set { value, .. } => self.bind(*value),
+            Instr::Operate { .. } => {}
+            Instr::Point { address, .. } => self.bind_base(address.base),
+            Instr::Load { address, .. } => self.bind_base(address.base),
+            Instr::Store { address, .. } => self.bind_base(address.base),
+            Instr::Put { value } => self.bind(*value),
+            Instr::Get { .. } => {}
+            Instr::Call { arguments, .. } => self.bind_all(arguments),
+        }
+    }
+
+    fn bind_end(&mut self, end: End) {
+        if let End::Return { value } = end {
+            self.bind(value);
+        }
     }
 
     fn pass(&mut self, instr: &Instr) -> Result<(), Memory> {
         if let Some(register) = written(instr) {
             self.write(register);
         }
+        self.bind_instr(instr);
         read_instr(self, instr)
     }
 
@@ -137,25 +204,75 @@ impl Behind {
         }
     }
 
-    /// What becomes of what is set at a place, if it is a word.
-    fn choice_of_word(&self, known: &Known, code: &[Instr], at: usize) -> Choice {
-        match word_at(code, at) {
-            None => Choice::Stays,
-            Some(set) => {
-                if known.is_lasting(set.into) || place_of(&self.read, set.into) >= self.first {
-                    Choice::Stays
-                } else {
-                    Choice::Unread
-                }
-            }
+    /// The register that an instruction writes, if it does nothing else and nothing behind it reads that.
+    fn unread(&self, known: &Known, instr: &Instr) -> Option<u32> {
+        let register = only_written(instr)?;
+        if known.is_lasting(register) || place_of(&self.read, register) >= self.first {
+            None
+        } else {
+            Some(register)
         }
     }
 
-    fn choice_of(&self, known: &Known, code: &[Instr], at: usize) -> Choice {
-        match copy_at(code, at) {
-            None => self.choice_of_word(known, code, at),
-            Some(copy) => self.choice(known, code, at, copy),
+    /// Whether the value that an instruction writes to a register is of the block alone.
+    fn is_own(&self, known: &Known, register: u32) -> bool {
+        let read = place_of(&self.read, register);
+        !known.is_lasting(register) && read >= self.first && read != self.last
+    }
+
+    /// Whether a register is free from here to a place, where it is written again.
+    fn is_free(&self, register: u32, place: u64) -> bool {
+        place_of(&self.read, register) < self.first && place_of(&self.written, register) >= place
+    }
+
+    /// Another register to which the value of an instruction can go: one that holds values of the block behind it, so that fewer
+    /// registers are named.
+    fn apart(&self, known: &Known, instr: &Instr) -> Option<u32> {
+        let register = computed(instr)?;
+        if !self.is_own(known, register) || place_of(&self.bound, register) >= self.first {
+            return None;
         }
+        let last = place_of(&self.read, register);
+        for other in self.own.iter().rev().take(LOOKED_AT) {
+            if *other != register && self.is_free(*other, last) {
+                return Some(*other);
+            }
+        }
+        None
+    }
+
+    /// An instruction that is no copy writes to its own register, or to another one alone.
+    fn place(&mut self, known: &Known, instr: &Instr) -> Result<Choice, Memory> {
+        if let Some(other) = self.apart(known, instr) {
+            self.write(other);
+            return Ok(Choice::Apart(other));
+        }
+        if let Some(register) = written(instr) {
+            if self.is_own(known, register) {
+                self.own.push(register)?;
+            }
+        }
+        Ok(Choice::Stays)
+    }
+
+    /// What becomes of the instruction at a place. One that is left out reads nothing.
+    fn pass_at(
+        &mut self,
+        known: &Known,
+        code: &[Instr],
+        at: usize,
+        instr: &Instr,
+    ) -> Result<Choice, Memory> {
+        if let Some(register) = self.unread(known, instr) {
+            self.write(register);
+            return Ok(Choice::Unread);
+        }
+        let choice = match copy_at(code, at) {
+            None => self.place(known, instr)?,
+            Some(copy) => self.choice(known, code, at, copy),
+        };
+        self.pass(instr)?;
+        Ok(choice)
     }
 
     /// By instruction of a block, what becomes of it.
@@ -172,15 +289,16 @@ impl Behind {
         self.at = self.last;
         self.lead_on(lists, block.end)?;
         self.at = self.at.wrapping_sub(1);
+        self.bind_end(block.end);
         read_end(self, block.end)?;
+        self.own.clear();
         for at in (0..places).rev() {
             self.at = self.at.wrapping_sub(1);
-            let new = self.choice_of(known, &block.code, at);
-            if let Some(choice) = choices.get_mut(at) {
-                *choice = new;
-            }
             if let Some(instr) = block.code.get(at) {
-                self.pass(instr)?;
+                let new = self.pass_at(known, &block.code, at, instr)?;
+                if let Some(choice) = choices.get_mut(at) {
+                    *choice = new;
+                }
             }
         }
         self.first = self.last.wrapping_add(1);

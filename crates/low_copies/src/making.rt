@@ -1,5 +1,5 @@
 // A program without its copies.
-ghost use Rattle.std.specs.Prelude.{◌≡◌, ◌<◌, ◌+◌, true, [], ◌∷◌, Some, length, map, IfOk, IfSome};
+ghost use Rattle.std.specs.Prelude.{◌≡◌, ◌<◌, ◌+◌, true, [], ◌∷◌, Some, length, map, IfOk, IfSome, false, slice_index_or};
 ghost use Rattle.std.specs.List.{AllZip};
 ghost use Rattle.low_ir.specs.Code.{Do, Register, Set};
 ghost use Rattle.low_ir.specs.Formed.{written_by};
@@ -11,10 +11,10 @@ ghost use Rattle.low_copies.specs.Making.{AreBlocks, Continues, Goes, IsBlock, I
 
 use super::beginning::{begin, is_own, leads_on, list_at};
 use super::choices::{Behind, Choice};
-use super::copy::{copy_at, word_at};
+use super::copy::copy_at;
 use super::counting::{Counted, counted_in};
 use super::known::Known;
-use super::renaming::{renamed, renamed_end, writes, written};
+use super::renaming::{only_written, renamed, renamed_end, writes, written};
 use low_ir::{Block, Function, Instr, Loop, Low};
 use std::alloc::Global;
 use wcc_base::Memory;
@@ -71,6 +71,13 @@ fn put_one(
     }
 }
 
+/// Whether no block counts on a register at its beginning.
+fn is_brief(known: &Known, register: u32) -> bool
+    ensures { result ≡ true → slice_index_or known.now.lasting register false ≡ false }
+{
+    !known.is_lasting(register)
+}
+
 /// An instruction that delivers its value to where the next one would copy it.
 fn put_delivered(
     alloc: Global,
@@ -103,6 +110,42 @@ fn leave_out(known: &mut Known, into: u32, source: u32) -> bool
     }
 }
 
+/// An instruction that writes this register, but whose value goes to another one alone.
+fn put_parted(
+    alloc: Global,
+    known: &mut Known,
+    register: u32,
+    place: u32,
+    instr: &Instr,
+    made: &mut Vec<Instr>,
+) -> Result<bool, Memory>
+    requires { written_by (instr_of instr.now) ≡ Some register }
+    ensures { IfOk result (λ b. b ≡ true → (rest : Code) → Goes (instr_of instr.now ∷ rest) known.old (map instr_of made.old.items) rest known.new (map instr_of made.new.items)) }
+{
+    if is_brief(known, register) && is_brief(known, place) {
+        if put(alloc, known, place, instr, made)? {
+            return Ok(known.part(register, place));
+        }
+    }
+    Ok(false)
+}
+
+/// An instruction whose value goes to another register alone; or it can't be made.
+fn put_apart(
+    alloc: Global,
+    known: &mut Known,
+    place: u32,
+    instr: &Instr,
+    made: &mut Vec<Instr>,
+) -> Result<bool, Memory>
+    ensures { IfOk result (λ b. b ≡ true → (rest : Code) → Goes (instr_of instr.now ∷ rest) known.old (map instr_of made.old.items) rest known.new (map instr_of made.new.items)) }
+{
+    match written(instr) {
+        None => Ok(false),
+        Some(register) => put_parted(alloc, known, register, place, instr, made),
+    }
+}
+
 fn choice_at(choices: &[Choice], at: usize) -> Choice {
     match choices.get(at) {
         None => Choice::Stays,
@@ -128,6 +171,14 @@ fn is_unread(choice: Choice) -> bool {
     match choice {
         Choice::Unread => true,
         _ => false,
+    }
+}
+
+/// The register to which a value goes that lives in the block alone, if it goes to another one.
+fn apart(choice: Choice) -> Option<u32> {
+    match choice {
+        Choice::Apart(place) => Some(place),
+        _ => None,
     }
 }
 
@@ -169,6 +220,42 @@ fn put_single(
     }
 }
 
+fn put_elsewhere(
+    alloc: Global,
+    known: &mut Known,
+    code: &[Instr],
+    at: usize,
+    place: u32,
+    made: &mut Vec<Instr>,
+) -> Result<Option<usize>, Memory>
+    requires { at < length code.now }
+    ensures { IfOk result (λ o. IfSome o (Continues (map instr_of code.now) at known.old (map instr_of made.old.items) known.new (map instr_of made.new.items))) }
+{
+    if put_apart(alloc, known, place, &code[at], made)? {
+        Ok(Some(at + 1))
+    } else {
+        Ok(None)
+    }
+}
+
+/// An instruction that is no copy, as was chosen.
+fn put_value(
+    alloc: Global,
+    known: &mut Known,
+    code: &[Instr],
+    choices: &[Choice],
+    at: usize,
+    made: &mut Vec<Instr>,
+) -> Result<Option<usize>, Memory>
+    requires { at < length code.now }
+    ensures { IfOk result (λ o. IfSome o (Continues (map instr_of code.now) at known.old (map instr_of made.old.items) known.new (map instr_of made.new.items))) }
+{
+    match apart(choice_at(choices, at)) {
+        None => put_single(alloc, known, code, at, made),
+        Some(place) => put_elsewhere(alloc, known, code, at, place, made),
+    }
+}
+
 fn leave_copy(known: &mut Known, code: &[Instr], at: usize) -> Option<usize>
     requires { at < length code.now }
     ensures { IfSome result (λ next. (made : Code) → Continues (map instr_of code.now) at known.old made known.new made next) }
@@ -194,18 +281,30 @@ fn leaves_out(known: &Known, code: &[Instr], choices: &[Choice], at: usize) -> b
     }
 }
 
-/// Whether the word to which a register is set at a place is left out: as was chosen, if the register stands nowhere.
-fn leaves_word(known: &Known, code: &[Instr], choices: &[Choice], at: usize) -> bool
-    requires { at < length code.now }
-    ensures { result ≡ true → (made : Code) → Continues (map instr_of code.now) at known.now made known.now made (at + 1) }
+/// An instruction whose value nothing needs is left out.
+fn omit(known: &mut Known, instr: &Instr) -> bool
+    ensures { result ≡ true → (rest : Code) → (made : Code) → Goes (instr_of instr.now ∷ rest) known.old made rest known.new made }
 {
-    let Some(set) = word_at(code, at) else {
-        return false;
-    };
-    match known.find(set.into) {
-        None => is_unread(choice_at(choices, at)),
-        Some(_) => false,
+    match only_written(instr) {
+        None => false,
+        Some(register) => known.forget(register),
     }
+}
+
+fn leave_unread(known: &mut Known, code: &[Instr], at: usize) -> Option<usize>
+    requires { at < length code.now }
+    ensures { IfSome result (λ next. (made : Code) → Continues (map instr_of code.now) at known.old made known.new made next) }
+{
+    if omit(known, &code[at]) {
+        Some(at + 1)
+    } else {
+        None
+    }
+}
+
+/// Whether the instruction at a place is left out as one whose value nothing reads.
+fn leaves_unread(choices: &[Choice], at: usize) -> bool {
+    is_unread(choice_at(choices, at))
 }
 
 /// The next instruction of a block, as was chosen; or it can't be done. Answers where the code goes on.
@@ -222,12 +321,12 @@ fn put_next(
 {
     if is_delivered(choice_at(choices, at + 1)) {
         put_pair(alloc, known, code, at, made)
+    } else if leaves_unread(choices, at) {
+        Ok(leave_unread(known, code, at))
     } else if leaves_out(known, code, choices, at) {
         Ok(leave_copy(known, code, at))
-    } else if leaves_word(known, code, choices, at) {
-        Ok(Some(at + 1))
     } else {
-        put_single(alloc, known, code, at, made)
+        put_value(alloc, known, code, choices, at, made)
     }
 }
 
