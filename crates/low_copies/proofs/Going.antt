@@ -6,9 +6,9 @@ use Rattle.std.proofs.lemmas.Option.{none-some}
 use Rattle.low_ir.specs.Code.{Constant, Do, End, Instr, Note, Operand, Register, Set}
 use Rattle.low_ir.specs.Formed.{written_by}
 use Rattle.low_copied.specs.Copies.{Becomes, Beginnings, Code, Copied, Follows, Standing}
-use Rattle.low_copies.specs.Knowing.{Knowing, copied, delivered, stands}
+use Rattle.low_copies.specs.Knowing.{Knowing, copied, delivered, parted, stands}
 use Rattle.low_copies.specs.Making.{Continues, Goes, IsPut, IsRenamed, name_in}
-use Rattle.low_copies.proofs.Standing.{between, copy_delivered, copy_left, delivers, kept_becomes, known_copied, known_delivered}
+use Rattle.low_copies.proofs.Standing.{between, copy_delivered, copy_left, delivers, kept_becomes, known_copied, known_delivered, known_parted, parts}
 
 get_below : (code : Code) (at : ℕ) (i : Instr ℕ Note) → slice_get code at ≡ Some i → at < length code
 get_below [] at i e = cc
@@ -73,6 +73,21 @@ kept k d i rest made more writes few put size lasting out first end whole m =
           (m.follows new (put.new ∷ js)
           (carried size out end new k d i put.new rest js (stands (delivered k d d)) put.renamed
           (subst (λ o. Becomes size o d (stands k) (stands (delivered k d d))) (sym writes) (inside, kept_becomes size lasting k d m.known inside)) h));
+    }
+
+-- an instruction whose value goes to another register alone
+pub parted_goes : (k : Knowing) (t x : ℕ) (i : Instr ℕ Note) (rest made more : Code) → written_by i ≡ Some t → slice_index_or k.lasting t false ≡ false → slice_index_or k.lasting x false ≡ false → x < length k.written → t < length k.places → IsPut k x i made more → Goes (i ∷ rest) k made rest (parted k t x) more
+parted_goes k t x i rest made more writes brief free few own put size lasting out first end whole m =
+    let inside : x < size = subst (λ n. x < n) m.known.written few in
+    let source : t < size = subst (λ n. t < n) m.known.places own in
+    let n = parted k t x in
+    record {
+      known = known_parted size lasting k t x m.known;
+      follows = λ new js h.
+          subst (Follows size out end new whole first) (behind made more js put.new put.is)
+          (m.follows new (put.new ∷ js)
+          (carried size out end new k x i put.new rest js (stands n) put.renamed
+          (subst (λ o. Becomes size o x (stands k) (stands n)) (sym writes) (inside, parts size lasting k t x m.known inside source brief free)) h));
     }
 
 -- an instruction that delivers its value, and the copy behind it

@@ -6,7 +6,7 @@ use Rattle.std.proofs.lemmas.List.{length-replicate}
 use Rattle.std.proofs.lemmas.List.Elements.{All-head, All-replicate, All-set, All-tail, All-weaker}
 use Rattle.low_ir.specs.Code.{Register}
 use Rattle.low_copied.specs.Copies.{Copied, Fewer, Moves, Standing}
-use Rattle.low_copies.specs.Knowing.{IsKnown, Knowing, copied, delivered, if_still, lasts, opened, stands, stands_in, unknown}
+use Rattle.low_copies.specs.Knowing.{IsKnown, Knowing, copied, delivered, if_still, lasts, opened, parted, stands, stands_in, unknown}
 
 -- a value that stands still where it was put
 record Still (k : Knowing) (place time w : ℕ) : Type 0 where
@@ -66,6 +66,18 @@ known_delivered size lasting k r place h =
       times = length-set (slice_set k.times place k.clock) r k.clock ∙ length-set k.times place k.clock ∙ h.times;
       written = length-set k.written place k.clock ∙ h.written;
       before = All-set (λ time. time < suc k.clock) (slice_set k.times place k.clock) r k.clock now (All-set (λ time. time < suc k.clock) k.times place k.clock now (later k.clock k.times h.before));
+      begun = omega arith;
+    }
+
+pub known_parted : (size : ℕ) (lasting : List Bool) (k : Knowing) (r place : ℕ) → IsKnown size lasting k → IsKnown size lasting (parted k r place)
+known_parted size lasting k r place h =
+    let now : k.clock < suc k.clock = omega arith in
+    record {
+      lasting = h.lasting;
+      places = length-set k.places r place ∙ h.places;
+      times = length-set k.times r k.clock ∙ h.times;
+      written = length-set k.written place k.clock ∙ h.written;
+      before = All-set (λ time. time < suc k.clock) k.times r k.clock now (later k.clock k.times h.before);
       begun = omega arith;
     }
 
@@ -166,6 +178,47 @@ kept_becomes size lasting k d known few v w q =
     (λ (same : v ≡ d). inl (same, written_stands size lasting k d d known few w (subst (λ x. stands (delivered k d d) x ≡ Some w) same q)))
     (λ (other : v ≢ d). let h = others_stand size lasting k d d known few v w other other q in inr (other, h.0, h.1))
     (cases_eq v d)
+
+-- the value of t was written to x alone
+module _ (size : ℕ) (lasting : List Bool) (k : Knowing) (t x : ℕ) (known : IsKnown size lasting k) (place : x < size) (source : t < size) (brief : slice_index_or k.lasting t false ≡ false) (free : slice_index_or k.lasting x false ≡ false) where
+  others_parted : (v w : ℕ) → v ≢ t → stands (parted k t x) v ≡ Some w → (w ≢ x) × (stands k v ≡ Some w)
+  others_parted v w nt q = by_test (slice_index_or k.lasting v false) refl q
+    where
+      by_test : (b : Bool) → slice_index_or k.lasting v false ≡ b → stands_in (parted k t x) b v ≡ Some w → (w ≢ x) × (stands k v ≡ Some w)
+      by_test true r q2 =
+          let same : v ≡ w = cc in
+          (λ w_x. let bad : true ≡ false = sym r ∙ ap (λ y. slice_index_or k.lasting y false) (same ∙ w_x) ∙ free in cc, ap (λ b. stands_in k b v) r ∙ q2)
+      by_test false r q2 =
+          let n = parted k t x in
+          let p : slice_index_or n.places v 0 ≡ slice_index_or k.places v 0 = get_or-set_other k.places t v x 0 nt in
+          let m : slice_index_or n.times v 0 ≡ slice_index_or k.times v 0 = get_or-set_other k.times t v k.clock 0 nt in
+          let s = still n (slice_index_or n.places v 0) (slice_index_or n.times v 0) w q2 in
+          let before = time_before k.clock k.times v known.begun known.before in
+          let there = s.is ∙ p in
+          let long = known.written in
+          let written : slice_index_or n.written w 0 ≤ slice_index_or k.times v 0 = subst (λ y. slice_index_or n.written y 0 ≤ slice_index_or k.times v 0) (sym s.is) (subst (λ y. slice_index_or n.written (slice_index_or n.places v 0) 0 ≤ y) m s.written) in
+          let apart : w ≢ x = λ w_x.
+          let now : slice_index_or n.written w 0 ≡ k.clock = ap (λ y. slice_index_or n.written y 0) w_x ∙ get_or-set_same k.written x k.clock 0 (omega arith) in
+          omega arith in
+          let old : slice_index_or n.written w 0 ≡ slice_index_or k.written w 0 = get_or-set_other k.written x w k.clock 0 apart in
+          let began : k.began ≤ slice_index_or k.times v 0 = subst (λ y. k.began ≤ y) m s.began in
+          let here : slice_index_or k.written (slice_index_or k.places v 0) 0 ≤ slice_index_or k.times v 0 = subst (λ y. slice_index_or k.written y 0 ≤ slice_index_or k.times v 0) there (omega arith) in
+          (apart, ap (λ b. stands_in k b v) r ∙ stands_still k (slice_index_or k.places v 0) (slice_index_or k.times v 0) began here ∙ ap Some (sym there))
+
+  parted_stands : (w : ℕ) → stands (parted k t x) t ≡ Some w → w ≡ x
+  parted_stands w q =
+      let n = parted k t x in
+      let q2 : if_still n (slice_index_or n.places t 0) (slice_index_or n.times t 0) ≡ Some w = sym (ap (λ b. stands_in n b t) brief) ∙ q in
+      let s = still n (slice_index_or n.places t 0) (slice_index_or n.times t 0) w q2 in
+      let long = known.places in
+      s.is ∙ get_or-set_same k.places t x 0 (omega arith)
+
+  pub parts : Moves t x (stands k) (stands (parted k t x))
+  parts v w q =
+      ⊎_elim
+      (λ (same : v ≡ t). inl (same, parted_stands w (subst (λ y. stands (parted k t x) y ≡ Some w) same q)))
+      (λ (other : v ≢ t). let h = others_parted v w other q in inr (other, h.0, h.1))
+      (cases_eq v t)
 
 -- between an instruction that delivers its value and the copy behind it
 abbrev between_in : Bool → Bool → ℕ → Option ℕ → Option ℕ

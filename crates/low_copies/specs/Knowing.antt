@@ -56,6 +56,18 @@ delivered k r place =
       clock = suc k.clock;
     }
 
+-- the value of a register was written to another one alone
+abbrev pub parted : Knowing → ℕ → ℕ → Knowing
+parted k r place =
+    record {
+      lasting = k.lasting;
+      places = slice_set k.places r place;
+      times = slice_set k.times r k.clock;
+      written = slice_set k.written place k.clock;
+      began = k.began;
+      clock = suc k.clock;
+    }
+
 -- a register is a copy of what stands in another one
 abbrev pub copied : Knowing → ℕ → ℕ → Knowing
 copied k r place =

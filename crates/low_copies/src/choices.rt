@@ -1,9 +1,10 @@
 // What becomes of each copy of a block. Nothing is proved of it: a choice that can't be followed leaves the program as it is.
 use super::copy::{Copied, copy_at, word_at};
 use super::known::Known;
+use super::numbers::{Numbers, gives_word};
 use super::reading::{Reader, read_end, read_instr};
 use super::renaming::{writes, written};
-use low_ir::{Block, End, Instr};
+use low_ir::{Block, End, Function, Instr};
 use std::alloc::Global;
 use wcc_base::Memory;
 
@@ -17,6 +18,8 @@ pub enum Choice {
     LeftOut,
     /// A word to which a register is set that nothing reads.
     Unread,
+    /// Its value goes to this register, and lives in the block alone.
+    Apart(u32),
 }
 
 /// What lies behind an instruction, of each register. Places of the code are counted from block to block, so that nothing has to be
@@ -27,12 +30,24 @@ pub struct Behind {
     read: Vec<u64>,
     /// The next place where it is written.
     written: Vec<u64>,
+    /// The place of a copy of its value that is left out.
+    copied: Vec<u64>,
+    /// Registers that values may have for themselves.
+    numbers: Numbers,
     /// The first place of the block.
     first: u64,
     /// A place behind its last one, where the blocks to which it leads read what they count on.
     last: u64,
     /// The place.
     at: u64,
+}
+
+/// Whether a copy is delivered by the instruction before it.
+pub fn is_delivered(choice: Choice) -> bool {
+    match choice {
+        Choice::Delivered => true,
+        _ => false,
+    }
 }
 
 fn place_of(places: &[u64], register: u32) -> u64 {
@@ -56,11 +71,13 @@ impl Reader for Behind {
 }
 
 impl Behind {
-    /// Nothing is behind, of so many registers.
-    pub fn new(alloc: Global, registers: u32) -> Result<Behind, Memory> {
+    /// Nothing is behind, in a function that may have so many registers.
+    pub fn new(alloc: Global, function: &Function, registers: u32) -> Result<Behind, Memory> {
         Ok(Behind {
             read: vec![in alloc; 0u64; registers as usize]?,
             written: vec![in alloc; 0u64; registers as usize]?,
+            copied: vec![in alloc; 0u64; registers as usize]?,
+            numbers: Numbers::of(alloc, function, registers)?,
             first: 1,
             last: 1,
             at: 1,
@@ -70,6 +87,9 @@ impl Behind {
     fn write(&mut self, register: u32) {
         let at = self.at;
         if let Some(place) = self.read.get_mut(register as usize) {
+            *place = 0;
+        }
+        if let Some(place) = self.copied.get_mut(register as usize) {
             *place = 0;
         }
         if let Some(place) = self.written.get_mut(register as usize) {
@@ -151,10 +171,72 @@ impl Behind {
         }
     }
 
-    fn choice_of(&self, known: &Known, code: &[Instr], at: usize) -> Choice {
+    /// The register has a copy of its value left out, and has to keep it.
+    fn note_copied(&mut self, register: u32) {
+        let at = self.at;
+        if let Some(place) = self.copied.get_mut(register as usize) {
+            *place = at;
+        }
+    }
+
+    /// Whether the value that is written to a register lives in the block alone, and may have another register.
+    fn lives_here(&self, known: &Known, register: u32) -> bool {
+        !known.is_lasting(register)
+            && place_of(&self.read, register) != self.last
+            && place_of(&self.copied, register) < self.first
+    }
+
+    /// What becomes of a value that is no copy.
+    fn choice_of_value(&mut self, known: &Known, instr: &Instr) -> Choice {
+        match written(instr) {
+            None => Choice::Stays,
+            Some(register) => {
+                if !gives_word(instr) || !self.lives_here(known, register) {
+                    return Choice::Stays;
+                }
+                match self.numbers.next(register) {
+                    None => Choice::Stays,
+                    Some(place) => Choice::Apart(place),
+                }
+            }
+        }
+    }
+
+    fn choice_of_copy(&mut self, known: &Known, code: &[Instr], at: usize, copy: Copied) -> Choice {
+        let choice = self.choice(known, code, at, copy);
+        if let Choice::LeftOut = choice {
+            self.note_copied(copy.source);
+        }
+        choice
+    }
+
+    /// What becomes of an instruction, where the next one isn't a copy to which it delivers.
+    fn choice_of(&mut self, known: &Known, code: &[Instr], at: usize, instr: &Instr) -> Choice {
+        match self.choice_of_word(known, code, at) {
+            Choice::Unread => Choice::Unread,
+            _ => self.choice_of_value(known, instr),
+        }
+    }
+
+    fn choice_at(
+        &mut self,
+        known: &Known,
+        code: &[Instr],
+        at: usize,
+        delivers: bool,
+    ) -> Choice {
         match copy_at(code, at) {
-            None => self.choice_of_word(known, code, at),
-            Some(copy) => self.choice(known, code, at, copy),
+            Some(copy) => self.choice_of_copy(known, code, at, copy),
+            None => match code.get(at) {
+                None => Choice::Stays,
+                Some(instr) => {
+                    if delivers {
+                        Choice::Stays
+                    } else {
+                        self.choice_of(known, code, at, instr)
+                    }
+                }
+            },
         }
     }
 
@@ -173,9 +255,11 @@ impl Behind {
         self.lead_on(lists, block.end)?;
         self.at = self.at.wrapping_sub(1);
         read_end(self, block.end)?;
+        let mut delivers = false;
         for at in (0..places).rev() {
             self.at = self.at.wrapping_sub(1);
-            let new = self.choice_of(known, &block.code, at);
+            let new = self.choice_at(known, &block.code, at, delivers);
+            delivers = is_delivered(new);
             if let Some(choice) = choices.get_mut(at) {
                 *choice = new;
             }

@@ -1,6 +1,6 @@
 // Where values stand, as the code of a block is made.
 ghost use Rattle.std.specs.Prelude.{◌≡◌, ◌<◌, true, false, length, IfOk, slice_index_or, slice_set};
-ghost use Rattle.low_copies.specs.Knowing.{copied, delivered, if_still, opened, stands, unknown};
+ghost use Rattle.low_copies.specs.Knowing.{copied, delivered, if_still, opened, parted, stands, unknown};
 
 use std::alloc::Global;
 use std::marker::Model;
@@ -146,6 +146,28 @@ impl Known {
         set_number(&mut self.places, place as usize, place);
         set_number(&mut self.places, register as usize, place);
         set_time(&mut self.times, place as usize, self.clock);
+        set_time(&mut self.times, register as usize, self.clock);
+        set_time(&mut self.written, place as usize, self.clock);
+        self.clock = next;
+        true
+    }
+
+    /// The value of a register was written to another one alone.
+    pub fn part(&mut self, register: u32, place: u32) -> bool
+        ensures known { result ≡ true → self.new ≡ parted self.old register place }
+        ensures few { result ≡ true → place < length self.old.written }
+        ensures own { result ≡ true → register < length self.old.places }
+    {
+        let Some(next) = self.clock.checked_add(1) else {
+            return false;
+        };
+        if place as usize >= self.written.len() {
+            return false;
+        }
+        if register as usize >= self.places.len() {
+            return false;
+        }
+        set_number(&mut self.places, register as usize, place);
         set_time(&mut self.times, register as usize, self.clock);
         set_time(&mut self.written, place as usize, self.clock);
         self.clock = next;

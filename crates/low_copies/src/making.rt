@@ -1,16 +1,16 @@
 // A program without its copies.
-ghost use Rattle.std.specs.Prelude.{◌≡◌, ◌<◌, ◌+◌, true, [], ◌∷◌, Some, length, map, IfOk, IfSome};
+ghost use Rattle.std.specs.Prelude.{◌≡◌, ◌<◌, ◌+◌, true, false, [], ◌∷◌, Some, length, map, IfOk, IfSome, slice_index_or};
 ghost use Rattle.std.specs.List.{AllZip};
 ghost use Rattle.low_ir.specs.Code.{Do, Register, Set};
 ghost use Rattle.low_ir.specs.Formed.{written_by};
 ghost use Rattle.low_ir.specs.Programs.{low_of};
 ghost use Rattle.low_ir.specs.View.{block_of, function_of, instr_of};
-ghost use Rattle.low_copied.specs.Copies.{Code, FunctionCopied, IsCopied, MayBeCopied};
+ghost use Rattle.low_copied.specs.Copies.{Code, FunctionCopied, Grows, IsCopied, MayBeCopied};
 ghost use Rattle.low_copies.specs.Knowing.{list_of};
 ghost use Rattle.low_copies.specs.Making.{AreBlocks, Continues, Goes, IsBlock, IsPut};
 
 use super::beginning::{begin, is_own, leads_on, list_at};
-use super::choices::{Behind, Choice};
+use super::choices::{Behind, Choice, is_delivered};
 use super::copy::{copy_at, word_at};
 use super::counting::{Counted, counted_in};
 use super::known::Known;
@@ -18,6 +18,9 @@ use super::renaming::{renamed, renamed_end, writes, written};
 use low_ir::{Block, Function, Instr, Loop, Low};
 use std::alloc::Global;
 use wcc_base::Memory;
+
+/// How many registers a function may have in any case.
+const FREE: u32 = 256;
 
 /// An instruction that reads where values stand and writes to this register, behind others; or it can't be made.
 fn put(
@@ -71,6 +74,13 @@ fn put_one(
     }
 }
 
+/// Whether no block counts on a register at its beginning.
+fn is_brief(known: &Known, register: u32) -> bool
+    ensures { result ≡ true → slice_index_or known.now.lasting register false ≡ false }
+{
+    !known.is_lasting(register)
+}
+
 /// An instruction that delivers its value to where the next one would copy it.
 fn put_delivered(
     alloc: Global,
@@ -103,17 +113,46 @@ fn leave_out(known: &mut Known, into: u32, source: u32) -> bool
     }
 }
 
+/// An instruction that writes this register, but whose value goes to another one alone.
+fn put_parted(
+    alloc: Global,
+    known: &mut Known,
+    register: u32,
+    place: u32,
+    instr: &Instr,
+    made: &mut Vec<Instr>,
+) -> Result<bool, Memory>
+    requires { written_by (instr_of instr.now) ≡ Some register }
+    ensures { IfOk result (λ b. b ≡ true → (rest : Code) → Goes (instr_of instr.now ∷ rest) known.old (map instr_of made.old.items) rest known.new (map instr_of made.new.items)) }
+{
+    if is_brief(known, register) && is_brief(known, place) {
+        if put(alloc, known, place, instr, made)? {
+            return Ok(known.part(register, place));
+        }
+    }
+    Ok(false)
+}
+
+/// An instruction whose value goes to another register alone; or it can't be made.
+fn put_apart(
+    alloc: Global,
+    known: &mut Known,
+    place: u32,
+    instr: &Instr,
+    made: &mut Vec<Instr>,
+) -> Result<bool, Memory>
+    ensures { IfOk result (λ b. b ≡ true → (rest : Code) → Goes (instr_of instr.now ∷ rest) known.old (map instr_of made.old.items) rest known.new (map instr_of made.new.items)) }
+{
+    match written(instr) {
+        None => Ok(false),
+        Some(register) => put_parted(alloc, known, register, place, instr, made),
+    }
+}
+
 fn choice_at(choices: &[Choice], at: usize) -> Choice {
     match choices.get(at) {
         None => Choice::Stays,
         Some(choice) => *choice,
-    }
-}
-
-fn is_delivered(choice: Choice) -> bool {
-    match choice {
-        Choice::Delivered => true,
-        _ => false,
     }
 }
 
@@ -128,6 +167,14 @@ fn is_unread(choice: Choice) -> bool {
     match choice {
         Choice::Unread => true,
         _ => false,
+    }
+}
+
+/// The register to which a value goes that lives in the block alone, if it goes to another one.
+fn apart(choice: Choice) -> Option<u32> {
+    match choice {
+        Choice::Apart(place) => Some(place),
+        _ => None,
     }
 }
 
@@ -166,6 +213,42 @@ fn put_single(
         Ok(Some(at + 1))
     } else {
         Ok(None)
+    }
+}
+
+fn put_elsewhere(
+    alloc: Global,
+    known: &mut Known,
+    code: &[Instr],
+    at: usize,
+    place: u32,
+    made: &mut Vec<Instr>,
+) -> Result<Option<usize>, Memory>
+    requires { at < length code.now }
+    ensures { IfOk result (λ o. IfSome o (Continues (map instr_of code.now) at known.old (map instr_of made.old.items) known.new (map instr_of made.new.items))) }
+{
+    if put_apart(alloc, known, place, &code[at], made)? {
+        Ok(Some(at + 1))
+    } else {
+        Ok(None)
+    }
+}
+
+/// An instruction that is no copy, as was chosen.
+fn put_value(
+    alloc: Global,
+    known: &mut Known,
+    code: &[Instr],
+    choices: &[Choice],
+    at: usize,
+    made: &mut Vec<Instr>,
+) -> Result<Option<usize>, Memory>
+    requires { at < length code.now }
+    ensures { IfOk result (λ o. IfSome o (Continues (map instr_of code.now) at known.old (map instr_of made.old.items) known.new (map instr_of made.new.items))) }
+{
+    match apart(choice_at(choices, at)) {
+        None => put_single(alloc, known, code, at, made),
+        Some(place) => put_elsewhere(alloc, known, code, at, place, made),
     }
 }
 
@@ -227,7 +310,7 @@ fn put_next(
     } else if leaves_word(known, code, choices, at) {
         Ok(Some(at + 1))
     } else {
-        put_single(alloc, known, code, at, made)
+        put_value(alloc, known, code, choices, at, made)
     }
 }
 
@@ -286,16 +369,16 @@ fn block_of(
 fn blocks_of(
     alloc: Global,
     known: &mut Known,
+    behind: &mut Behind,
     registers: u32,
     lists: &[Vec<u32>],
     blocks: &[Block],
 ) -> Result<Option<Vec<Block>>, Memory>
     ensures { IfOk result (λ o. IfSome o (λ made. AreBlocks registers (map list_of lists.now) known.old (map block_of blocks.now) (map block_of made.items))) }
 {
-    let mut behind = Behind::new(alloc, registers)?;
     let mut made = Vec::new(alloc);
     for (number, block) in blocks.iter().enumerate() {
-        let Some(new) = block_of(alloc, known, &mut behind, lists, number, block)? else {
+        let Some(new) = block_of(alloc, known, behind, lists, number, block)? else {
             return Ok(None);
         };
         made.push(new)?;
@@ -323,14 +406,30 @@ fn loops_of(alloc: Global, loops: &[Loop]) -> Result<Vec<Loop>, Memory>
     Ok(same)
 }
 
+/// How many registers a function may have that has so many.
+fn grown(registers: u32) -> u32
+    ensures { Grows registers result }
+{
+    if registers < FREE { FREE } else { registers }
+}
+
 /// A function without its copies, if it can be made.
 fn function_of(alloc: Global, function: &Function) -> Result<Option<Function>, Memory>
     ensures { IfOk result (λ o. IfSome o (λ g. FunctionCopied (function_of function.now) (function_of g))) }
 {
-    let registers = function.registers;
+    let registers = grown(function.registers);
     let Counted { lasting, lists } = counted_in(alloc, function)?;
     let mut known = Known::new(alloc, lasting, registers)?;
-    let Some(blocks) = blocks_of(alloc, &mut known, registers, &lists, &function.blocks)? else {
+    let mut behind = Behind::new(alloc, function, registers)?;
+    let Some(blocks) = blocks_of(
+        alloc,
+        &mut known,
+        &mut behind,
+        registers,
+        &lists,
+        &function.blocks,
+    )?
+    else {
         return Ok(None);
     };
     Ok(Some(Function {
