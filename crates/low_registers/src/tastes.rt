@@ -40,6 +40,8 @@ pub struct Tastes {
     copies: Vec<u32>,
     /// Its interval, where it has one.
     intervals: Vec<Option<Lasting>>,
+    /// Whether it is a parameter.
+    passed: Vec<bool>,
     /// By place of the code, how many calls are before.
     calls: Vec<u32>,
     /// The machine registers that calls may change.
@@ -330,9 +332,13 @@ impl Tastes {
             sources: vec![in alloc; NO_REGISTER; registers]?,
             copies: vec![in alloc; NO_REGISTER; registers]?,
             intervals: intervals_of(alloc, order, registers)?,
+            passed: vec![in alloc; false; registers]?,
             calls: vec![in alloc; 0u32; 1]?,
             changed: known.changed_by(&function.blocks),
         };
+        for register in &function.parameters {
+            tastes.pass_in(*register);
+        }
         let depths = depths(alloc, &function.loops, function.blocks.len())?;
         for (number, block) in function.blocks.iter().enumerate() {
             tastes.read_block(known, block, worth_at(number_at(&depths, number)))?;
@@ -379,8 +385,23 @@ impl Tastes {
         }
     }
 
+    fn pass_in(&mut self, parameter: u32) {
+        if let Some(passed) = self.passed.get_mut(parameter as usize) {
+            *passed = true;
+        }
+    }
+
+    fn is_passed(&self, register: u32) -> bool {
+        match self.passed.get(register as usize) {
+            None => false,
+            Some(passed) => *passed,
+        }
+    }
+
+    /// A call in which an interval begins gives the register its value, but where that is a parameter, which has it before.
     fn lives_over_call(&self, interval: Lasting) -> bool {
-        let before = number_at(&self.calls, interval.first.wrapping_add(1));
+        let written = if self.is_passed(interval.register) { 0 } else { 1 };
+        let before = number_at(&self.calls, interval.first.wrapping_add(written));
         let behind = number_at(&self.calls, interval.last.wrapping_add(1));
         before != behind
     }
