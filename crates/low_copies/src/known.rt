@@ -158,7 +158,8 @@ impl Known {
         ensures few { result ≡ true → place < length self.old.written }
         ensures own { result ≡ true → register < length self.old.places }
     {
-        let Some(next) = self.clock.checked_add(1) else {
+        let now = self.clock;
+        let Some(next) = now.checked_add(1) else {
             return false;
         };
         if place as usize >= self.written.len() {
@@ -168,8 +169,8 @@ impl Known {
             return false;
         }
         set_number(&mut self.places, register as usize, place);
-        set_time(&mut self.times, register as usize, self.clock);
-        set_time(&mut self.written, place as usize, self.clock);
+        set_time(&mut self.times, register as usize, now);
+        set_time(&mut self.written, place as usize, now);
         self.clock = next;
         true
     }

@@ -4,30 +4,22 @@ use Rattle.std.specs.Prelude.{slice_get, sum_by}
 use Rattle.std.specs.List.{AllZip}
 use Rattle.std.proofs.Math.Nat.{mul-le-mul_left}
 use Rattle.std.proofs.lemmas.List.Sums.{sum_by-cons}
-use Rattle.low_ir.specs.declared.object.Kind.{Kind}
-use Rattle.low_ir.specs.Code.{Register, Base, Fixed, Through, Address, Set, Load, Instr, Do, Call, Block, Loop, Function, Low, Note}
-use Rattle.low_ir.specs.Room.{access_room, block_room, called, end_room, function_room, instr_room, marks_once, reaches, repeated, repeated_in, times, weight, weights}
-use Rattle.low_reloaded.specs.Facts.{Known}
+use Rattle.low_ir.specs.Code.{Register, Set, Instr, Do, Call, Block, Loop, Function, Low, Note}
+use Rattle.low_ir.specs.Room.{block_room, called, end_room, function_room, instr_room, marks_once, reaches, repeated, repeated_in, times, weight, weights}
+use Rattle.low_reloaded.specs.Facts.{Known, giving}
+use Rattle.low_reloaded.proofs.Giving.{giving_room}
 use Rattle.low_reloaded.specs.Reloads.{Becomes, BlockReloaded, Code, Follows, FunctionReloaded, IsReload, IsReloaded}
 use Rattle.low_reloaded.specs.Laws.{CostsNoMore}
 
 -- a load takes at least as much as a copy
-access_some : (base : Base ℕ) (offset : Option ℕ) (n : ℕ) → 1 ≤ access_room base offset n
-access_some (Fixed o) None n = omega arith
-access_some (Fixed o) (Some r) n = omega arith
-access_some (Through r claim) offset n = omega arith
-
-load_room : (kind : Kind) (d r : ℕ) (a : Address ℕ) → instr_room {R = ℕ} {K = Note} (Do (Set d (Register r))) ≤ instr_room {R = ℕ} {K = Note} (Do (Load kind d a))
-load_room kind d r a = let k = access_some a.base a.offset a.displacement in omega arith
-
 became_room : (known : Known) (i new : Instr ℕ Note) → Becomes known i new → instr_room new ≤ instr_room i
 became_room known i new becomes =
     ⊎_elim
     (λ (same : new ≡ i). let e : instr_room new ≡ instr_room i = ap instr_room same in omega arith)
     (λ (c : IsReload known i new).
     let e : instr_room new ≡ instr_room {R = ℕ} {K = Note} (Do (Set c.into (Register c.fact.register))) = ap instr_room c.becomes in
-    let f : instr_room i ≡ instr_room {R = ℕ} {K = Note} (Do (Load c.fact.kind c.into c.fact.address)) = ap instr_room c.is in
-    let k = load_room c.fact.kind c.into c.fact.register c.fact.address in
+    let f : instr_room i ≡ instr_room {R = ℕ} {K = Note} (Do (giving c.into c.fact.source)) = ap instr_room c.is in
+    let k = giving_room c.into c.fact.register c.fact.source in
     omega arith)
     becomes
 

@@ -3,23 +3,23 @@ use Rattle.std.proofs.Common.{◌≡◌, ◌<◌, ℕ, zero, suc, true, List, []
 use Rattle.std.specs.Prelude.{All, AllPairs, option_to_list, slice_get}
 use Rattle.std.specs.List.{AllZip}
 use Rattle.std.proofs.lemmas.List.Elements.{All-nil, All-cons, All-head, All-tail}
-use Rattle.low_ir.specs.declared.object.Kind.{Kind}
 use Rattle.low_ir.specs.Code.{Register, Constant, Address, Plain, Set, Operate, Point, Load, Store, Put, Get, Instr, Do, Call, Block, Loop, Function, Low, Note}
 use Rattle.low_ir.specs.Formed.{AreNested, CallsBelow, HasMarkBelow, IsFunction, IsLoop, IsLow, IsThere, LeadsOn, LeadsTo, LeadsTo_as, NamesThere, RegistersWithin, UsesRegisters, end_reads, is_back, mark_of, only_jump, opening, read_by, registers_in, written_by}
 use Rattle.low_ir.specs.Effects.{address_reads}
 use Rattle.low_ir.specs.Runs.{block_in}
 use Rattle.low_ir.specs.Turns.{mark_in}
+use Rattle.low_reloaded.proofs.Giving.{written_giving}
 use Rattle.low_reloaded.proofs.Lists.{all_beside, as_long, before, found}
 use Rattle.low_reloaded.specs.Facts.{Fact, Keeps, Known, Knows, KnowsNothing, Learns, Teaches}
 use Rattle.low_reloaded.specs.Reloads.{Becomes, BlockReloaded, Code, Follows, FunctionReloaded, IsReload, IsReloaded}
 
--- what each instruction keeps that stays, and each copy has that a load becomes, a block's code keeps
-module _ (P Q : Instr ℕ Note → Type 0) (same : (i : Instr ℕ Note) → P i → Q i) (copy : (kind : Kind) (d r : ℕ) (a : Address ℕ) → P (Do (Load kind d a)) → Q (Do (Set d (Register r)))) where
+-- what each instruction keeps that stays, and each copy has, a block's code keeps
+module _ (P Q : Instr ℕ Note → Type 0) (same : (i : Instr ℕ Note) → P i → Q i) (copy : (d r : ℕ) → Q (Do (Set d (Register r)))) where
   one_keeps : (known : Known) (i new : Instr ℕ Note) → Becomes known i new → P i → Q new
   one_keeps known i new becomes h =
       ⊎_elim
       (λ (stays : new ≡ i). subst Q (sym stays) (same i h))
-      (λ (c : IsReload known i new). subst Q (sym c.becomes) (copy c.fact.kind c.into c.fact.register c.fact.address (subst P c.is h)))
+      (λ (c : IsReload known i new). subst Q (sym c.becomes) (copy c.into c.fact.register))
       becomes
 
   code_keeps : (claims : List (List ℕ)) (is : Code) (known : Known) (js : Code) → Follows claims is known js → All P is → All Q js
@@ -60,7 +60,7 @@ InRange size known = (f : Fact) → Knows known f → f.register < size
 
 taught_in : (size : ℕ) (i : Plain ℕ) (f : Fact) → RegistersWithin {K = Note} size (Do i) → Teaches (Do i) f → f.register < size
 taught_in size (Set d x) f within h = absurd h
-taught_in size (Operate operator d x y) f within h = absurd h
+taught_in size (Operate operator d x y) f within h = subst (λ (g : Fact). g.register < size) (sym h.0) (All-head (λ r. r < size) d [] within.1)
 taught_in size (Point d a) f within h = absurd h
 taught_in size (Load kind d a) f within h = subst (λ (x : Fact). x.register < size) (sym h.0) (All-head (λ r. r < size) d [] within.1)
 taught_in size (Store kind a (Register r)) f within h = subst (λ (x : Fact). x.register < size) (sym h.1) (All-head (λ r. r < size) r (registers_in (address_reads a)) within.0)
@@ -81,7 +81,7 @@ became_in size known i new range becomes within =
     ⊎_elim
     (λ (same : new ≡ i). subst (RegistersWithin size) (sym same) within)
     (λ (c : IsReload known i new).
-    let written = subst (λ j. All (λ r. r < size) (option_to_list (written_by j))) c.is within.1 in
+    let written = subst (λ o. All (λ r. r < size) (option_to_list o)) (ap written_by c.is ∙ written_giving c.into c.fact.source) within.1 in
     subst (RegistersWithin size) (sym c.becomes) (All-cons (λ r. r < size) c.fact.register [] (range c.fact c.knows) (All-nil (λ r. r < size)), written))
     becomes
 
@@ -146,8 +146,8 @@ module _ (p q : Low) (reloaded : IsReloaded p q) where
         parameters = subst (λ n. All (λ r. r < n) gn.parameters) (sym h.size) (subst (All (λ r. r < fn.size)) (sym h.parameters) k.parameters);
         registers = subst (λ n. All (UsesRegisters n) gn.blocks) (sym h.size)
             (all_beside (BlockReloaded p.claims) (UsesRegisters fn.size) (UsesRegisters fn.size) (λ b c r. block_in_range fn.size p.claims b c r) fn.blocks gn.blocks h.blocks k.registers);
-        names = blocks_keep (NamesThere p) (NamesThere q) names_there (λ kind d r a h. All-nil (IsThere q)) p.claims fn.blocks gn.blocks h.blocks k.names;
-        calls = blocks_keep (CallsBelow f) (CallsBelow f) (λ i h. h) (λ kind d r a h. All-nil (λ g. g < f)) p.claims fn.blocks gn.blocks h.blocks k.calls;
+        names = blocks_keep (NamesThere p) (NamesThere q) names_there (λ d r. All-nil (IsThere q)) p.claims fn.blocks gn.blocks h.blocks k.names;
+        calls = blocks_keep (CallsBelow f) (CallsBelow f) (λ i h. h) (λ d r. All-nil (λ g. g < f)) p.claims fn.blocks gn.blocks h.blocks k.calls;
         stays = λ b n to. subst (λ m. n < m) (sym (as_long (BlockReloaded p.claims) fn.blocks gn.blocks h.blocks)) (k.stays b n (leads fn gn h b n to));
         forward = λ b n to le. subst (λ ls. is_back ls b n ≡ true) (sym h.loops) (k.forward b n (leads fn gn h b n to) le);
         loops = subst (All (IsLoop gn)) (sym h.loops) (all_loops fn.loops k.loops);

@@ -1,4 +1,5 @@
 pub mod Lists
+pub mod Giving
 pub mod Places
 pub mod Effects
 pub mod Words

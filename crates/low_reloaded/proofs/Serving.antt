@@ -4,7 +4,7 @@ use Rattle.std.specs.Prelude.{All, ◌^◌, if◌then◌else◌, nat_lt, slice_g
 use Rattle.std.specs.List.{AllZip}
 use Rattle.rv_core.specs.declared.row.Condition.{Condition}
 use Rattle.rv_core.specs.Arithmetic.{holds}
-use Rattle.low_ir.specs.Code.{Operand, Register, Plain, Set, Load, Instr, Do, Call, End, Jump, Branch, Return, Block, Function, Low, Note}
+use Rattle.low_ir.specs.Code.{Operand, Register, Plain, Set, Instr, Do, Call, End, Jump, Branch, Return, Block, Function, Low, Note}
 use Rattle.low_ir.specs.declared.run.Began.{Began}
 use Rattle.low_ir.specs.declared.run.Value.{Value}
 use Rattle.low_ir.specs.declared.run.Value.TheVariants.{Word, Pointer}
@@ -12,10 +12,11 @@ use Rattle.low_ir.specs.Effects.{World, Did, start, reads, dest, effect_of}
 use Rattle.low_ir.specs.Runs.{Going, Done, Bad, Bank, operand_value, values, write_to, goes_on, finish, enter, block_in, went_to, write_all, begin, only_where, waiting, call, at_instr, come_back, give_back, chosen, branches, at_end, at_code, step, run, first, first_in, lrun, virtual}
 use Rattle.low_ir.specs.Turns.{IsGood, KeepsLoop, KeepsLoops}
 use Rattle.low_reloaded.proofs.Lists.{before, found}
-use Rattle.low_reloaded.specs.Facts.{Fact, Known, Knows, KnowsNothing, Learns}
+use Rattle.low_reloaded.proofs.Giving.{dest_giving}
+use Rattle.low_reloaded.specs.Facts.{Fact, Known, Knows, KnowsNothing, Learns, giving}
 use Rattle.low_reloaded.specs.Reloads.{Becomes, BlockReloaded, Code, Follows, FunctionReloaded, IsReload, IsReloaded, Steps}
 use Rattle.low_reloaded.proofs.Small.{LowRun, LowRunning, LowWaiting, SmallBank, SmallRun, first_small, step_small}
-use Rattle.low_reloaded.proofs.Truth.{AreTrue, copy_loads, learned, none_true}
+use Rattle.low_reloaded.proofs.Truth.{AreTrue, copy_gives, learned, none_true}
 
 abbrev LowFunction : Type 0
 LowFunction = Function ℕ Note
@@ -122,11 +123,12 @@ module _ (p q : Low) (reloaded : IsReloaded p q) where
       ap (λ j. at_instr virtual q (running r code ws) j behind) same
       ∙ ap (λ claims. finish virtual (running r code ws) behind (dest i) (effect_of claims i (values virtual r.top.store (reads i)) r.world)) reloaded.claims)
       (λ (c : IsReload known (Do i) new).
-      let load : i ≡ Load c.fact.kind c.into c.fact.address = cc in
+      let source : i ≡ giving c.into c.fact.source = cc in
       ap (λ j. at_instr virtual q (running r code ws) j behind) c.becomes
       ∙ ap (λ claims. finish virtual (running r code ws) behind (Some c.into) (effect_of claims (Set c.into (Register c.fact.register)) (values virtual r.top.store (Register c.fact.register ∷ [])) r.world)) reloaded.claims
-      ∙ ap (finish virtual (running r code ws) behind (Some c.into)) (copy_loads p.claims r.top.store r.world c.fact c.into (all c.fact c.knows))
-      ∙ ap (λ j. finish virtual (running r code ws) behind (dest j) (effect_of p.claims j (values virtual r.top.store (reads j)) r.world)) (sym load))
+      ∙ ap (finish virtual (running r code ws) behind (Some c.into)) (copy_gives p.claims r.top.store r.world c.fact.source c.fact.register c.into (all c.fact c.knows))
+      ∙ ap (λ d. finish virtual (running r code ws) behind d (effect_of p.claims (giving c.into c.fact.source) (values virtual r.top.store (reads (giving c.into c.fact.source))) r.world)) (sym (dest_giving c.into c.fact.source))
+      ∙ ap (λ j. finish virtual (running r code ws) behind (dest j) (effect_of p.claims j (values virtual r.top.store (reads j)) r.world)) (sym source))
       becomes
 
   plain_serves : (r : LowRunning) (i : Plain ℕ) (is : Code) (code : Code) (ws : List LowWaiting) (known : Known) → SmallBank r.top.store → AreTrue p.claims known r.top.store r.world → Steps p.claims (Follows p.claims is) (Do i) known code → Waits r.below ws → Serves (at_instr virtual p r (Do i) is) (at_code virtual q (running r code ws) code)
@@ -163,7 +165,7 @@ module _ (p q : Low) (reloaded : IsReloaded p q) where
   call_stays d f args note known new becomes =
       ⊎_elim (λ (same : new ≡ Call d f args note). same) (λ (c : IsReload known (Call d f args note) new). absurd (unlike c.fact c.into c.is)) becomes
     where
-      unlike : (fact : Fact) (into : ℕ) → Call d f args note ≡ Do (Load fact.kind into fact.address) → ⊥
+      unlike : (fact : Fact) (into : ℕ) → Call d f args note ≡ Do (giving into fact.source) → ⊥
       unlike fact into e = cc
 
   -- nothing is known behind it

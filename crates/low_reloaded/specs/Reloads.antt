@@ -1,19 +1,18 @@
--- Programs of which one has copies where the other one loads elements again.
+-- Programs of which one has copies where the other one loads elements again, or computes values again.
 use Rattle.std.specs.Prelude.{◌≡◌, ◌⊎◌, ℕ, List, [], ◌∷◌}
 use Rattle.std.specs.List.{AllZip}
-use Rattle.low_ir.specs.declared.object.Kind.{Kind}
-use Rattle.low_ir.specs.Code.{Register, Address, Set, Load, Instr, Do, Block, Function, Note, Low}
-use Rattle.low_reloaded.specs.Facts.{Fact, Known, Knows, KnowsNothing, Learns}
+use Rattle.low_ir.specs.Code.{Register, Set, Instr, Do, Block, Function, Note, Low}
+use Rattle.low_reloaded.specs.Facts.{Fact, Known, Knows, KnowsNothing, Learns, giving}
 
 abbrev pub Code : Type 0
 Code = List (Instr ℕ Note)
 
--- a load, and a copy of the register that holds what it would give
+-- a load or an operation, and a copy of the register that holds what it would give
 pub record IsReload (known : Known) (i new : Instr ℕ Note) : Type 0 where
   pub fact : Fact
   pub into : ℕ
   pub knows : Knows known fact
-  pub is : i ≡ Do (Load fact.kind into fact.address)
+  pub is : i ≡ Do (giving into fact.source)
   pub becomes : new ≡ Do (Set into (Register fact.register))
 
 abbrev pub Becomes : Known → Instr ℕ Note → Instr ℕ Note → Type 0

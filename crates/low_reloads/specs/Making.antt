@@ -1,16 +1,22 @@
--- How the code of a block is made with copies in place of loads.
+-- How the code of a block is made with copies in place of loads and operations.
 use Rattle.std.specs.Prelude.{◌≡◌, ◌⊎◌, ℕ, List, ◌++◌, map, Option, Some, option_map}
-use Rattle.low_ir.specs.declared.object.Kind.{Kind}
-use Rattle.low_ir.specs.Code.{Address, Instr, Note}
+use Rattle.low_ir.specs.Code.{Instr, Note}
 use Rattle.std.specs.List.{AllZip}
-use Rattle.low_ir.specs.View.{address_of}
-use Rattle.low_reloaded.specs.Facts.{Fact, Keeps, Known, Knows, KnowsNothing}
+use Rattle.low_ir.specs.View.{address_of, operand_of}
+use Rattle.low_reloaded.specs.Facts.{Element, Fact, Keeps, Known, Knows, KnowsNothing, Result, Source}
 use Rattle.low_reloaded.specs.Reloads.{Code, Follows}
 use Rattle.low_reloads.specs.declared.facts.Fact as facts
+use Rattle.low_reloads.specs.declared.facts.Source.{Source as Source'}
+use Rattle.low_reloads.specs.declared.facts.Source.TheVariants as sources
 
--- a fact as the code has it
+-- a source as the code has it
+abbrev pub source_of : Source' → Source
+source_of (sources.Element kind a) = Element kind (address_of a)
+source_of (sources.Result operator x y) = Result operator (operand_of x) (operand_of y)
+
+-- and a fact
 abbrev pub fact_of : facts.Fact → Fact
-fact_of f = record { kind = f.kind; address = address_of f.address; register = f.register }
+fact_of f = record { source = source_of f.source; register = f.register }
 
 abbrev pub known_of : List (Option facts.Fact) → Known
 known_of xs = map (option_map fact_of) xs
@@ -33,11 +39,11 @@ pub record IsCode (claims : List (List ℕ)) (code made : Code) : Type 0 where
   pub nothing : KnowsNothing known
   pub follows : Follows claims code known made
 
--- a fact at a place of the table says what a load would give
-pub record Answers (slot : Option facts.Fact) (kind : Kind) (a : Address ℕ) (r : ℕ) : Type 0 where
+-- a fact at a place of the table says what a source would give
+pub record Answers (slot : Option facts.Fact) (source : Source) (r : ℕ) : Type 0 where
   pub fact : facts.Fact
   pub there : slot ≡ Some fact
-  pub is : fact_of fact ≡ record { kind = kind; address = a; register = r }
+  pub is : fact_of fact ≡ record { source = source; register = r }
 
 -- lists beside each other so far: with what stands beside the rest all of it does
 abbrev pub ZipsSoFar : {A B : Type 0} → (A → B → Type 0) → List A → List A → List B → Type 0

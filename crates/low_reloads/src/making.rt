@@ -1,4 +1,4 @@
-// A program with copies in place of loads of what a register holds.
+// A program with copies in place of loads and operations whose value a register holds.
 ghost use Rattle.std.specs.Prelude.{map, IfOk, IfSome};
 ghost use Rattle.std.specs.List.{AllZip};
 ghost use Rattle.low_ir.specs.Programs.{low_of};
@@ -6,33 +6,30 @@ ghost use Rattle.low_ir.specs.View.{block_of, claim_of, function_of, instr_of};
 ghost use Rattle.low_reloaded.specs.Reloads.{Becomes, BlockReloaded, Follows, FunctionReloaded, IsReloaded};
 ghost use Rattle.low_reloads.specs.Making.{IsCode};
 
+use super::facts::given;
 use super::known::Known;
 use super::same::{same_instr, same_loops, same_registers};
 use low_ir::{Block, Function, Instr, Low, Operand};
 use std::alloc::Global;
 use wcc_base::Memory;
 
-/// The register that holds what an instruction would load, and where that goes.
+/// A copy of the register that holds what an instruction would give.
 fn reload_of(known: &Known, instr: &Instr) -> Option<Instr>
     ensures { IfSome result (λ j. Becomes known.now (instr_of instr.now) (instr_of j)) }
 {
-    match instr {
-        Instr::Load {
-            kind,
-            into,
-            address,
-        } => match known.find(*kind, *address) {
-            None => None,
-            Some(register) => Some(Instr::Set {
-                into: *into,
-                value: Operand::Register(register),
-            }),
-        },
-        _ => None,
+    let Some(given) = given(instr) else {
+        return None;
+    };
+    match known.find(given.source) {
+        None => None,
+        Some(register) => Some(Instr::Set {
+            into: given.into,
+            value: Operand::Register(register),
+        }),
     }
 }
 
-/// An instruction, or a copy of what it would load.
+/// An instruction, or a copy of what it would give.
 fn instr_of(alloc: Global, known: &Known, instr: &Instr) -> Result<Instr, Memory>
     ensures { IfOk result (λ j. Becomes known.now (instr_of instr.now) (instr_of j)) }
 {

@@ -71,7 +71,7 @@ module _ (p : high.Program) (q r : Low) (reloaded : IsReloaded q r) where
     accesses_kept : All (AccessesOf p q f h) fn.blocks → All (AccessesOf p r f h) gn.blocks
     accesses_kept all =
         blocks_keep (λ i. All (λ (a : Address ℕ). IsAccess p q f h a.base) (addresses i)) (λ i. All (λ (a : Address ℕ). IsAccess p r f h a.base) (addresses i))
-        (λ i. all_kept (addresses i)) (λ kind d x a k. All-nil (λ (a : Address ℕ). IsAccess p r f h a.base)) q.claims fn.blocks gn.blocks same.blocks all
+        (λ i. all_kept (addresses i)) (λ d x. All-nil (λ (a : Address ℕ). IsAccess p r f h a.base)) q.claims fn.blocks gn.blocks same.blocks all
 
   comes : (fn gn : Function ℕ Note) → FunctionReloaded q.claims fn gn → ComesFrom p q fn → ComesFrom p r gn
   comes fn gn same k =
