@@ -14,6 +14,7 @@ use super::choices::{Behind, Choice, is_delivered};
 use super::copy::{copy_at, word_at};
 use super::counting::{Counted, counted_in};
 use super::known::Known;
+use super::numbers::wanted;
 use super::renaming::{renamed, renamed_end, writes, written};
 use low_ir::{Block, Function, Instr, Loop, Low};
 use std::alloc::Global;
@@ -406,18 +407,24 @@ fn loops_of(alloc: Global, loops: &[Loop]) -> Result<Vec<Loop>, Memory>
     Ok(same)
 }
 
-/// How many registers a function may have that has so many.
-fn grown(registers: u32) -> u32
+/// How many registers a function gets that has so many and wants so many more.
+fn grown(registers: u32, wanted: u32) -> u32
     ensures { Grows registers result }
 {
-    if registers < FREE { FREE } else { registers }
+    if registers >= FREE {
+        registers
+    } else if wanted >= FREE - registers {
+        FREE
+    } else {
+        registers + wanted
+    }
 }
 
 /// A function without its copies, if it can be made.
 fn function_of(alloc: Global, function: &Function) -> Result<Option<Function>, Memory>
     ensures { IfOk result (λ o. IfSome o (λ g. FunctionCopied (function_of function.now) (function_of g))) }
 {
-    let registers = grown(function.registers);
+    let registers = grown(function.registers, wanted(alloc, function)?);
     let Counted { lasting, lists } = counted_in(alloc, function)?;
     let mut known = Known::new(alloc, lasting, registers)?;
     let mut behind = Behind::new(alloc, function, registers)?;

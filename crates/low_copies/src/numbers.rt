@@ -6,6 +6,9 @@ use low_ir::instruction::{Instr, Operand};
 use std::alloc::Global;
 use wcc_base::Memory;
 
+/// How many registers stay that are named nowhere, for passes that want some.
+const SPARE: u32 = 16;
+
 /// What a function names.
 #[derive(Drop)]
 struct Named {
@@ -15,7 +18,7 @@ struct Named {
     writes: Vec<u32>,
 }
 
-/// The registers that a function names nowhere, which are taken one by one.
+/// The registers that a function names nowhere, which are taken one by one, the first one first.
 #[derive(Drop)]
 pub struct Numbers {
     writes: Vec<u32>,
@@ -68,6 +71,23 @@ impl Named {
     }
 }
 
+fn is_at(flags: &[bool], register: u32) -> bool {
+    match flags.get(register as usize) {
+        None => true,
+        Some(flag) => *flag,
+    }
+}
+
+/// How many values a register has, if it has several.
+fn values_of(writes: &[u32], register: u32) -> u32 {
+    match writes.get(register as usize) {
+        None => 0,
+        Some(writes) => {
+            if *writes < 2 { 0 } else { *writes }
+        }
+    }
+}
+
 /// Whether an instruction gives a word, and no pointer, which has to keep its register, nor a copy.
 pub fn gives_word(instr: &Instr) -> bool {
     match instr {
@@ -83,14 +103,28 @@ pub fn gives_word(instr: &Instr) -> bool {
     }
 }
 
+/// How many registers more a function wants that has so many: one for each value of those that have several values.
+pub fn wanted(alloc: Global, function: &Function) -> Result<u32, Memory> {
+    let Named { is, writes } = Named::of(alloc, function, function.registers)?;
+    let mut wanted = SPARE;
+    for register in 0..function.registers {
+        if is_at(&is, register) {
+            wanted = wanted.saturating_add(values_of(&writes, register));
+        } else {
+            wanted = wanted.saturating_sub(1);
+        }
+    }
+    Ok(wanted)
+}
+
 impl Numbers {
     /// Those of a function that may have so many registers.
     pub fn of(alloc: Global, function: &Function, registers: u32) -> Result<Numbers, Memory> {
         let Named { is, writes } = Named::of(alloc, function, registers)?;
         let mut left = Vec::new(alloc);
-        for (register, is) in is.iter().enumerate() {
-            if !*is {
-                left.push(register as u32)?;
+        for register in (0..registers).rev() {
+            if !is_at(&is, register) {
+                left.push(register)?;
             }
         }
         Ok(Numbers { writes, left })
@@ -98,15 +132,10 @@ impl Numbers {
 
     /// One for a value of a register, if that has other values too and one is left.
     pub fn next(&mut self, register: u32) -> Option<u32> {
-        match self.writes.get(register as usize) {
-            None => None,
-            Some(writes) => {
-                if *writes < 2 {
-                    None
-                } else {
-                    self.left.pop()
-                }
-            }
+        if values_of(&self.writes, register) == 0 {
+            None
+        } else {
+            self.left.pop()
         }
     }
 }
