@@ -107,14 +107,15 @@ pub fn gives_word(instr: &Instr) -> bool {
 pub fn wanted(alloc: Global, function: &Function) -> Result<u32, Memory> {
     let Named { is, writes } = Named::of(alloc, function, function.registers)?;
     let mut wanted = SPARE;
+    let mut left = 0u32;
     for register in 0..function.registers {
         if is_at(&is, register) {
             wanted = wanted.saturating_add(values_of(&writes, register));
         } else {
-            wanted = wanted.saturating_sub(1);
+            left = left.saturating_add(1);
         }
     }
-    Ok(wanted)
+    Ok(wanted.saturating_sub(left))
 }
 
 impl Numbers {
