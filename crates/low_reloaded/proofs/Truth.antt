@@ -9,7 +9,7 @@ use Rattle.low_ir.specs.declared.object.Kind.TheVariants.{Word as WordKind}
 use Rattle.low_ir.specs.Code.{Operand, Register, Constant, Address, Plain, Set, Operate, Point, Load, Store, Put, Get, Do}
 use Rattle.low_ir.specs.declared.run.Value.{Value}
 use Rattle.low_ir.specs.declared.run.Value.TheVariants.{Word, Pointer}
-use Rattle.low_ir.specs.Effects.{Did, World, address_reads, changes, dest, effect_of, gives, loaded, reads, resolved, stored, there, with_objects}
+use Rattle.low_ir.specs.Effects.{Did, World, address_reads, began, changes, dest, effect_of, gives, loaded, reads, resolved, stored, there, with_objects}
 use Rattle.low_ir.specs.Runs.{Bank, set_in, values, values_cons, virtual, write_to}
 use Rattle.low_reloaded.specs.Facts.{Element, Fact, Keeps, Known, Knows, KnowsNothing, Learns, Result, Source, Spares, SparesElement, SparesFact, Teaches, giving, source_reads}
 use Rattle.low_reloaded.proofs.Places.{Leads, Nowhere, Somewhere, Way, way}
@@ -55,6 +55,14 @@ copy_gives claims s u (Element kind a) r d t =
 copy_gives claims s u (Result operator x y) r d t =
     ap (λ o. effect_of claims (Set d (Register r)) (values_cons o (Some [])) u) t.held
     ∙ sym (ap (λ os. effect_of claims (Operate operator d x y) os u) t.both)
+
+source_traced : (claims : List (List ℕ)) (s : Bank) (u : World) (g b : ℕ) (from : Source) (r : ℕ) → Holds claims s u from r → Holds claims s (began u g b) from r
+source_traced claims s u g b (Element kind a) r t = record { object = t.object; bytes = t.bytes; word = t.word; leads = t.leads; element = t.element; held = t.held }
+source_traced claims s u g b (Result operator x y) r t = record { left = t.left; right = t.right; both = t.both; held = t.held }
+
+-- a fact is true once a block was entered
+pub traced : (claims : List (List ℕ)) (s : Bank) (u : World) (g b : ℕ) (f : Fact) → IsTrue claims s u f → IsTrue claims s (began u g b) f
+traced claims s u g b f t = source_traced claims s u g b f.source f.register t
 
 -- a register that was written
 record Written (s now : Bank) (d : ℕ) (x : Value) : Type 0 where
