@@ -75,3 +75,7 @@ pub record IsReloaded (p q : Low) : Type 0 where
   pub objects : q.objects ≡ p.objects
   pub main : q.main ≡ p.main
   pub marks : q.marks ≡ p.marks
+
+-- a program as it is, or with copies
+abbrev pub MayBeReloaded : Low → Low → Type 0
+MayBeReloaded p q = (q ≡ p) ⊎ IsReloaded p q

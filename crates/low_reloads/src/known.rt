@@ -1,5 +1,5 @@
 // What is known as a block goes on.
-ghost use Rattle.std.specs.Prelude.{◌≡◌, Some, map, slice_set, IfOk, IfSome};
+ghost use Rattle.std.specs.Prelude.{◌≡◌, Some, true, map, slice_set, IfOk, IfSome};
 ghost use Rattle.low_ir.specs.View.{claim_of, instr_of};
 ghost use Rattle.low_reloaded.specs.Facts.{Keeps, Knows, KnowsNothing, Learns};
 ghost use Rattle.low_reloads.specs.Making.{Answers, AreKept, IsAdded, fact_of, known_of, source_of};
@@ -108,8 +108,33 @@ impl Known {
         None
     }
 
+    /// Whether a fact is known.
+    pub fn knows(&self, fact: Fact) -> bool
+        ensures { result ≡ true → Knows self.now (fact_of fact) }
+    {
+        for at in 0..self.facts.len() {
+            if let Some(register) = answer(self.facts[at], fact.source) {
+                if register == fact.register {
+                    return true;
+                }
+            }
+        }
+        false
+    }
+
+    /// The facts that are known.
+    pub fn list(&self, alloc: Global) -> Result<Vec<Fact>, Memory> {
+        let mut list = Vec::new(alloc);
+        for at in 0..self.facts.len() {
+            if let Some(fact) = self.facts[at] {
+                list.push(fact)?;
+            }
+        }
+        Ok(list)
+    }
+
     /// One fact more, in place of the oldest one.
-    fn add(&mut self, fact: Fact)
+    pub fn add(&mut self, fact: Fact)
         ensures { IsAdded (fact_of fact) self.old self.new }
     {
         let at = place(self.next, self.facts.len());

@@ -15,7 +15,7 @@ use Rattle.low_ir.specs.Turns.{mark_at, marks_passed}
 use Rattle.low_ir.proofs.InSlots.{slots_assigned}
 use Rattle.low_places.proofs.Follow.{carried}
 use Rattle.low_places.proofs.Ways.{all_safe}
-use Rattle.low_reloaded.specs.Reloads.{FunctionReloaded, IsReloaded}
+use Rattle.low_reloaded.specs.Reloads.{FunctionReloaded, IsReloaded, MayBeReloaded}
 use Rattle.low_reloaded.proofs.Blocks.{SomeReloaded, reloaded_blocks}
 use Rattle.low_reloaded.proofs.Costs.{costs}
 use Rattle.low_reloaded.proofs.Formed.{blocks_keep, formed, mark_same, opening_same}
@@ -110,5 +110,6 @@ module _ (p : high.Program) (q r : Low) (reloaded : IsReloaded q r) where
         reach = λ mark. let a = less.reach mark in let b = k.reach mark in omega arith;
       }
 
-pub keeps : (p : high.Program) (q r : Low) → KeepsProgram p q → IsReloaded q r → KeepsProgram p r
-keeps p q r k reloaded = reloaded_keeps p q r reloaded k
+pub keeps : (p : high.Program) (q r : Low) → KeepsProgram p q → MayBeReloaded q r → KeepsProgram p r
+keeps p q r k reloaded =
+    ⊎_elim (λ (same : r ≡ q). subst (KeepsProgram p) (sym same) k) (λ (c : IsReloaded q r). reloaded_keeps p q r c k) reloaded
