@@ -35,8 +35,8 @@ pub fn planned(alloc: Global, source: &Source) -> Result<Carried, Memory>
     make(alloc, &source.typed, &source.facts)
 }
 
-/// A program in the low form with global scalars in registers, on short ways and without needless loads and copies, with machine
-/// registers for its registers, and slots where there are too few.
+/// A program in the low form with global scalars in registers, on short ways and without needless loads, operations and copies, which
+/// are looked for twice, with machine registers for its registers, and slots where there are too few.
 fn code_of(alloc: Global, program: &High) -> Result<LowReg, Memory>
     ensures { IfOk result (IsLowered (program_of program.now)) }
 {
@@ -45,7 +45,9 @@ fn code_of(alloc: Global, program: &High) -> Result<LowReg, Memory>
     let short = threaded(alloc, held)?;
     let loaded = without_reloads(alloc, short)?;
     let brief = without_copies(alloc, loaded)?;
-    let low = threaded(alloc, brief)?;
+    let again = without_reloads(alloc, brief)?;
+    let fewer = without_copies(alloc, again)?;
+    let low = threaded(alloc, fewer)?;
     let live = live(alloc, &low)?;
     let code = allocate(alloc, low, &live)?;
     Ok(code)

@@ -112,6 +112,8 @@ fn print_places(
     let low = threaded(rt.alloc(), low)?;
     let low = without_reloads(rt.alloc(), low)?;
     let low = without_copies(rt.alloc(), low)?;
+    let low = without_reloads(rt.alloc(), low)?;
+    let low = without_copies(rt.alloc(), low)?;
     let low = threaded(rt.alloc(), low)?;
     let code = with_places(rt.alloc(), low, places)?;
     let printed = print_both(rt, name, input, meant, &made.copies.marks, &code);
@@ -161,6 +163,8 @@ fn lowered(alloc: Global, program: &High, places: Places) -> Result<LowReg, Memo
     let low = lower(alloc, program)?;
     let low = promoted(alloc, low)?;
     let low = threaded(alloc, low)?;
+    let low = without_reloads(alloc, low)?;
+    let low = without_copies(alloc, low)?;
     let low = without_reloads(alloc, low)?;
     let low = without_copies(alloc, low)?;
     let low = threaded(alloc, low)?;

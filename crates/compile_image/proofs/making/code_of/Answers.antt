@@ -20,7 +20,9 @@ returns c =
     let short = keeps_threaded p (low_of c.in_ok-held.held) (low_of c.in_ok-short.short) held c.in_ok-short.ensures in
     let loaded = keeps_reloaded p (low_of c.in_ok-short.short) (low_of c.in_ok-loaded.loaded) short c.in_ok-loaded.ensures in
     let brief = keeps_copied p (low_of c.in_ok-loaded.loaded) (low_of c.in_ok-brief.brief) loaded c.in_ok-brief.ensures in
-    let kept = keeps_threaded p (low_of c.in_ok-brief.brief) (low_of c.in_ok-low.low) brief c.in_ok-low.ensures in
+    let again = keeps_reloaded p (low_of c.in_ok-brief.brief) (low_of c.in_ok-again.again) brief c.in_ok-again.ensures in
+    let fewer = keeps_copied p (low_of c.in_ok-again.again) (low_of c.in_ok-fewer.fewer) again c.in_ok-fewer.ensures in
+    let kept = keeps_threaded p (low_of c.in_ok-fewer.fewer) (low_of c.in_ok-low.low) fewer c.in_ok-low.ensures in
     record {
       keeps_program = subst (λ (l : Low). KeepsProgram p (low_of l)) same kept;
       spills = subst (λ (l : Low). SpillWhereCrowded (low_of l) (placings_of code)) same c.in_ok-code.ensures.spills;
