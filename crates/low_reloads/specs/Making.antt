@@ -9,12 +9,12 @@ use Rattle.low_reloaded.specs.Facts.{Element, Fact, Keeps, Known, Knows, Result,
 use Rattle.low_reloaded.specs.Reloads.{Beginnings, Code, Follows, Hands}
 use Rattle.low_reloads.specs.declared.facts.Fact as facts
 use Rattle.low_reloads.specs.declared.facts.Source.{Source as Source'}
-use Rattle.low_reloads.specs.declared.facts.Source.TheVariants as sources
+use Rattle.low_reloads.specs.declared.facts.Source.TheVariants.{Element as Element', Result as Result'}
 
 -- a source as the code has it
 abbrev pub source_of : Source' → Source
-source_of (sources.Element kind a) = Element kind (address_of a)
-source_of (sources.Result operator x y) = Result operator (operand_of x) (operand_of y)
+source_of (Element' kind a) = Element kind (address_of a)
+source_of (Result' operator x y) = Result operator (operand_of x) (operand_of y)
 
 -- and a fact
 abbrev pub fact_of : facts.Fact → Fact
