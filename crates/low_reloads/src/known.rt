@@ -1,5 +1,5 @@
 // What is known as a block goes on.
-ghost use Rattle.std.specs.Prelude.{◌≡◌, Some, true, map, slice_set, IfOk, IfSome};
+ghost use Rattle.std.specs.Prelude.{◌≡◌, Some, map, slice_set, IfOk, IfSome};
 ghost use Rattle.low_ir.specs.View.{claim_of, instr_of};
 ghost use Rattle.low_reloaded.specs.Facts.{Keeps, Knows, KnowsNothing, Learns};
 ghost use Rattle.low_reloads.specs.Making.{Answers, AreKept, IsAdded, fact_of, known_of, source_of};
@@ -108,18 +108,18 @@ impl Known {
         None
     }
 
-    /// Whether a fact is known.
-    pub fn knows(&self, fact: Fact) -> bool
-        ensures { result ≡ true → Knows self.now (fact_of fact) }
+    /// The place behind a fact, if it is known at a place or behind it.
+    pub fn behind(&self, from: usize, fact: Fact) -> Option<usize>
+        ensures { IfSome result (λ _. Knows self.now (fact_of fact)) }
     {
-        for at in 0..self.facts.len() {
+        for at in from..self.facts.len() {
             if let Some(register) = answer(self.facts[at], fact.source) {
                 if register == fact.register {
-                    return true;
+                    return Some(at + 1);
                 }
             }
         }
-        false
+        None
     }
 
     /// The facts that are known.

@@ -40,12 +40,15 @@ pub fn known_by(alloc: Global, list: &[Fact]) -> Result<Known, Memory>
     Ok(known)
 }
 
+/// Whether the facts of a list are known in its order, as they are where the list was made.
 fn knows_all(known: &Known, list: &[Fact]) -> bool
     ensures { result ≡ true → AreKnown known.now list.now }
 {
+    let mut place = 0;
     for fact in list {
-        if !known.knows(*fact) {
-            return false;
+        match known.behind(place, *fact) {
+            None => return false,
+            Some(next) => place = next,
         }
     }
     true
