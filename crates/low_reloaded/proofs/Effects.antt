@@ -12,7 +12,7 @@ use Rattle.low_ir.specs.Code.{Address, Operand, Plain, Set, Operate, Point, Load
 use Rattle.low_ir.specs.declared.run.Value.{Value}
 use Rattle.low_ir.specs.declared.run.Value.TheVariants.{Word, Pointer}
 use Rattle.low_ir.specs.Effects.{Contents, Did, World, can_store, changes, effect, effect_of, element, gives, got, is_element, loaded, next_byte, nothing_more, only_if, put, resolved, stored, takes, there, with_element, with_objects, with_one, word}
-use Rattle.low_reloaded.specs.Facts.{AreApart, Element, SparesElement, Touches}
+use Rattle.low_reloaded.specs.Facts.{AreApart, Loads, SparesElement, Touches}
 use Rattle.low_reloaded.proofs.Places.{Leads, Nowhere, Somewhere, Way, way}
 
 pub some_same : {A : Type 0} (x y : A) → Some x ≡ Some y → x ≡ y
@@ -192,7 +192,7 @@ module _ (claims : List (List ℕ)) (u : World) (did : Did) (held : Kind) (at : 
   put_stays x (Pointer m l ∷ []) e = cc
   put_stays x (a ∷ b ∷ xs) e = cc
 
-  pub effect_stays : (i : Plain ℕ) (os : Option (List Value)) → SparesElement claims i (record { source = Element held at; register = r }) → effect_of claims i os u ≡ Some did → Stays
+  pub effect_stays : (i : Plain ℕ) (os : Option (List Value)) → SparesElement claims i (record { source = Loads held at; register = r }) → effect_of claims i os u ≡ Some did → Stays
   effect_stays i None h e = cc
   effect_stays (Set d x) (Some xs) h e = same_stays (ap (λ (v : World). v.objects) (one_given xs u did e))
   effect_stays (Operate operator d x y) (Some xs) h e = operate_stays operator d x y xs e

@@ -11,7 +11,7 @@ use Rattle.low_ir.specs.declared.run.Value.{Value}
 use Rattle.low_ir.specs.declared.run.Value.TheVariants.{Word, Pointer}
 use Rattle.low_ir.specs.Effects.{Did, World, address_reads, began, changes, dest, effect_of, gives, loaded, reads, resolved, stored, there, with_objects}
 use Rattle.low_ir.specs.Runs.{Bank, set_in, values, values_cons, virtual, write_to}
-use Rattle.low_reloaded.specs.Facts.{Element, Fact, Keeps, Known, Knows, KnowsNothing, Learns, Result, Source, Spares, SparesElement, SparesFact, Teaches, giving, source_reads}
+use Rattle.low_reloaded.specs.Facts.{Loads, Fact, Keeps, Known, Knows, KnowsNothing, Learns, Computes, Source, Spares, SparesElement, SparesFact, Teaches, giving, source_reads}
 use Rattle.low_reloaded.proofs.Places.{Leads, Nowhere, Somewhere, Way, way}
 use Rattle.low_reloaded.proofs.Effects.{effect_stays, load_from, none_some, some_same, store_to, stored_loads, there_is}
 use Rattle.low_reloaded.proofs.Small.{SmallBank, held_small}
@@ -34,8 +34,8 @@ pub record HoldsResult (s : Bank) (operator : Alu) (x y : Operand ℕ) (r : ℕ)
   pub held : slice_index_or s r None ≡ Some (Word (alu_value operator left right))
 
 abbrev pub Holds : List (List ℕ) → Bank → World → Source → ℕ → Type 0
-Holds claims s u (Element kind a) r = HoldsElement claims s u kind a r
-Holds claims s u (Result operator x y) r = HoldsResult s operator x y r
+Holds claims s u (Loads kind a) r = HoldsElement claims s u kind a r
+Holds claims s u (Computes operator x y) r = HoldsResult s operator x y r
 
 -- the register of a fact holds what its source would give
 abbrev pub IsTrue : List (List ℕ) → Bank → World → Fact → Type 0
@@ -49,16 +49,16 @@ none_true claims known s u nothing f k = absurd (nothing f k)
 
 -- so a copy does what the source would do
 pub copy_gives : (claims : List (List ℕ)) (s : Bank) (u : World) (from : Source) (r d : ℕ) → Holds claims s u from r → effect_of claims (Set d (Register r)) (values virtual s (Register r ∷ [])) u ≡ effect_of claims (giving d from) (values virtual s (reads (giving d from))) u
-copy_gives claims s u (Element kind a) r d t =
+copy_gives claims s u (Loads kind a) r d t =
     ap (λ o. effect_of claims (Set d (Register r)) (values_cons o (Some [])) u) t.held
     ∙ sym (t.leads.goes (load_from u kind) ∙ ap (λ o. there o (λ w. gives u (Word w))) t.element)
-copy_gives claims s u (Result operator x y) r d t =
+copy_gives claims s u (Computes operator x y) r d t =
     ap (λ o. effect_of claims (Set d (Register r)) (values_cons o (Some [])) u) t.held
     ∙ sym (ap (λ os. effect_of claims (Operate operator d x y) os u) t.both)
 
 source_traced : (claims : List (List ℕ)) (s : Bank) (u : World) (g b : ℕ) (from : Source) (r : ℕ) → Holds claims s u from r → Holds claims s (began u g b) from r
-source_traced claims s u g b (Element kind a) r t = record { object = t.object; bytes = t.bytes; word = t.word; leads = t.leads; element = t.element; held = t.held }
-source_traced claims s u g b (Result operator x y) r t = record { left = t.left; right = t.right; both = t.both; held = t.held }
+source_traced claims s u g b (Loads kind a) r t = record { object = t.object; bytes = t.bytes; word = t.word; leads = t.leads; element = t.element; held = t.held }
+source_traced claims s u g b (Computes operator x y) r t = record { left = t.left; right = t.right; both = t.both; held = t.held }
 
 -- a fact is true once a block was entered
 pub traced : (claims : List (List ℕ)) (s : Bank) (u : World) (g b : ℕ) (f : Fact) → IsTrue claims s u f → IsTrue claims s (began u g b) f
@@ -84,7 +84,7 @@ values_spared s d x (Register r ∷ xs) h =
 values_spared s d x (Constant w ∷ xs) h = ap (λ o. values_cons (Some (Word (w % 2 ^ 32))) o) (values_spared s d x xs h)
 
 source_spared : (claims : List (List ℕ)) (s : Bank) (u : World) (d : ℕ) (x : Value) (from : Source) (r : ℕ) → r ≢ d → Spares d (source_reads from) → Holds claims s u from r → Holds claims (slice_set s d (Some x)) u from r
-source_spared claims s u d x (Element kind a) r other spares t =
+source_spared claims s u d x (Loads kind a) r other spares t =
     record {
       object = t.object;
       bytes = t.bytes;
@@ -93,7 +93,7 @@ source_spared claims s u d x (Element kind a) r other spares t =
       element = t.element;
       held = get_or-set_other s d r (Some x) None other ∙ t.held;
     }
-source_spared claims s u d x (Result operator y z) r other spares t =
+source_spared claims s u d x (Computes operator y z) r other spares t =
     record {
       left = t.left;
       right = t.right;
@@ -166,10 +166,10 @@ module _ (claims : List (List ℕ)) (s now : Bank) (u : World) (did : Did) where
   stored_true r a small (Some (Pointer o n)) h (Some xs) is e = cc
   stored_true r a small (Some (Word w)) h (Some xs) is e = stores_true r a w (Some xs) is (held_small s r (Word w) small h) h (way claims a (Some xs)) e
 
-  store_teaches : (kind : Kind) (r : ℕ) (a : Address ℕ) (f : Fact) → SmallBank s → effect_of claims (Store kind a (Register r)) (values virtual s (Register r ∷ address_reads a)) u ≡ Some did → s ≡ now → (kind ≡ WordKind) × (f ≡ record { source = Element kind a; register = r }) → IsTrue claims now did.world f
+  store_teaches : (kind : Kind) (r : ℕ) (a : Address ℕ) (f : Fact) → SmallBank s → effect_of claims (Store kind a (Register r)) (values virtual s (Register r ∷ address_reads a)) u ≡ Some did → s ≡ now → (kind ≡ WordKind) × (f ≡ record { source = Loads kind a; register = r }) → IsTrue claims now did.world f
   store_teaches kind r a f small e same h =
       let word = subst (λ k. effect_of claims (Store k a (Register r)) (values virtual s (Register r ∷ address_reads a)) u ≡ Some did) h.0 e in
-      let is : record { source = Element WordKind a; register = r } ≡ f = sym (h.1 ∙ ap (λ k. record { source = Element k a; register = r }) h.0) in
+      let is : record { source = Loads WordKind a; register = r } ≡ f = sym (h.1 ∙ ap (λ k. record { source = Loads k a; register = r }) h.0) in
       subst (IsTrue claims now did.world) is
       (subst (λ b. HoldsElement claims b did.world WordKind a r) same
       (stored_true r a small (slice_index_or s r None) refl (values virtual s (address_reads a)) refl word))
@@ -187,7 +187,7 @@ module _ (claims : List (List ℕ)) (s now : Bank) (u : World) (did : Did) where
 
   -- what it keeps
   source_kept : (i : Plain ℕ) (from : Source) (r : ℕ) → effect_of claims i (values virtual s (reads i)) u ≡ Some did → SparesElement claims i (record { source = from; register = r }) → Holds claims s u from r → Holds claims s did.world from r
-  source_kept i (Element kind a) r e h t =
+  source_kept i (Loads kind a) r e h t =
       record {
         object = t.object;
         bytes = t.bytes;
@@ -196,7 +196,7 @@ module _ (claims : List (List ℕ)) (s now : Bank) (u : World) (did : Did) where
         element = effect_stays claims u did kind a r t.object t.bytes t.word t.leads.touches t.element i (values virtual s (reads i)) h e;
         held = t.held;
       }
-  source_kept i (Result operator x y) r e h t = record { left = t.left; right = t.right; both = t.both; held = t.held }
+  source_kept i (Computes operator x y) r e h t = record { left = t.left; right = t.right; both = t.both; held = t.held }
 
   kept : (i : Plain ℕ) (f : Fact) → effect_of claims i (values virtual s (reads i)) u ≡ Some did → write_to virtual s (dest i) did.value ≡ Some now → Keeps claims (Do i) f → IsTrue claims s u f → IsTrue claims now did.world f
   kept i f e k h t =

@@ -9,8 +9,8 @@ use Rattle.low_ir.specs.Effects.{address_reads, dest, is_member}
 
 -- what gives a value: a load of this kind from this address, or an operation
 pub data Source : Type 0 where
-  Element : (kind : Kind) (address : Address ℕ) → Source
-  Result : (operator : Alu) (left right : Operand ℕ) → Source
+  Loads : (kind : Kind) (address : Address ℕ) → Source
+  Computes : (operator : Alu) (left right : Operand ℕ) → Source
 
 -- that a register holds what it would give
 pub record Fact : Type 0 where
@@ -19,13 +19,13 @@ pub record Fact : Type 0 where
 
 -- the instruction that gives it to the register d
 abbrev pub giving : ℕ → Source → Plain ℕ
-giving d (Element kind a) = Load kind d a
-giving d (Result operator x y) = Operate operator d x y
+giving d (Loads kind a) = Load kind d a
+giving d (Computes operator x y) = Operate operator d x y
 
 -- what that reads
 abbrev pub source_reads : Source → List (Operand ℕ)
-source_reads (Element kind a) = address_reads a
-source_reads (Result operator x y) = x ∷ y ∷ []
+source_reads (Loads kind a) = address_reads a
+source_reads (Computes operator x y) = x ∷ y ∷ []
 
 -- the facts that are known, each at some place
 abbrev pub Known : Type 0
@@ -56,8 +56,8 @@ AreApart claims kind a other b = (same_kind kind other ≡ false) ⊎ ((o : ℕ)
 
 -- an access of this kind with this base is of another element
 abbrev pub IsOther : List (List ℕ) → Kind → Base ℕ → Source → Type 0
-IsOther claims kind base (Element other a) = AreApart claims other a.base kind base
-IsOther claims kind base (Result operator x y) = Unit {0}
+IsOther claims kind base (Loads other a) = AreApart claims other a.base kind base
+IsOther claims kind base (Computes operator x y) = Unit {0}
 
 -- what an instruction stores is no part of the element of a fact
 abbrev pub SparesElement : List (List ℕ) → Plain ℕ → Fact → Type 0
@@ -71,9 +71,9 @@ Keeps claims (Call d g args note) f = ⊥
 
 -- a fact is true behind an instruction: what was loaded or computed stands in a register, and what was stored as a word stands there still
 abbrev pub Teaches : Instr ℕ Note → Fact → Type 0
-Teaches (Do (Load kind d a)) f = (f ≡ record { source = Element kind a; register = d }) × Spares d (address_reads a)
-Teaches (Do (Operate operator d x y)) f = (f ≡ record { source = Result operator x y; register = d }) × Spares d (x ∷ y ∷ [])
-Teaches (Do (Store kind a (Register r))) f = (kind ≡ Word) × (f ≡ record { source = Element kind a; register = r })
+Teaches (Do (Load kind d a)) f = (f ≡ record { source = Loads kind a; register = d }) × Spares d (address_reads a)
+Teaches (Do (Operate operator d x y)) f = (f ≡ record { source = Computes operator x y; register = d }) × Spares d (x ∷ y ∷ [])
+Teaches (Do (Store kind a (Register r))) f = (kind ≡ Word) × (f ≡ record { source = Loads kind a; register = r })
 Teaches i f = ⊥
 
 -- what is known behind an instruction was known before it, or is new

@@ -5,16 +5,16 @@ use Rattle.std.specs.Global.{Global}
 use Rattle.low_ir.specs.Code.{End, Instr, Note}
 use Rattle.low_ir.specs.Formed.{LeadsOn}
 use Rattle.low_ir.specs.View.{address_of, operand_of}
-use Rattle.low_reloaded.specs.Facts.{Element, Fact, Keeps, Known, Knows, Result, Source}
+use Rattle.low_reloaded.specs.Facts.{Loads, Fact, Keeps, Known, Knows, Computes, Source}
 use Rattle.low_reloaded.specs.Reloads.{Beginnings, Code, Follows, Hands}
 use Rattle.low_reloads.specs.declared.facts.Fact as facts
 use Rattle.low_reloads.specs.declared.facts.Source.{Source as Source'}
-use Rattle.low_reloads.specs.declared.facts.Source.TheVariants.{Element as Element', Result as Result'}
+use Rattle.low_reloads.specs.declared.facts.Source.TheVariants.{Loads as Loads', Computes as Computes'}
 
 -- a source as the code has it
 abbrev pub source_of : Source' → Source
-source_of (Element' kind a) = Element kind (address_of a)
-source_of (Result' operator x y) = Result operator (operand_of x) (operand_of y)
+source_of (Loads' kind a) = Loads kind (address_of a)
+source_of (Computes' operator x y) = Computes operator (operand_of x) (operand_of y)
 
 -- and a fact
 abbrev pub fact_of : facts.Fact → Fact

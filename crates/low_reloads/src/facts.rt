@@ -2,7 +2,7 @@
 ghost use Rattle.std.specs.Prelude.{◌≡◌, Some, true, map, IfSome};
 ghost use Rattle.low_ir.specs.Code.{Do, Load, Operate, Store};
 ghost use Rattle.low_ir.specs.View.{address_of, base_of, claim_of, instr_of, operand_of};
-ghost use Rattle.low_reloaded.specs.Facts.{Element, IsOther, Keeps, Result, Spares, SparesFact, Teaches, giving, source_reads};
+ghost use Rattle.low_reloaded.specs.Facts.{Loads, IsOther, Keeps, Computes, Spares, SparesFact, Teaches, giving, source_reads};
 ghost use Rattle.low_reloads.specs.Making.{fact_of, source_of};
 
 use super::operands::{are_spared, same_operand, same_operator};
@@ -15,8 +15,8 @@ use rv_core::Alu;
 #[derive(Clone, Copy)]
 pub enum Source {
     /// A load of this kind from this address.
-    Element { kind: Kind, address: Address },
-    Result {
+    Loads { kind: Kind, address: Address },
+    Computes {
         operator: Alu,
         left: Operand,
         right: Operand,
@@ -32,24 +32,24 @@ pub struct Fact {
 
 /// Whether a source is a load of this kind from this address.
 fn is_load(source: Source, kind: Kind, address: Address) -> bool
-    ensures { result ≡ true → source_of source ≡ Element kind (address_of address) }
+    ensures { result ≡ true → source_of source ≡ Loads kind (address_of address) }
 {
     match source {
-        Source::Element {
+        Source::Loads {
             kind: other,
             address: same,
         } => same_load(other, same, kind, address),
-        Source::Result { .. } => false,
+        Source::Computes { .. } => false,
     }
 }
 
 /// Whether a source is this operation.
 fn is_result(source: Source, operator: Alu, left: Operand, right: Operand) -> bool
-    ensures { result ≡ true → source_of source ≡ Result operator (operand_of left) (operand_of right) }
+    ensures { result ≡ true → source_of source ≡ Computes operator (operand_of left) (operand_of right) }
 {
     match source {
-        Source::Element { .. } => false,
-        Source::Result {
+        Source::Loads { .. } => false,
+        Source::Computes {
             operator: other,
             left: first,
             right: second,
@@ -65,8 +65,8 @@ pub fn same_source(a: Source, b: Source) -> bool
     ensures { result ≡ true → source_of a ≡ source_of b }
 {
     match b {
-        Source::Element { kind, address } => is_load(a, kind, address),
-        Source::Result {
+        Source::Loads { kind, address } => is_load(a, kind, address),
+        Source::Computes {
             operator,
             left,
             right,
@@ -79,8 +79,8 @@ fn source_spares(source: Source, register: u32) -> bool
     ensures { result ≡ true → Spares register (source_reads (source_of source)) }
 {
     match source {
-        Source::Element { address, .. } => is_spared(address, register),
-        Source::Result { left, right, .. } => are_spared(left, right, register),
+        Source::Loads { address, .. } => is_spared(address, register),
+        Source::Computes { left, right, .. } => are_spared(left, right, register),
     }
 }
 
@@ -96,11 +96,11 @@ fn is_other(claims: &[Vec<u32>], source: Source, kind: Kind, base: Base) -> bool
     ensures { result ≡ true → IsOther (map claim_of claims.now) kind (base_of base) (source_of source) }
 {
     match source {
-        Source::Element {
+        Source::Loads {
             kind: own,
             address,
         } => are_apart(claims, own, address.base, kind, base),
-        Source::Result { .. } => true,
+        Source::Computes { .. } => true,
     }
 }
 
@@ -126,7 +126,7 @@ fn loaded(kind: Kind, into: u32, address: Address) -> Option<Fact>
 {
     if is_spared(address, into) {
         Some(Fact {
-            source: Source::Element { kind, address },
+            source: Source::Loads { kind, address },
             register: into,
         })
     } else {
@@ -140,7 +140,7 @@ fn computed(operator: Alu, into: u32, left: Operand, right: Operand) -> Option<F
 {
     if are_spared(left, right, into) {
         Some(Fact {
-            source: Source::Result {
+            source: Source::Computes {
                 operator,
                 left,
                 right,
@@ -159,7 +159,7 @@ fn stored(kind: Kind, address: Address, value: Operand) -> Option<Fact>
     match kind {
         Kind::Word => match value {
             Operand::Register(register) => Some(Fact {
-                source: Source::Element {
+                source: Source::Loads {
                     kind: Kind::Word,
                     address,
                 },
@@ -214,7 +214,7 @@ pub fn given(instr: &Instr) -> Option<Given>
             left,
             right,
         } => Some(Given {
-            source: Source::Result {
+            source: Source::Computes {
                 operator: *operator,
                 left: *left,
                 right: *right,
@@ -226,7 +226,7 @@ pub fn given(instr: &Instr) -> Option<Given>
             into,
             address,
         } => Some(Given {
-            source: Source::Element {
+            source: Source::Loads {
                 kind: *kind,
                 address: *address,
             },
