@@ -3,8 +3,11 @@ ghost use Rattle.std.specs.Prelude.{◌≡◌, ℕ, List, IfOk};
 ghost use Rattle.facts_sources.specs.Sources.{IsSource};
 ghost use Rattle.types_tree.specs.View.{program_of as source_of};
 ghost use Rattle.high_ir.specs.Programs.{program_of};
+ghost use Rattle.high_ir.specs.Tree.{Program};
 ghost use Rattle.high_pass.specs.Listing.{listing_of};
 ghost use Rattle.low_ir.specs.Placings.{placed_of};
+ghost use Rattle.low_ir.specs.Programs.{low_of};
+ghost use Rattle.lower_law.specs.Programs.{KeepsProgram};
 ghost use Rattle.compile_kept.specs.Carried.{IsPlanned};
 ghost use Rattle.compile_made.specs.Made.{IsInMemory, IsLowered};
 ghost use Rattle.compile_made.specs.Placed.{CanBePlaced, Fits, HasNumbers, IsPlacedBy};
@@ -15,13 +18,14 @@ use high_ir::{Carried, High};
 use high_make::make;
 use image_memory::Placement;
 use low_copies::without_copies;
-use low_ir::LowReg;
+use low_ir::{Low, LowReg};
 use low_layout::{Laid, lay};
 use low_live::live;
 use low_make::lower;
 use low_promotes::promoted;
 use low_registers::allocate;
 use low_reloads::without_reloads;
+use low_steps::stepped;
 use low_threads::threaded;
 use spm_placement::placement;
 use std::alloc::Global;
@@ -35,19 +39,38 @@ pub fn planned(alloc: Global, source: &Source) -> Result<Carried, Memory>
     make(alloc, &source.typed, &source.facts)
 }
 
-/// A program in the low form with global scalars in registers, on short ways and without needless loads, operations and copies, which
-/// are looked for twice, with machine registers for its registers, and slots where there are too few.
+/// A low program on short ways, without needless loads, operations and copies, which are looked for twice.
+fn shortened(alloc: Global, low: Low) -> Result<Low, Memory>
+    ensures { IfOk result (λ l. (p : Program) → KeepsProgram p (low_of low) → KeepsProgram p (low_of l)) }
+{
+    let short = threaded(alloc, low)?;
+    let loaded = without_reloads(alloc, short)?;
+    let brief = without_copies(alloc, loaded)?;
+    let again = without_reloads(alloc, brief)?;
+    let fewer = without_copies(alloc, again)?;
+    Ok(fewer)
+}
+
+/// A low program with pointers that step in place of indexes, without what nothing reads then.
+fn quickened(alloc: Global, low: Low) -> Result<Low, Memory>
+    ensures { IfOk result (λ l. (p : Program) → KeepsProgram p (low_of low) → KeepsProgram p (low_of l)) }
+{
+    let quick = stepped(alloc, low)?;
+    let bare = without_copies(alloc, quick)?;
+    let last = threaded(alloc, bare)?;
+    Ok(last)
+}
+
+/// A program in the low form with global scalars in registers, on short ways and without needless loads, operations, copies and
+/// indexes, with
+/// machine registers for its registers, and slots where there are too few.
 fn code_of(alloc: Global, program: &High) -> Result<LowReg, Memory>
     ensures { IfOk result (IsLowered (program_of program.now)) }
 {
     let plain = lower(alloc, program)?;
     let held = promoted(alloc, plain)?;
-    let short = threaded(alloc, held)?;
-    let loaded = without_reloads(alloc, short)?;
-    let brief = without_copies(alloc, loaded)?;
-    let again = without_reloads(alloc, brief)?;
-    let fewer = without_copies(alloc, again)?;
-    let low = threaded(alloc, fewer)?;
+    let brief = shortened(alloc, held)?;
+    let low = quickened(alloc, brief)?;
     let live = live(alloc, &low)?;
     let code = allocate(alloc, low, &live)?;
     Ok(code)

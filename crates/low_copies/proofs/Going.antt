@@ -3,12 +3,12 @@ use Rattle.std.proofs.Common.{◌≡◌, ◌≢◌, ◌<◌, ℕ, zero, suc, ◌
 use Rattle.std.specs.Prelude.{slice_get, slice_index_or}
 use Rattle.std.proofs.lemmas.List.{append_assoc}
 use Rattle.std.proofs.lemmas.Option.{none-some}
-use Rattle.low_ir.specs.Code.{Constant, Do, End, Instr, Note, Operand, Register, Set}
+use Rattle.low_ir.specs.Code.{Do, End, Instr, Note, Operand, Register, Set}
 use Rattle.low_ir.specs.Formed.{written_by}
-use Rattle.low_copied.specs.Copies.{Becomes, Beginnings, Code, Copied, Follows, Standing}
-use Rattle.low_copies.specs.Knowing.{Knowing, copied, delivered, parted, stands}
+use Rattle.low_copied.specs.Copies.{Becomes, Beginnings, Code, Copied, Follows, Forgets, Standing, WritesOnly}
+use Rattle.low_copies.specs.Knowing.{Knowing, copied, delivered, forgotten, parted, stands}
 use Rattle.low_copies.specs.Making.{Continues, Goes, IsPut, IsRenamed, name_in}
-use Rattle.low_copies.proofs.Standing.{between, copy_delivered, copy_left, delivers, kept_becomes, known_copied, known_delivered, known_parted, parts}
+use Rattle.low_copies.proofs.Standing.{between, copy_delivered, copy_left, delivers, kept_becomes, known_copied, known_delivered, known_forgotten, known_parted, others_forgotten, parts}
 
 get_below : (code : Code) (at : ℕ) (i : Instr ℕ Note) → slice_get code at ≡ Some i → at < length code
 get_below [] at i e = cc
@@ -117,15 +117,20 @@ left_goes k d x place rest made brief own found size lasting out first end whole
           (left_out size out end new (stands k) d (Register x) rest js (stands (copied k d place)) (copy_left size lasting k d x place m.known inside brief found) h);
     }
 
--- a word is left out of a register that stands nowhere
-pub word_goes : (k : Knowing) (d w : ℕ) (rest made : Code) → stands k d ≡ None → Goes (Do (Set d (Constant w)) ∷ rest) k made rest k made
-word_goes k d w rest made nowhere size lasting out first end whole m =
+omitted : (size : ℕ) (out : Beginnings) (end new : End ℕ) (at : Standing) (d : ℕ) (i : Instr ℕ Note) (rest js : Code) (now : Standing) → WritesOnly i d → Forgets d at now → Follows size out end new rest now js → Follows size out end new (i ∷ rest) at js
+omitted size out end new at d i rest js now only forgets follows = inr (inr (record { into = d; only = only; now = now; forgets = forgets; goes_on = follows }))
+
+-- an instruction is left out that only writes a register, which stands nowhere then
+pub unread_goes : (k : Knowing) (d : ℕ) (i : Instr ℕ Note) (rest made : Code) → WritesOnly i d → stands (forgotten k d) d ≡ None → Goes (i ∷ rest) k made rest (forgotten k d) made
+unread_goes k d i rest made only nowhere size lasting out first end whole m =
+    let n = forgotten k d in
+    let apart : (v w : ℕ) → stands n v ≡ Some w → v ≢ d = λ v w e same. none-some w (sym nowhere ∙ subst (λ x. stands n x ≡ Some w) same e) in
     record {
-      known = m.known;
+      known = known_forgotten size lasting k d m.known;
       follows = λ new js h.
           m.follows new js
-          (left_out size out end new (stands k) d (Constant w) rest js (stands k)
-          (λ v place e. inr (λ same. none-some place (sym nowhere ∙ subst (λ x. stands k x ≡ Some place) same e), e)) h);
+          (omitted size out end new (stands k) d i rest js (stands n) only
+          (λ v w e. (apart v w e, others_forgotten k d v w (apart v w e) e)) h);
     }
 
 -- one instruction is done, or two

@@ -6,7 +6,7 @@ use Rattle.std.proofs.lemmas.List.{length-replicate}
 use Rattle.std.proofs.lemmas.List.Elements.{All-head, All-replicate, All-set, All-tail, All-weaker}
 use Rattle.low_ir.specs.Code.{Register}
 use Rattle.low_copied.specs.Copies.{Copied, Fewer, Moves, Standing}
-use Rattle.low_copies.specs.Knowing.{IsKnown, Knowing, copied, delivered, if_still, lasts, opened, parted, stands, stands_in, unknown}
+use Rattle.low_copies.specs.Knowing.{IsKnown, Knowing, copied, delivered, forgotten, if_still, lasts, opened, parted, stands, stands_in, unknown}
 
 -- a value that stands still where it was put
 record Still (k : Knowing) (place time w : ℕ) : Type 0 where
@@ -269,6 +269,27 @@ others_copied k d place v w other q = by_test (slice_index_or k.lasting v false)
         let p : slice_index_or n.places v 0 ≡ slice_index_or k.places v 0 = get_or-set_other k.places d v place 0 other in
         let m : slice_index_or n.times v 0 ≡ slice_index_or k.times v 0 = get_or-set_other k.times d v k.clock 0 other in
         ap (λ b. stands_in k b v) t ∙ sym (ap (λ y. if_still k y (slice_index_or n.times v 0)) p ∙ ap (λ y. if_still k (slice_index_or k.places v 0) y) m) ∙ q2
+
+pub known_forgotten : (size : ℕ) (lasting : List Bool) (k : Knowing) (r : ℕ) → IsKnown size lasting k → IsKnown size lasting (forgotten k r)
+known_forgotten size lasting k r h =
+    record {
+      lasting = h.lasting;
+      places = h.places;
+      times = length-set k.times r 0 ∙ h.times;
+      written = h.written;
+      before = All-set (λ time. time < k.clock) k.times r 0 h.begun h.before;
+      begun = h.begun;
+    }
+
+-- what isn't forgotten stands where it stood
+pub others_forgotten : (k : Knowing) (d v w : ℕ) → v ≢ d → stands (forgotten k d) v ≡ Some w → stands k v ≡ Some w
+others_forgotten k d v w other q = by_test (slice_index_or k.lasting v false) refl q
+  where
+    by_test : (b : Bool) → slice_index_or k.lasting v false ≡ b → stands_in (forgotten k d) b v ≡ Some w → stands k v ≡ Some w
+    by_test true t q2 = ap (λ b. stands_in k b v) t ∙ q2
+    by_test false t q2 =
+        let m : slice_index_or (slice_set k.times d 0) v 0 ≡ slice_index_or k.times v 0 = get_or-set_other k.times d v 0 0 other in
+        ap (λ b. stands_in k b v) t ∙ sym (ap (λ y. if_still k (slice_index_or k.places v 0) y) m) ∙ q2
 
 -- a copy of itself stands in its own place
 pub own_copied : (k : Knowing) (d w : ℕ) → d < length k.places → stands (copied k d d) d ≡ Some w → w ≡ d

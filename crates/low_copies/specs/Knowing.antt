@@ -80,6 +80,18 @@ copied k r place =
       clock = suc k.clock;
     }
 
+-- the value of a register stands nowhere any more
+abbrev pub forgotten : Knowing → ℕ → Knowing
+forgotten k r =
+    record {
+      lasting = k.lasting;
+      places = k.places;
+      times = slice_set k.times r 0;
+      written = k.written;
+      began = k.began;
+      clock = k.clock;
+    }
+
 -- nothing is known yet
 abbrev pub unknown : List Bool → ℕ → Knowing
 unknown lasting size = record { lasting = lasting; places = replicate size 0; times = replicate size 0; written = replicate size 0; began = 1; clock = 1 }

@@ -1,9 +1,9 @@
-// What becomes of each copy of a block. Nothing is proved of it: a choice that can't be followed leaves the program as it is.
-use super::copy::{Copied, copy_at, word_at};
+// What becomes of each instruction of a block. Nothing is proved of it: a choice that can't be followed leaves the program as it is.
+use super::copy::{Copied, copy_at};
 use super::known::Known;
 use super::numbers::{Numbers, gives_word};
 use super::reading::{Reader, read_end, read_instr};
-use super::renaming::{writes, written};
+use super::renaming::{only_written, writes, written};
 use low_ir::{Block, End, Function, Instr};
 use std::alloc::Global;
 use wcc_base::Memory;
@@ -16,7 +16,7 @@ pub enum Choice {
     Delivered,
     /// A copy: what reads it reads what it is a copy of.
     LeftOut,
-    /// A word to which a register is set that nothing reads.
+    /// An instruction that only writes a register, which nothing reads then.
     Unread,
     /// Its value goes to this register, and lives in the block alone.
     Apart(u32),
@@ -157,17 +157,13 @@ impl Behind {
         }
     }
 
-    /// What becomes of what is set at a place, if it is a word.
-    fn choice_of_word(&self, known: &Known, code: &[Instr], at: usize) -> Choice {
-        match word_at(code, at) {
-            None => Choice::Stays,
-            Some(set) => {
-                if known.is_lasting(set.into) || place_of(&self.read, set.into) >= self.first {
-                    Choice::Stays
-                } else {
-                    Choice::Unread
-                }
-            }
+    /// The register that an instruction writes, if it does nothing else and nothing behind it reads that.
+    fn unread(&self, known: &Known, instr: &Instr) -> Option<u32> {
+        let register = only_written(instr)?;
+        if known.is_lasting(register) || place_of(&self.read, register) >= self.first {
+            None
+        } else {
+            Some(register)
         }
     }
 
@@ -210,34 +206,43 @@ impl Behind {
         choice
     }
 
-    /// What becomes of an instruction, where the next one isn't a copy to which it delivers.
-    fn choice_of(&mut self, known: &Known, code: &[Instr], at: usize, instr: &Instr) -> Choice {
-        match self.choice_of_word(known, code, at) {
-            Choice::Unread => Choice::Unread,
-            _ => self.choice_of_value(known, instr),
-        }
-    }
-
+    /// What becomes of the instruction at a place, which may deliver to a copy behind it.
     fn choice_at(
         &mut self,
         known: &Known,
         code: &[Instr],
         at: usize,
         delivers: bool,
+        instr: &Instr,
     ) -> Choice {
         match copy_at(code, at) {
             Some(copy) => self.choice_of_copy(known, code, at, copy),
-            None => match code.get(at) {
-                None => Choice::Stays,
-                Some(instr) => {
-                    if delivers {
-                        Choice::Stays
-                    } else {
-                        self.choice_of(known, code, at, instr)
-                    }
+            None => {
+                if delivers {
+                    Choice::Stays
+                } else {
+                    self.choice_of_value(known, instr)
                 }
-            },
+            }
         }
+    }
+
+    /// The same, as it is passed. One that is left out reads nothing.
+    fn pass_at(
+        &mut self,
+        known: &Known,
+        code: &[Instr],
+        at: usize,
+        delivers: bool,
+        instr: &Instr,
+    ) -> Result<Choice, Memory> {
+        if let Some(register) = self.unread(known, instr) {
+            self.write(register);
+            return Ok(Choice::Unread);
+        }
+        let choice = self.choice_at(known, code, at, delivers, instr);
+        self.pass(instr)?;
+        Ok(choice)
     }
 
     /// By instruction of a block, what becomes of it.
@@ -258,13 +263,12 @@ impl Behind {
         let mut delivers = false;
         for at in (0..places).rev() {
             self.at = self.at.wrapping_sub(1);
-            let new = self.choice_at(known, &block.code, at, delivers);
-            delivers = is_delivered(new);
-            if let Some(choice) = choices.get_mut(at) {
-                *choice = new;
-            }
             if let Some(instr) = block.code.get(at) {
-                self.pass(instr)?;
+                let new = self.pass_at(known, &block.code, at, delivers, instr)?;
+                delivers = is_delivered(new);
+                if let Some(choice) = choices.get_mut(at) {
+                    *choice = new;
+                }
             }
         }
         self.first = self.last.wrapping_add(1);

@@ -1,6 +1,6 @@
-// Copies of registers and of words in code.
+// Copies of registers in code.
 ghost use Rattle.std.specs.Prelude.{◌≡◌, Some, map, IfSome, slice_get};
-ghost use Rattle.low_ir.specs.Code.{Constant, Do, Register, Set};
+ghost use Rattle.low_ir.specs.Code.{Do, Register, Set};
 ghost use Rattle.low_ir.specs.View.{instr_of};
 
 use low_ir::{Instr, Operand};
@@ -34,34 +34,5 @@ pub fn copy_at(code: &[Instr], at: usize) -> Option<Copied>
     match code.get(at) {
         None => None,
         Some(instr) => copy_in(instr),
-    }
-}
-
-/// A word that a register is set to.
-#[derive(Clone, Copy)]
-pub struct Word {
-    pub into: u32,
-    pub word: u32,
-}
-
-fn word_in(instr: &Instr) -> Option<Word>
-    ensures { IfSome result (λ s. instr_of instr.now ≡ Do (Set s.into (Constant s.word))) }
-{
-    match instr {
-        Instr::Set { into, value } => match *value {
-            Operand::Register(_) => None,
-            Operand::Constant(word) => Some(Word { into: *into, word }),
-        },
-        _ => None,
-    }
-}
-
-/// The word to which a register is set at a place of the code, if one is.
-pub fn word_at(code: &[Instr], at: usize) -> Option<Word>
-    ensures { IfSome result (λ s. slice_get (map instr_of code.now) at ≡ Some (Do (Set s.into (Constant s.word)))) }
-{
-    match code.get(at) {
-        None => None,
-        Some(instr) => word_in(instr),
     }
 }

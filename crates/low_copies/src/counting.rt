@@ -1,15 +1,15 @@
 // On which registers blocks count at their beginning. Nothing is proved of it: where one is missing, the program stays as it is.
 use super::reading::{Reader, read_end, read_instr};
-use super::renaming::written;
-use low_ir::{Block, End, Function};
+use super::renaming::{only_written, written};
+use low_ir::{Block, End, Function, Instr};
 use std::alloc::Global;
 use wcc_base::Memory;
 
 /// How many blocks count on a register at most that isn't taken for one that lasts.
 const FEW: u8 = 8;
 
-/// How often the blocks are gone through, so that one is found that lives round a loop.
-const SWEEPS: u8 = 3;
+/// How often the blocks are gone through at most, so that what lives round loops is found.
+const SWEEPS: u8 = 6;
 
 /// On which registers the blocks of a function count at their beginning.
 #[derive(Drop)]
@@ -26,8 +26,10 @@ struct Finding {
     counted: Counted,
     /// By register, how many blocks count on it.
     blocks: Vec<u8>,
-    /// By register, the last block that wrote it.
-    written: Vec<u64>,
+    /// By register, the last block that needed it where it was gone through.
+    needed: Vec<u64>,
+    /// The registers that the block needed somewhere.
+    needs: Vec<u32>,
     /// By register, the last block that was found to count on it.
     found: Vec<u64>,
     /// The number of the block.
@@ -36,6 +38,8 @@ struct Finding {
     block: usize,
     /// Whether what is found now is found too late.
     late: bool,
+    /// Whether something was found.
+    changed: bool,
 }
 
 fn is_at(flags: &[bool], register: u32) -> bool {
@@ -85,10 +89,11 @@ fn put(lists: &mut [Vec<u32>], block: usize, register: u32) -> Result<(), Memory
 
 impl Reader for Finding {
     fn read(&mut self, register: u32) -> Result<(), Memory> {
-        if number_at(&self.written, register) == self.number {
+        if self.is_needed(register) {
             return Ok(());
         }
-        self.count_on(register)
+        set_number(&mut self.needed, register, self.number);
+        Ok(self.needs.push(register)?)
     }
 }
 
@@ -105,11 +110,13 @@ impl Finding {
                 lists,
             },
             blocks: vec![in alloc; 0u8; registers]?,
-            written: vec![in alloc; 0u64; registers]?,
+            needed: vec![in alloc; 0u64; registers]?,
+            needs: Vec::new(alloc),
             found: vec![in alloc; 0u64; registers]?,
             number: 0,
             block: 0,
             late: false,
+            changed: false,
         })
     }
 
@@ -142,6 +149,7 @@ impl Finding {
             return Ok(());
         }
         set_number(&mut self.found, register, self.number);
+        self.changed = true;
         if !self.late && self.is_one_of_few(register) {
             put(&mut self.counted.lists, self.block, register)
         } else {
@@ -161,17 +169,56 @@ impl Finding {
         }
     }
 
-    fn pass(&mut self, block: &Block) -> Result<(), Memory> {
-        for instr in &block.code {
-            read_instr(self, instr)?;
-            if let Some(register) = written(instr) {
-                set_number(&mut self.written, register, self.number);
-            }
-        }
-        read_end(self, block.end)
+    /// Whether the block needs a register where it is gone through.
+    fn is_needed(&self, register: u32) -> bool {
+        number_at(&self.needed, register) == self.number
     }
 
-    /// What a block counts on to which the block leads, the block counts on where it doesn't write it.
+    /// Whether an instruction does nothing but write a register that isn't needed.
+    fn is_unread(&self, instr: &Instr) -> bool {
+        match only_written(instr) {
+            None => false,
+            Some(register) => {
+                !self.late && !is_at(&self.counted.lasting, register) && !self.is_needed(register)
+            }
+        }
+    }
+
+    fn pass_instr(&mut self, instr: &Instr) -> Result<(), Memory> {
+        if self.is_unread(instr) {
+            return Ok(());
+        }
+        if let Some(register) = written(instr) {
+            set_number(&mut self.needed, register, 0);
+        }
+        read_instr(self, instr)
+    }
+
+    /// The block counts on what it needs at its beginning.
+    fn close(&mut self) -> Result<(), Memory> {
+        for at in 0..self.needs.len() {
+            if let Some(register) = self.needs.get(at) {
+                let register = *register;
+                if self.is_needed(register) {
+                    self.count_on(register)?;
+                }
+            }
+        }
+        self.needs.clear();
+        Ok(())
+    }
+
+    /// The block, its last instruction first.
+    fn pass(&mut self, block: &Block) -> Result<(), Memory> {
+        self.lead_on(block.end)?;
+        read_end(self, block.end)?;
+        for instr in block.code.iter().rev() {
+            self.pass_instr(instr)?;
+        }
+        self.close()
+    }
+
+    /// What a block counts on to which the block leads, it needs at its end.
     fn lead_to(&mut self, block: u32) -> Result<(), Memory> {
         let block = block as usize;
         for at in 0..length_at(&self.counted.lists, block) {
@@ -199,7 +246,6 @@ impl Finding {
             if let Some(block) = blocks.get(at) {
                 self.open(at);
                 self.pass(block)?;
-                self.lead_on(block.end)?;
             }
         }
         Ok(())
@@ -225,13 +271,24 @@ fn all_brief(alloc: Global, counted: &Counted) -> Result<Vec<Vec<u32>>, Memory> 
     Ok(lists)
 }
 
-/// On which registers the blocks of a function count. One that lives round loops in loops is taken for one that lasts.
+/// Goes through the blocks until nothing is found any more. What nothing needs reads nothing, but in a last sweep, where it isn't
+/// known yet what is needed: there all is read, and what is found lasts.
+fn find(finding: &mut Finding, blocks: &[Block]) -> Result<(), Memory> {
+    for _ in 0..SWEEPS {
+        finding.changed = false;
+        finding.sweep(blocks)?;
+        if !finding.changed {
+            return Ok(());
+        }
+    }
+    finding.late = true;
+    finding.sweep(blocks)
+}
+
+/// On which registers the blocks of a function count.
 pub fn counted_in(alloc: Global, function: &Function) -> Result<Counted, Memory> {
     let mut finding = Finding::new(alloc, function)?;
-    for sweep in 0..SWEEPS {
-        finding.late = sweep.wrapping_add(1) == SWEEPS;
-        finding.sweep(&function.blocks)?;
-    }
+    find(&mut finding, &function.blocks)?;
     let Finding { counted, .. } = finding;
     let lists = all_brief(alloc, &counted)?;
     let Counted { lasting, .. } = counted;

@@ -1,6 +1,6 @@
 // Where values stand, as the code of a block is made.
-ghost use Rattle.std.specs.Prelude.{◌≡◌, ◌<◌, true, false, length, IfOk, slice_index_or, slice_set};
-ghost use Rattle.low_copies.specs.Knowing.{copied, delivered, if_still, opened, parted, stands, unknown};
+ghost use Rattle.std.specs.Prelude.{◌≡◌, ◌<◌, true, false, length, None, IfOk, slice_index_or, slice_set};
+ghost use Rattle.low_copies.specs.Knowing.{copied, delivered, forgotten, if_still, opened, parted, stands, unknown};
 
 use std::alloc::Global;
 use std::marker::Model;
@@ -173,6 +173,15 @@ impl Known {
         set_time(&mut self.written, place as usize, now);
         self.clock = next;
         true
+    }
+
+    /// The value of a register stands nowhere any more.
+    pub fn forget(&mut self, register: u32) -> bool
+        ensures known { self.new ≡ forgotten self.old register }
+        ensures nowhere { result ≡ true → stands self.new register ≡ None }
+    {
+        set_time(&mut self.times, register as usize, 0);
+        self.find(register).is_none()
     }
 
     /// A register is a copy of what stands in another one.

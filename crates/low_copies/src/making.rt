@@ -11,11 +11,11 @@ ghost use Rattle.low_copies.specs.Making.{AreBlocks, Continues, Goes, IsBlock, I
 
 use super::beginning::{begin, is_own, leads_on, list_at};
 use super::choices::{Behind, Choice, is_delivered};
-use super::copy::{copy_at, word_at};
+use super::copy::copy_at;
 use super::counting::{Counted, counted_in};
 use super::known::Known;
 use super::numbers::wanted;
-use super::renaming::{renamed, renamed_end, writes, written};
+use super::renaming::{only_written, renamed, renamed_end, writes, written};
 use low_ir::{Block, Function, Instr, Loop, Low};
 use std::alloc::Global;
 use wcc_base::Memory;
@@ -278,18 +278,30 @@ fn leaves_out(known: &Known, code: &[Instr], choices: &[Choice], at: usize) -> b
     }
 }
 
-/// Whether the word to which a register is set at a place is left out: as was chosen, if the register stands nowhere.
-fn leaves_word(known: &Known, code: &[Instr], choices: &[Choice], at: usize) -> bool
-    requires { at < length code.now }
-    ensures { result ≡ true → (made : Code) → Continues (map instr_of code.now) at known.now made known.now made (at + 1) }
+/// An instruction whose value nothing needs is left out.
+fn omit(known: &mut Known, instr: &Instr) -> bool
+    ensures { result ≡ true → (rest : Code) → (made : Code) → Goes (instr_of instr.now ∷ rest) known.old made rest known.new made }
 {
-    let Some(set) = word_at(code, at) else {
-        return false;
-    };
-    match known.find(set.into) {
-        None => is_unread(choice_at(choices, at)),
-        Some(_) => false,
+    match only_written(instr) {
+        None => false,
+        Some(register) => known.forget(register),
     }
+}
+
+fn leave_unread(known: &mut Known, code: &[Instr], at: usize) -> Option<usize>
+    requires { at < length code.now }
+    ensures { IfSome result (λ next. (made : Code) → Continues (map instr_of code.now) at known.old made known.new made next) }
+{
+    if omit(known, &code[at]) {
+        Some(at + 1)
+    } else {
+        None
+    }
+}
+
+/// Whether the instruction at a place is left out as one whose value nothing reads.
+fn leaves_unread(choices: &[Choice], at: usize) -> bool {
+    is_unread(choice_at(choices, at))
 }
 
 /// The next instruction of a block, as was chosen; or it can't be done. Answers where the code goes on.
@@ -306,10 +318,10 @@ fn put_next(
 {
     if is_delivered(choice_at(choices, at + 1)) {
         put_pair(alloc, known, code, at, made)
+    } else if leaves_unread(choices, at) {
+        Ok(leave_unread(known, code, at))
     } else if leaves_out(known, code, choices, at) {
         Ok(leave_copy(known, code, at))
-    } else if leaves_word(known, code, choices, at) {
-        Ok(Some(at + 1))
     } else {
         put_value(alloc, known, code, choices, at, made)
     }

@@ -3,6 +3,7 @@ ghost use Rattle.std.specs.Prelude.{◌≡◌, ℕ, Some, true, map, IfOk, IfSom
 ghost use Rattle.low_ir.specs.Code.{Do, Set, Operate, Point, Load, Store, Put, Call};
 ghost use Rattle.low_ir.specs.Formed.{written_by};
 ghost use Rattle.low_ir.specs.View.{address_of, base_of, end_of, instr_of, operand_of};
+ghost use Rattle.low_copied.specs.Copies.{WritesOnly};
 ghost use Rattle.low_copied.specs.Renaming.{renamed_into};
 ghost use Rattle.low_copies.specs.Making.{AreOperands, IsAddress, IsBase, IsEnd, IsOffset, IsOperand, IsRenamed};
 
@@ -26,6 +27,22 @@ pub fn written(instr: &Instr) -> Option<u32>
         Instr::Put { .. } => None,
         Instr::Get { into } => Some(*into),
         Instr::Call { into, .. } => *into,
+    }
+}
+
+/// The register that an instruction writes, if it does nothing else.
+pub fn only_written(instr: &Instr) -> Option<u32>
+    ensures { IfSome result (WritesOnly (instr_of instr.now)) }
+{
+    match instr {
+        Instr::Set { into, .. } => Some(*into),
+        Instr::Operate { into, .. } => Some(*into),
+        Instr::Point { into, .. } => Some(*into),
+        Instr::Load { into, .. } => Some(*into),
+        Instr::Store { .. } => None,
+        Instr::Put { .. } => None,
+        Instr::Get { .. } => None,
+        Instr::Call { .. } => None,
     }
 }
 

@@ -17,6 +17,7 @@ use low_ir::LowReg;
 use low_make::lower;
 use low_promotes::promoted;
 use low_reloads::without_reloads;
+use low_steps::stepped;
 use low_threads::threaded;
 use meaning_semantics::SourceRun;
 use std::alloc::Global;
@@ -114,6 +115,8 @@ fn print_places(
     let low = without_copies(rt.alloc(), low)?;
     let low = without_reloads(rt.alloc(), low)?;
     let low = without_copies(rt.alloc(), low)?;
+    let low = stepped(rt.alloc(), low)?;
+    let low = without_copies(rt.alloc(), low)?;
     let low = threaded(rt.alloc(), low)?;
     let code = with_places(rt.alloc(), low, places)?;
     let printed = print_both(rt, name, input, meant, &made.copies.marks, &code);
@@ -166,6 +169,8 @@ fn lowered(alloc: Global, program: &High, places: Places) -> Result<LowReg, Memo
     let low = without_reloads(alloc, low)?;
     let low = without_copies(alloc, low)?;
     let low = without_reloads(alloc, low)?;
+    let low = without_copies(alloc, low)?;
+    let low = stepped(alloc, low)?;
     let low = without_copies(alloc, low)?;
     let low = threaded(alloc, low)?;
     with_places(alloc, low, places)

@@ -5,10 +5,7 @@ use Rattle.low_ir.specs.Programs.{low_of}
 use Rattle.high_ir.specs.Programs.{program_of}
 use Rattle.low_registers.specs.Spills.{HaveFewSlots, SpillWhereCrowded}
 use Rattle.lower_law.specs.Programs.{KeepsProgram}
-use Rattle.lower_copied.proofs.Keeping.{keeps as keeps_copied}
 use Rattle.lower_promoted.proofs.Keeping.{keeps as keeps_promoted}
-use Rattle.lower_reloaded.proofs.Keeping.{keeps as keeps_reloaded}
-use Rattle.lower_threaded.proofs.Keeping.{keeps as keeps_threaded}
 use Rattle.compile_image.proofs.making.code_of.Goals as goal
 
 pub returns : goal.returns
@@ -17,12 +14,8 @@ returns c =
     let same = sym c.in_ok-code.ensures.low in
     let p = program_of c.args.program.now in
     let held = keeps_promoted p (low_of c.in_ok-plain.plain) (low_of c.in_ok-held.held) c.in_ok-plain.ensures.keeps c.in_ok-plain.ensures.spares c.in_ok-held.ensures in
-    let short = keeps_threaded p (low_of c.in_ok-held.held) (low_of c.in_ok-short.short) held c.in_ok-short.ensures in
-    let loaded = keeps_reloaded p (low_of c.in_ok-short.short) (low_of c.in_ok-loaded.loaded) short c.in_ok-loaded.ensures in
-    let brief = keeps_copied p (low_of c.in_ok-loaded.loaded) (low_of c.in_ok-brief.brief) loaded c.in_ok-brief.ensures in
-    let again = keeps_reloaded p (low_of c.in_ok-brief.brief) (low_of c.in_ok-again.again) brief c.in_ok-again.ensures in
-    let fewer = keeps_copied p (low_of c.in_ok-again.again) (low_of c.in_ok-fewer.fewer) again c.in_ok-fewer.ensures in
-    let kept = keeps_threaded p (low_of c.in_ok-fewer.fewer) (low_of c.in_ok-low.low) fewer c.in_ok-low.ensures in
+    let brief = c.in_ok-brief.ensures p held in
+    let kept = c.in_ok-low.ensures p brief in
     record {
       keeps_program = subst (λ (l : Low). KeepsProgram p (low_of l)) same kept;
       spills = subst (λ (l : Low). SpillWhereCrowded (low_of l) (placings_of code)) same c.in_ok-code.ensures.spills;

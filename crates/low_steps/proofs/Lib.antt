@@ -1,0 +1,4 @@
+pub mod Serving
+pub mod Making
+pub mod Blocks
+pub mod Weights

@@ -1,0 +1,74 @@
+-- What functions execute at most, by a table.
+use Rattle.std.proofs.Common.{◌≡◌, ◌<◌, ◌≤◌, ℕ, zero, suc, ◌+◌, ◌*◌, List, [], ◌∷◌, length, map, Option, Some, None, refl, sym, ap, ◌∙◌, subst, ⊎_elim, arith}
+use Rattle.std.specs.Prelude.{option_map, slice_get, slice_index_or}
+use Rattle.std.proofs.lemmas.Bool.{cases_lt}
+use Rattle.std.proofs.lemmas.List.{get_or_past, length-map}
+use Rattle.std.proofs.lemmas.Option.{same_Some, slice_get-get_or, slice_get-map, slice_get_within}
+use Rattle.low_ir.specs.declared.low.Function.{Function as Function'}
+use Rattle.low_ir.specs.Code.{Block, Do, Call, Function, Instr, Loop, Note}
+use Rattle.low_ir.specs.Room.{block_room, called, frame_room, repeated, repeated_in, times, weights}
+use Rattle.low_ir.specs.View.{function_of}
+use Rattle.low_steps.specs.Weighing.{Bounds, block_worth, worth_in}
+
+called_less : (w v : ℕ → ℕ) → ((g : ℕ) → w g ≤ v g) → (is : List (Instr ℕ Note)) → called w is ≤ called v is
+called_less w v h [] = omega arith
+called_less w v h (Do i ∷ is) = called_less w v h is
+called_less w v h (Call d f args note ∷ is) = let a = called_less w v h is in let b = h f in omega (arith, a, b)
+
+-- as many times less is less
+less_times : (k a b : ℕ) → a ≤ b → k * a ≤ k * b
+less_times zero a b h = let none : 0 * a ≡ 0 = omega arith in omega (arith, none)
+less_times (suc k) a b h =
+    let more = less_times k a b h in
+    let left : suc k * a ≡ a + k * a = omega arith in
+    let right : suc k * b ≡ b + k * b = omega arith in
+    omega (arith, h, more, left, right)
+
+repeated_less : (V W : Block ℕ Note → ℕ) → ((b : Block ℕ Note) → V b ≤ W b) → (ls : List Loop) (n : ℕ) (bs : List (Block ℕ Note)) → repeated V ls n bs ≤ repeated W ls n bs
+repeated_less V W h ls n [] = omega arith
+repeated_less V W h ls n (b ∷ bs) =
+    let first = less_times (times ls n) (V b) (W b) (h b) in
+    let rest = repeated_less V W h ls (suc n) bs in
+    omega (arith, first, rest)
+
+past_end : (fs : List (Function ℕ Note)) (f : ℕ) → slice_get fs f ≡ None → length fs ≤ f
+past_end [] f e = omega arith
+past_end (x ∷ fs) zero e = cc
+past_end (x ∷ fs) (suc f) e = let h = past_end fs f e in omega (arith, h)
+
+-- no call executes more than the table says
+pub weights_bounded : (worths : List ℕ) (fs : List (Function ℕ Note)) → Bounds worths fs → (n f : ℕ) → weights fs n f ≤ worth_in worths f
+weights_bounded worths fs bounds zero f = omega arith
+weights_bounded worths fs bounds (suc n) f = by_function (slice_get fs f) refl
+  where
+    less : (b : Block ℕ Note) → block_room b + called (weights fs n) b.code ≤ block_worth worths b
+    less b = let h = called_less (weights fs n) (worth_in worths) (weights_bounded worths fs bounds n) b.code in omega (arith, h)
+
+    by_function : (o : Option (Function ℕ Note)) → slice_get fs f ≡ o → frame_room + repeated_in (λ b. block_room b + called (weights fs n) b.code) o ≤ worth_in worths f
+    by_function None e =
+        let few = bounds.few in
+        let past : length fs ≤ f = past_end fs f e in
+        let is : worth_in worths f ≡ frame_room = get_or_past worths f frame_room (omega (arith, few, past)) in
+        omega (arith, is)
+    by_function (Some fn) e =
+        let h = repeated_less (λ b. block_room b + called (weights fs n) b.code) (block_worth worths) less fn.loops 0 fn.blocks in
+        let b = bounds.bounded f fn e in
+        omega (arith, h, b)
+
+-- a function more
+pub below_step : (P : ℕ → Function ℕ Note → Type 0) (fs : List Function') (i : ℕ) (x : Function') → i < length fs → x ≡ slice_index_or fs i x → P i (function_of x) → ((f : ℕ) (fn : Function ℕ Note) → f < i → slice_get (map function_of fs) f ≡ Some fn → P f fn) → (f : ℕ) (fn : Function ℕ Note) → f < i + 1 → slice_get (map function_of fs) f ≡ Some fn → P f fn
+below_step P fs i x lt is p h f fn less there =
+    ⊎_elim
+    (λ (low : f < i). h f fn low there)
+    (λ (high : i ≤ f).
+    let same : f ≡ i = omega (arith, less, high) in
+    let at : slice_get fs i ≡ Some x = slice_get-get_or fs i x lt ∙ ap Some (sym is) in
+    let one : Some (function_of x) ≡ Some fn = sym (slice_get-map function_of fs i ∙ ap (option_map function_of) at) ∙ ap (slice_get (map function_of fs)) (sym same) ∙ there in
+    subst (λ n. P n fn) (sym same) (subst (P i) (same_Some (function_of x) fn one) p))
+    (cases_lt f i)
+
+pub none_below : (P : ℕ → Function ℕ Note → Type 0) (fs : List Function') (i : ℕ) → length fs ≤ i → ((f : ℕ) (fn : Function ℕ Note) → f < i → slice_get (map function_of fs) f ≡ Some fn → P f fn) → (f : ℕ) (fn : Function ℕ Note) → slice_get (map function_of fs) f ≡ Some fn → P f fn
+none_below P fs i past h f fn there =
+    let within = slice_get_within (map function_of fs) f fn there in
+    let count = length-map fs function_of in
+    h f fn (omega (arith, past, within, count)) there

@@ -1,0 +1,4 @@
+pub mod Scenes
+pub mod Making
+pub mod Changing
+pub mod Weighing

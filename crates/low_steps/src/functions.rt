@@ -1,0 +1,170 @@
+// Functions with pointers that step.
+ghost use Rattle.std.specs.Prelude.{◌≡◌, ℕ, List, [], true, All, Vec, map, slice_get, IfOk, IfSome};
+ghost use Rattle.std.specs.Global.{Global};
+ghost use Rattle.low_ir.specs.Code.{Loop};
+ghost use Rattle.low_ir.specs.View.{block_of, function_of, loop_of};
+ghost use Rattle.low_stepped.specs.Steps.{IsIdle};
+ghost use Rattle.low_steps.specs.Changing.{BlockChanged, BlocksChanged, IsChanged};
+ghost use Rattle.low_steps.specs.Scenes.{Fits, Scene, facts_at};
+
+use super::editing::edited;
+use super::ending::ends;
+use super::registers::name_none;
+use super::same::{same_blocks, same_loops, same_registers};
+use super::scope::Scope;
+use low_ir::{Block, Function, Loop};
+use low_step_facts::{Change, Proposal};
+use low_step_known::Known;
+use std::alloc::Global;
+use wcc_base::Memory;
+
+/// How many facts a block may teach at once.
+const LEARNED: usize = 32;
+
+/// The new block, if its edits are right and what is to be known behind it is.
+fn changed_block(
+    alloc: Global,
+    scope: &Scope,
+    changes: &[Change],
+    change: &Change,
+    block: &Block,
+) -> Result<Option<Block>, Memory>
+    ensures { IfOk result (λ o. IfSome o (λ b. (sc : Scene) → Fits scope.now.claims.now scope.now.alone.now scope.now.objects scope.now.registers scope.now.spare.now sc → sc.changes ≡ changes.now → BlockChanged sc change.now.facts.items (block_of block.now) (block_of b))) }
+{
+    let mut known = Known::new(alloc, &change.facts, LEARNED)?;
+    let Some(code) = edited(alloc, scope, &mut known, &block.code, &change.edits)? else {
+        return Ok(None);
+    };
+    if !ends(&known.facts, changes, block.end) {
+        return Ok(None);
+    }
+    Ok(Some(Block {
+        mark: block.mark,
+        code,
+        end: block.end,
+    }))
+}
+
+/// The block of this number.
+fn block_by(
+    alloc: Global,
+    scope: &Scope,
+    changes: &[Change],
+    number: usize,
+    block: &Block,
+) -> Result<Option<Block>, Memory>
+    ensures { IfOk result (λ o. IfSome o (λ b. (sc : Scene) → Fits scope.now.claims.now scope.now.alone.now scope.now.objects scope.now.registers scope.now.spare.now sc → sc.changes ≡ changes.now → BlockChanged sc (facts_at changes.now number) (block_of block.now) (block_of b))) }
+{
+    match changes.get(number) {
+        None => Ok(None),
+        Some(change) => changed_block(alloc, scope, changes, change, block),
+    }
+}
+
+fn changed_blocks(
+    alloc: Global,
+    scope: &Scope,
+    changes: &[Change],
+    blocks: &[Block],
+) -> Result<Option<Vec<Block>>, Memory>
+    ensures { IfOk result (λ o. IfSome o (λ made. (sc : Scene) → Fits scope.now.claims.now scope.now.alone.now scope.now.objects scope.now.registers scope.now.spare.now sc → sc.changes ≡ changes.now → BlocksChanged sc 0 (map block_of blocks.now) (map block_of made.items))) }
+{
+    let mut made = Vec::new(alloc);
+    for (number, block) in blocks.iter().enumerate() {
+        match block_by(alloc, scope, changes, number, block)? {
+            None => return Ok(None),
+            Some(new) => made.push(new)?,
+        }
+    }
+    Ok(Some(made))
+}
+
+fn is_idle(blocks: &[Block], latch: u32) -> bool
+    ensures { result ≡ true → IsIdle (slice_get (map block_of blocks.now) latch) }
+{
+    match blocks.get(latch as usize) {
+        None => true,
+        Some(block) => block.code.is_empty(),
+    }
+}
+
+/// Whether latches do nothing but jump back.
+fn are_idle(blocks: &[Block], loops: &[Loop]) -> bool
+    ensures { result ≡ true → All (λ (l : Loop). IsIdle (slice_get (map block_of blocks.now) l.latch)) (map loop_of loops.now) }
+{
+    for each in loops {
+        if !is_idle(blocks, each.latch) {
+            return false;
+        }
+    }
+    true
+}
+
+/// Whether nothing is to be known as a function begins.
+fn begins_bare(changes: &[Change]) -> bool
+    ensures { result ≡ true → facts_at changes.now 0 ≡ [] }
+{
+    match changes.first() {
+        None => true,
+        Some(change) => change.facts.is_empty(),
+    }
+}
+
+/// What a program is changed to: its claims, those of one array each behind them, and how many arrays there are.
+#[derive(Clone, Copy)]
+pub struct Around<'a> {
+    pub claims: &'a [Vec<u32>],
+    pub alone: &'a [u32],
+    pub objects: usize,
+}
+
+/// A function by what is proposed for it, if that is right.
+pub fn changed(
+    alloc: Global,
+    around: &Around,
+    function: &Function,
+    proposal: &Proposal,
+) -> Result<Option<Function>, Memory>
+    ensures { IfOk result (λ o. IfSome o (λ g. IsChanged around.now.claims.now around.now.alone.now around.now.objects (function_of function.now) (function_of g))) }
+{
+    if !begins_bare(&proposal.changes) {
+        return Ok(None);
+    }
+    if !name_none(alloc, &proposal.spare, &function.blocks)? {
+        return Ok(None);
+    }
+    let scope = Scope {
+        claims: around.claims,
+        alone: around.alone,
+        objects: around.objects,
+        registers: function.registers,
+        spare: &proposal.spare,
+    };
+    let Some(blocks) = changed_blocks(alloc, &scope, &proposal.changes, &function.blocks)? else {
+        return Ok(None);
+    };
+    if !are_idle(&blocks, &function.loops) {
+        return Ok(None);
+    }
+    Ok(Some(Function {
+        parameters: same_registers(alloc, &function.parameters)?,
+        registers: function.registers,
+        loops: same_loops(alloc, &function.loops)?,
+        blocks,
+    }))
+}
+
+/// The same function.
+pub fn kept(alloc: Global, function: &Function) -> Result<Option<Function>, Memory>
+    ensures { IfOk result (λ o. IfSome o (λ g. (claims : List (Vec ℕ Global)) (alone : List ℕ) (objects : ℕ) → IsChanged claims alone objects (function_of function.now) (function_of g))) }
+{
+    if !are_idle(&function.blocks, &function.loops) {
+        return Ok(None);
+    }
+    Ok(Some(Function {
+        parameters: same_registers(alloc, &function.parameters)?,
+        registers: function.registers,
+        loops: same_loops(alloc, &function.loops)?,
+        blocks: same_blocks(alloc, &function.blocks)?,
+    }))
+}
