@@ -1,18 +1,17 @@
 -- Blocks and functions that were changed, or stay.
-use Rattle.std.proofs.Common.{◌≡◌, ◌<◌, ◌≤◌, ℕ, zero, suc, ◌+◌, Bool, true, false, List, [], ◌∷◌, ◌++◌, drop, length, map, Option, Some, None, refl, sym, ap, ◌∙◌, subst, inl, inr, arith}
+use Rattle.std.proofs.Common.{◌≡◌, ◌<◌, ◌≤◌, ℕ, suc, ◌+◌, Bool, true, false, List, [], ◌∷◌, ◌++◌, drop, length, map, refl, sym, ap, ◌∙◌, subst, inl, arith}
 use Rattle.std.specs.Prelude.{All, Vec, slice_get, slice_index_or}
 use Rattle.std.specs.Global.{Global}
 use Rattle.std.specs.List.{AllZip}
 use Rattle.std.proofs.lemmas.List.{append-nil, append_assoc, drop-map, drop_all, drop_more, map_push}
 use Rattle.std.proofs.lemmas.List.Elements.{All-cons, All-nil}
 use Rattle.low_ir.specs.declared.low.Block.{Block as Block'}
-use Rattle.low_ir.specs.declared.run.Value.{Value}
 use Rattle.low_ir.specs.Code.{Block, Do, Call, End, Function, Instr, Loop, Low, Note}
-use Rattle.low_ir.specs.Formed.{end_reads, read_by, written_by, LeadsOn}
-use Rattle.low_ir.specs.Runs.{Bank, virtual, write_all}
-use Rattle.low_ir.specs.View.{block_of, claim_of}
-use Rattle.low_stepped.specs.Knowing.{Keeps, Knowing}
-use Rattle.low_stepped.specs.Steps.{BlockNamesNoSpare, BlockStepped, BlocksStepped, Code, Entries, Follows, FunctionStepped, FunctionsStepped, IsIdle, IsNamed, NamesNoSpare, Passes, claims_of}
+use Rattle.low_ir.specs.Formed.{end_reads, read_by, LeadsOn}
+use Rattle.low_ir.specs.Runs.{Bank}
+use Rattle.low_ir.specs.View.{block_of}
+use Rattle.low_stepped.specs.Knowing.{Knowing}
+use Rattle.low_stepped.specs.Steps.{BlockNamesNoSpare, BlockStepped, BlocksStepped, Code, Follows, FunctionsStepped, IsIdle, IsNamed, NamesNoSpare, Passes}
 use Rattle.low_step_facts.specs.declared.facts.Fact.{Fact}
 use Rattle.low_step_facts.specs.declared.proposals.Change.{Change}
 use Rattle.low_step_facts.specs.Facts.{all_true}
@@ -84,7 +83,7 @@ function_changed claims alone objects spare changes fn gn bare unnamed blocks id
     }
 
 -- a function that stays
-none_spare : ℕ → Bool
+abbrev none_spare : ℕ → Bool
 none_spare r = false
 
 all_unnamed : (rs : List ℕ) → All (IsNamed none_spare) rs
@@ -99,7 +98,7 @@ blocks_unnamed : (bs : List (Block ℕ Note)) → All (BlockNamesNoSpare none_sp
 blocks_unnamed [] = All-nil (BlockNamesNoSpare none_spare)
 blocks_unnamed (b ∷ bs) = All-cons (BlockNamesNoSpare none_spare) b bs (code_unnamed b.code, all_unnamed (end_reads b.end)) (blocks_unnamed bs)
 
-all_known : Knowing
+abbrev all_known : Knowing
 all_known s = true
 
 module _ (p q : Low) (fn : Function ℕ Note) where

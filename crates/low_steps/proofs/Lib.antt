@@ -1,4 +1,7 @@
-pub mod Serving
+pub mod Ways
+pub mod Lists
+pub mod Following
 pub mod Making
 pub mod Blocks
 pub mod Weights
+pub mod Wholes

@@ -1,19 +1,18 @@
 -- Code that is made.
-use Rattle.std.proofs.Common.{◌≡◌, ◌<◌, ◌≤◌, ℕ, zero, suc, ◌+◌, Bool, true, false, List, [], ◌∷◌, ◌++◌, drop, length, map, Option, Some, None, refl, sym, ap, ◌∙◌, subst, inl, inr, ⊎_elim, arith}
-use Rattle.std.specs.Prelude.{All, Vec, option_to_list, slice_get, slice_index_or}
+use Rattle.std.proofs.Common.{◌≡◌, ◌<◌, ◌≤◌, ℕ, ◌+◌, Bool, true, false, List, [], ◌∷◌, ◌++◌, drop, length, map, Some, refl, sym, ap, ◌∙◌, subst, inl, inr, ⊎_elim}
+use Rattle.std.specs.Prelude.{All, Vec, slice_get, slice_index_or}
 use Rattle.std.specs.Global.{Global}
-use Rattle.std.proofs.lemmas.List.{append-nil, append_assoc, drop_all, drop_more, map_push}
+use Rattle.std.proofs.lemmas.List.{append_assoc, drop_all, drop_more, map_push}
 use Rattle.std.proofs.lemmas.List.Elements.{All-cons, All-nil, All-weaker}
 use Rattle.std.proofs.lemmas.Option.{slice_get_within}
 use Rattle.low_ir.specs.declared.instruction.Instr.{Instr as Instr'}
-use Rattle.low_ir.specs.declared.run.Value.{Value}
 use Rattle.low_ir.specs.Code.{Address, Base, Fixed, Through, Plain, Instr, Do, Call, End, Note}
-use Rattle.low_ir.specs.Effects.{World, Did, dest}
-use Rattle.low_ir.specs.Formed.{IsThere, NamesThere, RegistersWithin, addresses, base_claims, base_objects, written_by}
+use Rattle.low_ir.specs.Effects.{dest}
+use Rattle.low_ir.specs.Formed.{IsThere, RegistersWithin, addresses, base_claims, base_objects, written_by}
 use Rattle.low_ir.specs.Runs.{Bank}
 use Rattle.low_ir.specs.View.{claim_of, instr_of}
 use Rattle.low_stepped.specs.Knowing.{AlwaysGives, DoesTheSame, InstrTeaches, Knowing, Teaches, with_value}
-use Rattle.low_stepped.specs.Steps.{Carries, Code, Ends, Follows, Inserts, IsPlaced, MayBegin, Passes, Replaces, claims_of}
+use Rattle.low_stepped.specs.Steps.{Carries, Code, Follows, Inserts, IsPlaced, MayBegin, Passes, Replaces, claims_of}
 use Rattle.low_step_facts.specs.declared.facts.Fact.{Fact}
 use Rattle.low_step_facts.specs.Facts.{all_true}
 use Rattle.low_steps.specs.Making.{CanBegin, IsPlacedWell, IsSure, Stands, WritesSpare}
@@ -56,10 +55,10 @@ module _ (claims : List (Vec ℕ Global)) (alone : List ℕ) (objects registers 
 
   placed : (i : Plain ℕ) (j : Instr ℕ Note) → j ≡ Do i → IsPlacedWell registers objects news j → IsPlaced sc.old sc.new sc.fn i
   placed i j becomes well =
-      let within : RegistersWithin registers (Do i) = subst (RegistersWithin registers) becomes well.within in
+      let within : RegistersWithin {K = Note} registers (Do i) = subst (RegistersWithin {K = Note} registers) becomes well.within in
       let begins : All (λ (a : Address ℕ). CanBegin objects news a.base) (addresses {R = ℕ} {K = Note} (Do i)) = subst (λ (x : Instr ℕ Note). All (λ (a : Address ℕ). CanBegin objects news a.base) (addresses x)) becomes well.begins in
       record {
-        registers = subst (λ n. RegistersWithin n (Do i)) (sym fits.size) within;
+        registers = subst (λ n. RegistersWithin {K = Note} n (Do i)) (sym fits.size) within;
         names = All-weaker (λ (a : Address ℕ). CanBegin objects news a.base) (IsThere sc.new) (λ a can. base_there a.base can) (addresses {R = ℕ} {K = Note} (Do i)) begins;
         begins = All-weaker (λ (a : Address ℕ). CanBegin objects news a.base) (λ (a : Address ℕ). MayBegin sc.new.claims sc.fn a.base) (λ a can. base_begins a.base can) (addresses {R = ℕ} {K = Note} (Do i)) begins;
       }

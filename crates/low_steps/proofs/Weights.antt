@@ -36,22 +36,22 @@ past_end [] f e = omega arith
 past_end (x ∷ fs) zero e = cc
 past_end (x ∷ fs) (suc f) e = let h = past_end fs f e in omega (arith, h)
 
+block_less : (w v : ℕ → ℕ) → ((g : ℕ) → w g ≤ v g) → (b : Block ℕ Note) → block_room b + called w b.code ≤ block_room b + called v b.code
+block_less w v h b = let less = called_less w v h b.code in omega (arith, less)
+
 -- no call executes more than the table says
 pub weights_bounded : (worths : List ℕ) (fs : List (Function ℕ Note)) → Bounds worths fs → (n f : ℕ) → weights fs n f ≤ worth_in worths f
 weights_bounded worths fs bounds zero f = omega arith
-weights_bounded worths fs bounds (suc n) f = by_function (slice_get fs f) refl
+weights_bounded worths fs bounds (suc n) f = by_function (λ g. weights_bounded worths fs bounds n g) (slice_get fs f) refl
   where
-    less : (b : Block ℕ Note) → block_room b + called (weights fs n) b.code ≤ block_worth worths b
-    less b = let h = called_less (weights fs n) (worth_in worths) (weights_bounded worths fs bounds n) b.code in omega (arith, h)
-
-    by_function : (o : Option (Function ℕ Note)) → slice_get fs f ≡ o → frame_room + repeated_in (λ b. block_room b + called (weights fs n) b.code) o ≤ worth_in worths f
-    by_function None e =
+    by_function : ((g : ℕ) → weights fs n g ≤ worth_in worths g) → (o : Option (Function ℕ Note)) → slice_get fs f ≡ o → frame_room + repeated_in (λ b. block_room b + called (weights fs n) b.code) o ≤ worth_in worths f
+    by_function below None e =
         let few = bounds.few in
         let past : length fs ≤ f = past_end fs f e in
         let is : worth_in worths f ≡ frame_room = get_or_past worths f frame_room (omega (arith, few, past)) in
         omega (arith, is)
-    by_function (Some fn) e =
-        let h = repeated_less (λ b. block_room b + called (weights fs n) b.code) (block_worth worths) less fn.loops 0 fn.blocks in
+    by_function below (Some fn) e =
+        let h = repeated_less (λ b. block_room b + called (weights fs n) b.code) (block_worth worths) (block_less (weights fs n) (worth_in worths) below) fn.loops 0 fn.blocks in
         let b = bounds.bounded f fn e in
         omega (arith, h, b)
 

@@ -1,5 +1,5 @@
 -- What new instructions may be, and what they do where facts are true.
-use Rattle.std.specs.Prelude.{◌≡◌, ℕ, ◌+◌, ◌<◌, Bool, true, List, [], ◌∷◌, length, Option, Some, None, All}
+use Rattle.std.specs.Prelude.{◌≡◌, ℕ, ◌+◌, ◌<◌, Bool, true, List, Option, Some, All}
 use Rattle.low_ir.specs.declared.run.Value.{Value}
 use Rattle.low_ir.specs.Code.{Address, Base, Fixed, Through, Operand, Plain, Do, Instr, Note}
 use Rattle.low_ir.specs.Effects.{World, dest}

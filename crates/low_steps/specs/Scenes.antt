@@ -1,8 +1,7 @@
 -- A function in two programs, and how the code of a block is made of the old.
-use Rattle.std.specs.Prelude.{◌≡◌, ◌⊎◌, ℕ, ◌==◌, Bool, true, false, List, [], ◌∷◌, ◌++◌, length, map, Option, Some, None, slice_get, slice_index_or, Vec}
+use Rattle.std.specs.Prelude.{◌≡◌, ℕ, Bool, true, false, List, [], ◌∷◌, ◌++◌, length, map, Option, Some, None, slice_get, slice_index_or, Vec}
 use Rattle.std.specs.Global.{Global}
-use Rattle.low_ir.specs.Code.{Function, Note, Low, Instr, End, Plain, Do}
-use Rattle.low_ir.specs.declared.run.Value.{Value}
+use Rattle.low_ir.specs.Code.{Function, Note, Low, Instr, End}
 use Rattle.low_ir.specs.View.{claim_of}
 use Rattle.low_stepped.specs.Knowing.{Knowing}
 use Rattle.low_stepped.specs.Steps.{Beginnings, Code, Entries, Follows, claims_of}

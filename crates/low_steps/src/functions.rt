@@ -1,8 +1,8 @@
 // Functions with pointers that step.
 ghost use Rattle.std.specs.Prelude.{◌≡◌, ℕ, List, [], true, All, Vec, map, slice_get, IfOk, IfSome};
 ghost use Rattle.std.specs.Global.{Global};
-ghost use Rattle.low_ir.specs.Code.{Loop};
-ghost use Rattle.low_ir.specs.View.{block_of, function_of, loop_of};
+ghost use Rattle.low_ir.specs.Code.{Loop as LowLoop};
+ghost use Rattle.low_ir.specs.View.{block_of, function_of, instr_of, loop_of};
 ghost use Rattle.low_stepped.specs.Steps.{IsIdle};
 ghost use Rattle.low_steps.specs.Changing.{BlockChanged, BlocksChanged, IsChanged};
 ghost use Rattle.low_steps.specs.Scenes.{Fits, Scene, facts_at};
@@ -12,8 +12,8 @@ use super::ending::ends;
 use super::registers::name_none;
 use super::same::{same_blocks, same_loops, same_registers};
 use super::scope::Scope;
-use low_ir::{Block, Function, Loop};
-use low_step_facts::{Change, Proposal};
+use low_ir::{Block, Function, Instr, Loop};
+use low_step_facts::{Change, Fact, Proposal};
 use low_step_known::Known;
 use std::alloc::Global;
 use wcc_base::Memory;
@@ -71,12 +71,21 @@ fn changed_blocks(
 {
     let mut made = Vec::new(alloc);
     for (number, block) in blocks.iter().enumerate() {
-        match block_by(alloc, scope, changes, number, block)? {
-            None => return Ok(None),
-            Some(new) => made.push(new)?,
-        }
+        let Some(new) = block_by(alloc, scope, changes, number, block)? else {
+            return Ok(None);
+        };
+        made.push(new)?;
     }
     Ok(Some(made))
+}
+
+fn has_none(code: &[Instr]) -> bool
+    ensures { result ≡ true → map instr_of code.now ≡ [] }
+{
+    if code.len() > 0 {
+        return false;
+    }
+    true
 }
 
 fn is_idle(blocks: &[Block], latch: u32) -> bool
@@ -84,13 +93,13 @@ fn is_idle(blocks: &[Block], latch: u32) -> bool
 {
     match blocks.get(latch as usize) {
         None => true,
-        Some(block) => block.code.is_empty(),
+        Some(block) => has_none(&block.code),
     }
 }
 
 /// Whether latches do nothing but jump back.
 fn are_idle(blocks: &[Block], loops: &[Loop]) -> bool
-    ensures { result ≡ true → All (λ (l : Loop). IsIdle (slice_get (map block_of blocks.now) l.latch)) (map loop_of loops.now) }
+    ensures { result ≡ true → All (λ (l : LowLoop). IsIdle (slice_get (map block_of blocks.now) l.latch)) (map loop_of loops.now) }
 {
     for each in loops {
         if !is_idle(blocks, each.latch) {
@@ -100,13 +109,22 @@ fn are_idle(blocks: &[Block], loops: &[Loop]) -> bool
     true
 }
 
+fn are_none(facts: &[Fact]) -> bool
+    ensures { result ≡ true → facts.now ≡ [] }
+{
+    if facts.len() > 0 {
+        return false;
+    }
+    true
+}
+
 /// Whether nothing is to be known as a function begins.
 fn begins_bare(changes: &[Change]) -> bool
     ensures { result ≡ true → facts_at changes.now 0 ≡ [] }
 {
-    match changes.first() {
+    match changes.get(0) {
         None => true,
-        Some(change) => change.facts.is_empty(),
+        Some(change) => are_none(&change.facts),
     }
 }
 

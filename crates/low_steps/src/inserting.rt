@@ -10,15 +10,19 @@ use super::serving::array_of;
 use low_ir::instruction::{Address, Base};
 use low_ir::{Instr, Operand};
 use low_step_facts::{Fact, Origin};
-use low_step_known::reading::{holds_word, origin_held};
+use low_step_known::reading::{holds_word, origin_of};
 
 /// Whether an operand surely holds something.
 fn holds_value(facts: &[Fact], operand: Operand) -> bool
     ensures { result ≡ true → Sure facts.now (HoldsValue (operand_of operand)) }
 {
-    match origin_held(facts, operand) {
-        Origin::Any => false,
-        _ => true,
+    match operand {
+        Operand::Register(register) => match origin_of(facts, register) {
+            Origin::Any => false,
+            Origin::Word => true,
+            Origin::Object(_) => true,
+        },
+        Operand::Constant(_) => true,
     }
 }
 
@@ -36,7 +40,10 @@ fn begins(scope: &Scope, facts: &[Fact], base: Base) -> bool
 {
     match base {
         Base::Object(_) => true,
-        Base::Pointer { register, claim } => array_of(scope, facts, register, claim).is_some(),
+        Base::Pointer { register, claim } => match array_of(scope, facts, register, claim) {
+            None => false,
+            Some(_) => true,
+        },
     }
 }
 

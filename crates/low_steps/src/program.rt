@@ -75,10 +75,10 @@ fn functions_by(
         let Some((first, others)) = rest.split_first() else {
             return Ok(None);
         };
-        match function_by(alloc, around, function, first)? {
-            None => return Ok(None),
-            Some(new) => made.push(new)?,
-        }
+        let Some(new) = function_by(alloc, around, function, first)? else {
+            return Ok(None);
+        };
+        made.push(new)?;
         rest = others;
     }
     Ok(Some(made))

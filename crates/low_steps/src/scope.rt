@@ -8,8 +8,8 @@ ghost use Rattle.low_steps.specs.Making.{CanBegin, IsPlacedWell};
 ghost use Rattle.low_steps.specs.Scenes.{ListsAlone};
 
 use super::registers::are_within;
-use low_ir::instruction::Base;
 use low_ir::Instr;
+use low_ir::instruction::Base;
 use std::alloc::Global;
 use wcc_base::Memory;
 

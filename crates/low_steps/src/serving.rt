@@ -13,7 +13,8 @@ use super::scope::{Scope, only_one};
 use low_ir::Instr;
 use low_ir::instruction::{Address, Base};
 use low_step_facts::{Fact, Origin};
-use low_step_known::reading::{agree, base_origin, form_there, origin_of};
+use low_step_known::passing::{base_origin, form_there};
+use low_step_known::reading::{agree, origin_of};
 
 /// The array into which an origin says that a register points.
 fn object_in(origin: Origin) -> Option<u32>
@@ -34,13 +35,7 @@ pub fn array_of(scope: &Scope, facts: &[Fact], register: u32, claim: u32) -> Opt
         None => None,
         Some(object) => match only_one(scope, claim) {
             None => None,
-            Some(listed) => {
-                if listed == object {
-                    Some(object)
-                } else {
-                    None
-                }
-            }
+            Some(listed) => { if listed == object { Some(object) } else { None } }
         },
     }
 }

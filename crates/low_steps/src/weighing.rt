@@ -146,7 +146,7 @@ fn worth_of(worths: &[u64], function: u32) -> u64
     }
 }
 
-fn call_part(worths: &[u64], instr: &Instr) -> u64
+fn call_worth(worths: &[u64], instr: &Instr) -> u64
     ensures { result ≡ called (worth_in worths.now) (instr_of instr.now ∷ []) }
 {
     match instr {
@@ -161,7 +161,7 @@ fn calls_part(worths: &[u64], code: &[Instr], beside: u64) -> Option<u64>
 {
     let mut total = beside;
     for instr in code {
-        match total.checked_add(call_part(worths, instr)) {
+        match total.checked_add(call_worth(worths, instr)) {
             None => return None,
             Some(more) => total = more,
         }

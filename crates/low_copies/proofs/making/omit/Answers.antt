@@ -1,4 +1,4 @@
-use Rattle.std.proofs.Common.{None, ◌≡◌, ◌∷◌, map, subst, sym}
+use Rattle.std.proofs.Common.{None, ◌≡◌, ◌∷◌, subst, sym}
 use Rattle.low_ir.specs.View.{instr_of}
 use Rattle.low_copies.specs.Knowing.{stands}
 use Rattle.low_copies.specs.Making.{Goes}

@@ -11,4 +11,4 @@ returns-then-branch c = λ done rest.
     let made = map instr_of c.args.made.now.items in
     let more = map instr_of c.put.new.made.items in
     subst (λ n. Goes (i ∷ rest) k made rest n more) (sym (c.part.ensures.known done))
-    (parted_goes k c.args.register c.args.place i rest made more c.requires (c.is_brief.ensures c.if-is_brief.true) (c.is_brief-2.ensures c.if-is_brief-2.true) (c.part.ensures.few done) (c.part.ensures.own done) (c.in_ok-put.ensures c.if-branch.true))
+    (parted_goes k c.args.register c.args.place i rest made more c.requires (c.is_brief.ensures c.if-is_brief.true) (c.is_brief-then-is_brief.ensures c.if-is_brief-2.true) (c.part.ensures.few done) (c.part.ensures.own done) (c.in_ok-put.ensures c.if-branch.true))

@@ -1,6 +1,6 @@
 -- Accesses that go another way, and instructions that surely give a value.
-use Rattle.std.proofs.Common.{◌≡◌, ◌<◌, ℕ, zero, suc, ◌+◌, Bool, true, false, List, [], ◌∷◌, ◌++◌, length, Option, Some, None, refl, sym, ap, ◌∙◌, subst, arith}
-use Rattle.std.specs.Prelude.{◌%◌, ◌^◌, ◌==◌, if◌then◌else◌, slice_get, slice_index_or}
+use Rattle.std.proofs.Common.{◌≡◌, ℕ, zero, suc, ◌+◌, true, false, List, [], ◌∷◌, Option, Some, None, refl, sym, ap, ◌∙◌, subst, arith}
+use Rattle.std.specs.Prelude.{◌%◌, ◌^◌, ◌==◌, if◌then◌else◌, slice_index_or}
 use Rattle.std.proofs.lemmas.Bool.{eqb-true, false≢true}
 use Rattle.std.proofs.lemmas.Bool.Decides.{nat_tests}
 use Rattle.rv_core.specs.declared.row.Alu.{Alu}
@@ -8,18 +8,17 @@ use Rattle.rv_core.specs.Arithmetic.{alu_value}
 use Rattle.low_ir.specs.declared.object.Kind.{Kind}
 use Rattle.low_ir.specs.declared.run.Value.{Value}
 use Rattle.low_ir.specs.declared.run.Value.TheVariants.{Word, Pointer}
-use Rattle.low_ir.specs.Code.{Address, Base, Fixed, Through, Operand, Register, Plain, Set, Operate, Point, Load, Store}
+use Rattle.low_ir.specs.Code.{Address, Through, Operand, Set, Operate, Point, Load, Store}
 use Rattle.low_ir.specs.Effects.{Did, World, address_reads, effect_of, gives, is_member, loaded, there}
 use Rattle.low_ir.specs.Runs.{Bank, operand_value, values, values_cons, virtual}
-use Rattle.low_stepped.specs.Knowing.{DoesTheSame, Knowing, done_by}
+use Rattle.low_stepped.specs.Knowing.{DoesTheSame}
 use Rattle.low_step_facts.specs.declared.facts.Fact.{Fact}
 use Rattle.low_step_facts.specs.declared.facts.Origin.{Origin}
-use Rattle.low_step_facts.specs.declared.facts.Origin.TheVariants.{Any, Word as AnyWord, Object}
+use Rattle.low_step_facts.specs.declared.facts.Origin.TheVariants.{Object}
 use Rattle.low_step_facts.specs.Facts.{all_true, is_from}
-use Rattle.low_step_facts.specs.Forms.{Same}
-use Rattle.low_step_known.specs.Learning.{Adds, BaseIsFrom, Begins, BeginsAt, HoldsWord, Sure}
+use Rattle.low_step_known.specs.Learning.{BaseIsFrom, HoldsWord, Sure}
 use Rattle.low_step_known.proofs.Effects.{lead, reach, resolve, storing, stores, was_stored}
-use Rattle.low_steps.specs.Making.{GivesValue, HasBeginning, HoldsValue, IsAdded, LeadAlike, LeadsTo, Serves}
+use Rattle.low_steps.specs.Making.{GivesValue, HasBeginning, HoldsValue, IsAdded, LeadAlike, Serves}
 use Rattle.low_steps.specs.Scenes.{ListsAlone}
 
 equal : (a b : ℕ) → a ≡ b → (a == b) ≡ true
@@ -106,6 +105,12 @@ points_there claims d a s u h k =
     }
 
 -- what is known to be something is
-pub value_held : (x : Operand ℕ) (s : Bank) (o : Option Value) (origin : Origin) → operand_value virtual s x ≡ o → is_from origin o ≡ true → is_from origin None ≡ false → HoldsValue x s
-value_held x s None origin k h none = absurd (false≢true (sym none ∙ h))
-value_held x s (Some v) origin k h none = record { value = v; is = k }
+pub value_held : (x : Operand ℕ) (s : Bank) (o : Option Value) (origin known : Origin) → operand_value virtual s x ≡ o → origin ≡ known → is_from known None ≡ false → is_from origin o ≡ true → HoldsValue x s
+value_held x s None origin known k e none h = absurd (false≢true (sym none ∙ ap (λ q. is_from q None) (sym e) ∙ h))
+value_held x s (Some v) origin known k e none h = record { value = v; is = k }
+
+-- an address that begins at a pointer begins somewhere
+pub pointer_begins : (claims : List (List ℕ)) (r claim o : ℕ) (s : Bank) → is_from (Object o) (slice_index_or s r None) ≡ true → ListsAlone claims claim o → HasBeginning claims (Through r claim) s
+pointer_begins claims r claim o s held lists =
+    let h = points_in s r o held in
+    record { object = o; bytes = h.bytes; begins = record { is = h.is; may = listed claims claim o lists } }
