@@ -1,12 +1,16 @@
 // Which registers are best in the result register. Nothing is proved of it: whoever may not have it gets another one.
 use super::order::Lasting;
-use super::tastes::worths;
+use super::tastes::{Tastes, worths};
 use low_ir::instruction::{End, Instr, Operand};
 use low_ir::Function;
 use std::alloc::Global;
 use wcc_base::Memory;
 
+/// How often copies of what is chosen are looked for.
 const ROUNDS: u8 = 3;
+
+/// A move that is saved counts so much more than another machine register that is left free, which a function might save.
+const SCALE: u64 = 64;
 
 /// What is known of the registers of a function.
 #[derive(Drop)]
@@ -191,6 +195,7 @@ pub fn in_result(
     alloc: Global,
     function: &Function,
     order: &[Lasting],
+    tastes: &Tastes,
 ) -> Result<Vec<bool>, Memory> {
     let registers = function.registers as usize;
     let uses = Uses::new(alloc, function)?;
@@ -204,15 +209,19 @@ pub fn in_result(
     for _ in 0..ROUNDS {
         let mut weights = vec![in alloc; 0u64; registers]?;
         for each in &left {
-            add(&mut weights, each.register, weight(&uses.saves, each.register));
+            let saves = weight(&uses.saves, each.register).saturating_mul(SCALE);
+            add(&mut weights, each.register, saves);
+            if tastes.is_plain(each.register) {
+                add(&mut weights, each.register, 1);
+            }
         }
         for copy in &uses.copies {
             let (into, of, worth) = *copy;
             if is_set(&picked, into) {
-                add(&mut weights, of, worth);
+                add(&mut weights, of, worth.saturating_mul(SCALE));
             }
             if is_set(&picked, of) {
-                add(&mut weights, into, worth);
+                add(&mut weights, into, worth.saturating_mul(SCALE));
             }
         }
         picked = chosen(alloc, left.as_slice(), &weights, registers)?;

@@ -345,13 +345,22 @@ impl Tastes {
             intervals: intervals_of(alloc, order, registers)?,
             calls: vec![in alloc; 0u32; 1]?,
             changed: known.changed_by(&function.blocks),
-            results: in_result(alloc, function, order)?,
+            results: Vec::new(alloc),
         };
         let depths = depths(alloc, &function.loops, function.blocks.len())?;
         for (number, block) in function.blocks.iter().enumerate() {
             tastes.read_block(known, block, worth_at(number_at(&depths, number)))?;
         }
+        let results = in_result(alloc, function, order, &tastes)?;
+        tastes.results = results;
         Ok(tastes)
+    }
+
+    /// No machine register is better for it than others.
+    pub fn is_plain(&self, register: u32) -> bool {
+        number_at(&self.wished, register as usize) == 0
+            && number_or_none(&self.sources, register) == NO_REGISTER
+            && number_or_none(&self.copies, register) == NO_REGISTER
     }
 
     pub fn likes_result(&self, register: u32) -> bool {
