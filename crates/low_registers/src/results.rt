@@ -1,8 +1,8 @@
 // Which registers are best in the result register. Nothing is proved of it: whoever may not have it gets another one.
 use super::order::Lasting;
 use super::tastes::{Tastes, worths};
-use low_ir::instruction::{End, Instr, Operand};
 use low_ir::Function;
+use low_ir::instruction::{End, Instr, Operand};
 use std::alloc::Global;
 use wcc_base::Memory;
 
