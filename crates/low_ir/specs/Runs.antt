@@ -108,11 +108,11 @@ call a r is d f note (Some fn) (Some xs) =
     only_where (nat_lt f r.top.func) (begin (waiting a r.top is d note ∷ r.below) r.world f fn (write_all a (Some (a.empty fn.size)) fn.parameters xs))
 
 -- the activation on top with what an instruction leaves of its store
-abbrev pub left : {R K S : Type 0} → Registers R K S → Plain R → Running R K S → Running R K S
-left a i r = record r { top = record r.top { store = a.leave i r.top.store } }
+abbrev pub leaving : {R K S : Type 0} → Registers R K S → Plain R → Running R K S → Running R K S
+leaving a i r = record r { top = record r.top { store = a.leave i r.top.store } }
 
 abbrev pub at_instr : {R K S : Type 0} → Registers R K S → Program R K → Running R K S → Instr R K → List (Instr R K) → Run R K S
-at_instr a p r (Do i) is = finish a (left a i r) is (dest i) (effect_of p.claims i (values a r.top.store (reads i)) r.world)
+at_instr a p r (Do i) is = finish a (leaving a i r) is (dest i) (effect_of p.claims i (values a r.top.store (reads i)) r.world)
 at_instr a p r (Call d f args note) is = call a r is d f note (slice_get p.functions f) (values a r.top.store args)
 
 -- a value comes back to the activation that waits for it, or is that of the run
