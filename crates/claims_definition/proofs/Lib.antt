@@ -12,3 +12,4 @@ pub mod Sound
 pub mod Ranges
 pub mod Counts
 pub mod Listing
+pub mod Calls

@@ -1,7 +1,10 @@
 -- What is promised of the claims on laid code.
 use Rattle.std.specs.Prelude.{◌≡◌, ℕ, ◌+◌, ◌*◌, ◌%◌, ◌<◌, ◌≤◌, List, [], ◌∷◌, length, None, Some, All, Contains, slice_get, sum_by, take}
+use Rattle.rv_core.specs.Images.{Image}
 use Rattle.code_flow_system.specs.declared.claims.LoopClaim.{LoopClaim}
 use Rattle.code_flow_system.specs.Claims.{AreSound}
+use Rattle.code_flow_system.specs.Systems.{IsFalseExit}
+use Rattle.asm_graphs.specs.Laid.{IsImageOf}
 use Rattle.asm_items.specs.Items.{total}
 use Rattle.asm_items.specs.Placings.{block_of, blocks_of, start_of}
 use Rattle.asm_forms.specs.Regions.{functions_size}
@@ -9,7 +12,7 @@ use Rattle.asm_placed.specs.Written.{RowsApart}
 use Rattle.low_ir.specs.Code.{Loop}
 use Rattle.low_ir.specs.Formed.{mark_of}
 use Rattle.asm_program.specs.Formed.{IsProgram}
-use Rattle.asm_program.specs.Functions.{PlacedFunction, function_in, program_items}
+use Rattle.asm_program.specs.Functions.{PlacedFunction, function_in, graph_of, program_items}
 use Rattle.claims_accesses.specs.Laws.{AreLines, IsNamed}
 use Rattle.claims_accesses.specs.Lines.{Access, access_at}
 use Rattle.claims_accesses.specs.Touches.{Touch}
@@ -100,3 +103,7 @@ abbrev pub AccessesAreListed : Type 0
 AccessesAreListed =
     (l : Laid) → IsSettled l → (f b j : ℕ) (t : Touch) (x : Access) → f ≤ length l.program.functions → b < length (blocks_of (placing l) f) → j < length (block_of (placing l) f b) → slice_get (touches_at l f b) j ≡ Some t
     → Contains (access_at l.regions (start_of (placing l) f b + total (take j (block_of (placing l) f b))) t) x → Contains (accesses_of l) x
+
+-- no listed exit is anything but an ECALL, in an image that holds the program
+abbrev pub ExitsAreCalls : Type 0
+ExitsAreCalls = (l : Laid) (image : Image) → IsImageOf (graph_of l.memory l.program) (placing l) (length l.program.functions) image (claims_of l) → (n : ℕ) → IsFalseExit image (claims_of l) n → ⊥

@@ -1,6 +1,6 @@
 -- What is claimed of laid code, in the order of addresses: exits, regions and loops; where marks stand, and the ranges of functions.
 use Rattle.std.specs.Prelude.{ℕ, suc, ◌==◌, List, [], ◌∷◌, ◌++◌, length, map, Option, Some, None, if◌then◌else◌, slice_index_or}
-use Rattle.std.specs.List.{flat_map}
+use Rattle.std.specs.List.{flat_map, range_with_len}
 use Rattle.rv_core.specs.declared.regions.Region.{Region}
 use Rattle.code_flow_system.specs.declared.claims.LoopClaim.{LoopClaim}
 use Rattle.code_flow_system.specs.declared.claims.Within.{Within}
@@ -97,6 +97,10 @@ places_in l mark f = map (start_of (placing l) f) (marked_from mark 0 (function_
 -- the addresses of a mark
 abbrev pub places_of : Laid → ℕ → List ℕ
 places_of l mark = flat_map (places_in l mark) (by_address l)
+
+-- those of the marks below n, by number
+abbrev pub places_below : Laid → ℕ → List (List ℕ)
+places_below l n = map (places_of l) (range_with_len 0 n)
 
 -- the range of a function, named by its opening mark; the start code has none
 pub record CodeRange : Type 0 where

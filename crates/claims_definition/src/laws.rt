@@ -4,6 +4,7 @@ ghost use Rattle.claims_definition.specs.Laws.{
   AccessesHaveLines,
   ClaimsAreFew,
   ClaimsAreSound,
+  ExitsAreCalls,
   LoopsAreClaimed,
   MarksHavePlaces,
   PlacesAreApart,
@@ -59,4 +60,9 @@ pub fn accesses_are_listed()
 /// as a search for the greatest flow wants them.
 pub fn claims_fit()
     ensures { ClaimsFit }
+{}
+
+/// Each listed exit of an image that holds a laid program is an ECALL.
+pub fn exits_are_calls()
+    ensures { ExitsAreCalls }
 {}

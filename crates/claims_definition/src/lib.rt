@@ -7,7 +7,7 @@
 //!
 //! Proved of a program whose functions lie in two rows: [`claims_are_sound`],
 //! [`claims_are_few`], [`accesses_are_listed`], [`accesses_have_lines`], [`loops_are_claimed`], [`marks_have_places`],
-//! [`places_are_apart`], [`ranges_hold`] and [`claims_fit`], the contracts of functions without a body.
+//! [`places_are_apart`], [`ranges_hold`], [`exits_are_calls`] and [`claims_fit`], the contracts of functions without a body.
 //!
 //! This crate knows no runs and no search, and not how an image is made.
 #![tactic(auto)]
@@ -16,5 +16,5 @@ mod laws;
 
 pub use laws::{
     accesses_are_listed, accesses_have_lines, claims_are_few, claims_are_sound, claims_fit,
-    loops_are_claimed, marks_have_places, places_are_apart, ranges_hold,
+    exits_are_calls, loops_are_claimed, marks_have_places, places_are_apart, ranges_hold,
 };

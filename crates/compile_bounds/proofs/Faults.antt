@@ -9,7 +9,7 @@ use Rattle.code_flow.specs.declared.finding.CodeFault.{CodeFault}
 use Rattle.code_flow.specs.declared.finding.CodeFault.TheVariants.{BadClaim, NotCode, Memory}
 use Rattle.high_pass.specs.Listing.{LoopEntry}
 use Rattle.claims_definition.specs.Listed.{Laid, claims_of}
-use Rattle.claims_exits.proofs.Calls.{no_false}
+use Rattle.claims_definition.proofs.Calls.{no_false}
 use Rattle.claims_image.specs.Images.{HasClaims}
 use Rattle.compile_claims.specs.Named.{named}
 use Rattle.compile_claims.proofs.Systems.{no_code_same, none_bad}

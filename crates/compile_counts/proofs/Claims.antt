@@ -7,7 +7,7 @@ use Rattle.facts_definitions.specs.declared.facts.Facts.{Facts}
 use Rattle.types_tree.specs.Tree.{Program}
 use Rattle.low_ir.specs.Placings.{placed_of}
 use Rattle.claims_image.specs.Images.{laid_of}
-use Rattle.claims_places.specs.Places.{places_below}
+use Rattle.claims_definition.specs.Listed.{places_below}
 use Rattle.compile_claims.specs.Named.{nevers_at}
 use Rattle.compile_made.specs.declared.made.Made.{Made}
 use Rattle.compile_made.specs.Made.{IsMade, copies_of, high_of}

@@ -17,9 +17,8 @@ use Rattle.low_ir.specs.Programs.{low_of}
 use Rattle.low_ir.specs.declared.places.LowReg.{LowReg}
 use Rattle.lower_budget.specs.Costs.{marks_at, marks_in}
 use Rattle.elf_image.specs.Text.{text_of}
-use Rattle.claims_definition.specs.Listed.{Laid, claims_of}
+use Rattle.claims_definition.specs.Listed.{Laid, claims_of, places_below}
 use Rattle.claims_image.specs.Images.{laid_of}
-use Rattle.claims_places.specs.Places.{places_below}
 use Rattle.image_frames.specs.Memories.{Placement}
 use Rattle.image_definition.specs.Images.{image_in}
 use Rattle.image_sizes.specs.Sizes.{HasRoom, globals_size}

@@ -16,9 +16,8 @@ use Rattle.types_tree.specs.Tree.{Program}
 use Rattle.high_ir.specs.declared.copies.NeverMark.{NeverMark}
 use Rattle.high_pass.specs.Listing.{Listing, MarkEntry}
 use Rattle.claims_definition.specs.Laws.{IsPlaceOf}
-use Rattle.claims_definition.specs.Listed.{Laid, places_of}
+use Rattle.claims_definition.specs.Listed.{Laid, places_of, places_below}
 use Rattle.claims_image.specs.Images.{laid_of}
-use Rattle.claims_places.specs.Places.{places_below}
 use Rattle.low_ir.specs.Placings.{placed_of}
 use Rattle.report_text.specs.Forms.{Ascend}
 use Rattle.compile_claims.specs.Named.{never_at, nevers_at}

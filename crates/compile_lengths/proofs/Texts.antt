@@ -17,9 +17,8 @@ use Rattle.types_tree.specs.Tree.{Program}
 use Rattle.high_pass.specs.Listing.{LoopEntry}
 use Rattle.low_ir.specs.Placings.{assignment_of, placed_of}
 use Rattle.low_ir.specs.Programs.{low_of}
-use Rattle.claims_definition.specs.Listed.{Laid, claims_of}
+use Rattle.claims_definition.specs.Listed.{Laid, claims_of, places_below}
 use Rattle.claims_image.specs.Images.{laid_of}
-use Rattle.claims_places.specs.Places.{places_below}
 use Rattle.report_laws.specs.Typed.{IsTyped}
 use Rattle.report_sizes.specs.Room.{columns_room, copies_room, facts_room, shares_room}
 use Rattle.report_sizes.proofs.Lengths.{short as text_short}

@@ -1,3 +1,5 @@
 pub mod Values
 pub mod Lines
 pub mod Claims
+pub mod Parts
+pub mod Visits

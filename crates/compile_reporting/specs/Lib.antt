@@ -1,3 +1,4 @@
 pub mod Sources
 pub mod Restricted
 pub mod Found
+pub mod Visits

@@ -4,12 +4,12 @@ ghost use Rattle.code_flow_system.specs.declared.cert.Mark.TheVariants as marks;
 ghost use Rattle.code_flow_system.specs.Certificates.{IsInForm, listed};
 ghost use Rattle.code_flow_system.specs.Flows.{value};
 ghost use Rattle.code_flow_system.specs.Systems.{IsSystemOf};
-ghost use Rattle.path_fact_kinds.specs.Kinds.{HasKind, IsFound};
+ghost use Rattle.path_fact_kinds.specs.Kinds as kinds;
 ghost use Rattle.report_shares.specs.Shares.{with_sum};
 ghost use Rattle.rv_core.specs.Table.{table_of};
 ghost use Rattle.compile_reports.specs.Reported.{AreShared};
-ghost use Rattle.compile_reporting.specs.Sources.{IsMadeOf, ranges_of};
-ghost use Rattle.compile_reporting.specs.Found.{AreClaimsOf, HasBound, IsBound};
+ghost use Rattle.compile_reporting.specs.Sources as sources;
+ghost use Rattle.compile_reporting.specs.Found as finds;
 
 use code_flow::{CodeFault, system};
 use code_flow_system::{Claims, System, weak_duality};
@@ -33,8 +33,8 @@ pub struct Found {
 
 /// The flow system of the image. Nothing but memory can be wanting.
 fn system_of(alloc: Global, source: &Source, made: &Made, claims: &Claims) -> Result<System, Memory>
-    requires made { IsMadeOf source.now made.now }
-    requires claims { AreClaimsOf source.now made.now claims.now }
+    requires made { sources.IsMadeOf source.now made.now }
+    requires claims { finds.AreClaimsOf source.now made.now claims.now }
     ensures { IfOk result (IsSystemOf made.now.laid.image claims.now) }
 {
     made_have_systems();
@@ -54,10 +54,10 @@ fn bounded_of(
     system: &System,
     costs: &Costs,
 ) -> Result<Bounded, Memory>
-    requires made { IsMadeOf source.now made.now }
-    requires claims { AreClaimsOf source.now made.now system.now.claims }
+    requires made { sources.IsMadeOf source.now made.now }
+    requires claims { finds.AreClaimsOf source.now made.now system.now.claims }
     requires system { IsSystemOf made.now.laid.image system.now.claims system.now }
-    ensures found { IfOk result (IsFound (table_of costs.now) system.now) }
+    ensures found { IfOk result (kinds.IsFound (table_of costs.now) system.now) }
     ensures value { IfOk result (λ b. b.cert.mark ≡ marks.Greatest → value (table_of costs.now) system.now (listed b.cert.flow.parts) <ℤ pos (2 ^ 120)) }
     ensures cycles { IfOk result (λ b. b.cert.cycles ≤ 2 ^ 62) }
 {
@@ -79,7 +79,7 @@ fn shared(
     ranges: Vec<Share>,
 ) -> Vec<Share>
     requires form { IsInForm system.now.claims bounded.now.cert }
-    requires kind { HasKind (table_of costs.now) system.now bounded.now.columns bounded.now.cert bounded.now.kind }
+    requires kind { kinds.HasKind (table_of costs.now) system.now bounded.now.columns bounded.now.cert bounded.now.kind }
     requires value { bounded.now.cert.mark ≡ marks.Greatest → value (table_of costs.now) system.now (listed bounded.now.cert.flow.parts) <ℤ pos (2 ^ 120) }
     ensures { AreShared bounded.now.kind (map (with_sum (table_of costs.now) system.now bounded.now.cert.flow.parts) ranges.items) result.items }
 {
@@ -98,7 +98,7 @@ fn shared(
 
 /// The ranges of code, before their parts are known.
 fn ranges_of(alloc: Global, source: &Source, made: &Made) -> Result<Vec<Share>, Memory>
-    ensures { IfOk result (λ v. v.items ≡ ranges_of source.now made.now) }
+    ensures { IfOk result (λ v. v.items ≡ sources.ranges_of source.now made.now) }
 {
     shares_of(
         alloc,
@@ -116,10 +116,10 @@ fn find_in(
     system: &System,
     costs: &Costs,
 ) -> Result<Found, Memory>
-    requires made { IsMadeOf source.now made.now }
-    requires claims { AreClaimsOf source.now made.now system.now.claims }
+    requires made { sources.IsMadeOf source.now made.now }
+    requires claims { finds.AreClaimsOf source.now made.now system.now.claims }
     requires system { IsSystemOf made.now.laid.image system.now.claims system.now }
-    ensures { IfOk result (IsBound (table_of costs.now) source.now made.now system.now) }
+    ensures { IfOk result (finds.IsBound (table_of costs.now) source.now made.now system.now) }
 {
     let ranges = ranges_of(alloc, source, made)?;
     match bounded_of(alloc, source, made, system, costs) {
@@ -142,9 +142,9 @@ pub fn find(
     claims: &Claims,
     costs: &Costs,
 ) -> Result<Found, Memory>
-    requires made { IsMadeOf source.now made.now }
-    requires claims { AreClaimsOf source.now made.now claims.now }
-    ensures { IfOk result (HasBound (table_of costs.now) source.now made.now claims.now) }
+    requires made { sources.IsMadeOf source.now made.now }
+    requires claims { finds.AreClaimsOf source.now made.now claims.now }
+    ensures { IfOk result (finds.HasBound (table_of costs.now) source.now made.now claims.now) }
 {
     let system = system_of(alloc, source, made, claims)?;
     match find_in(alloc, source, made, &system, costs) {

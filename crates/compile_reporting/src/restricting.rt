@@ -1,6 +1,6 @@
 // The restrictions of a source, as claims over the addresses of copy lines.
 ghost use Rattle.std.specs.Prelude.{◌≡◌, ◌≤◌, length, map, IfOk};
-ghost use Rattle.promise_report.specs.Facts.{AreFactLines, places_by, places_in};
+ghost use Rattle.promise_report.specs.Facts as told;
 ghost use Rattle.compile_reporting.specs.Restricted.{as_claim};
 
 use code_flow_system::FactClaim;
@@ -12,7 +12,7 @@ use wcc_report::CopyLine;
 
 /// The addresses of each line.
 fn places_in(alloc: Global, lines: &[CopyLine]) -> Result<Items<Items<u32>>, Memory>
-    ensures { IfOk result (λ ps. ps ≡ places_in lines.now) }
+    ensures { IfOk result (λ ps. ps ≡ told.places_in lines.now) }
 {
     let mut places = Vec::new(alloc);
     for line in lines {
@@ -25,7 +25,7 @@ fn places_in(alloc: Global, lines: &[CopyLine]) -> Result<Items<Items<u32>>, Mem
 /// Where functions and markers stand, by their lines: those of the functions come first.
 fn places_by(alloc: Global, facts: &Facts, lines: &[CopyLine]) -> Result<Places, Memory>
     requires { length facts.now.functions ≤ length lines.now }
-    ensures { IfOk result (λ ps. ps ≡ places_by facts.now lines.now) }
+    ensures { IfOk result (λ ps. ps ≡ told.places_by facts.now lines.now) }
 {
     let functions = facts.functions.as_slice().len();
     let of_functions = places_in(alloc, &lines[..functions])?;
@@ -67,7 +67,7 @@ pub fn restricted(
     lines: &[CopyLine],
 ) -> Result<Vec<FactClaim>, Memory>
     requires { length facts.now.functions ≤ length lines.now }
-    ensures { IfOk result (λ cs. AreFactLines facts.now (places_by facts.now lines.now) facts.now.restrictions cs.items) }
+    ensures { IfOk result (λ cs. told.AreFactLines facts.now (told.places_by facts.now lines.now) facts.now.restrictions cs.items) }
 {
     let places = places_by(alloc, facts, lines)?;
     let translated = translate(alloc, facts, &places)?;

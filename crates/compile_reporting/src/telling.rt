@@ -1,11 +1,9 @@
 // What a report tells of the image of a source.
-ghost use Rattle.std.specs.Prelude.{◌≡◌, ◌++◌, IfOk};
+ghost use Rattle.std.specs.Prelude.{IfOk};
 ghost use Rattle.compile_facts.specs.Told.{AreFactsTold};
 ghost use Rattle.compile_handed.specs.Handed.{AreHandedOn};
-ghost use Rattle.compile_lines.specs.CopyLines.{AreLinesOf};
-ghost use Rattle.compile_reporting.specs.Sources.{IsMadeOf, names_of};
-ghost use Rattle.compile_reporting.specs.Found.{HasLines, IsTold};
-ghost use Rattle.compile_made.specs.Made.{copies_of};
+ghost use Rattle.compile_reporting.specs.Sources.{IsMadeOf};
+ghost use Rattle.compile_reporting.specs.Found as finds;
 
 use crate::restricting::restricted;
 use code_flow_system::Claims;
@@ -35,7 +33,7 @@ fn claims_of(
     lines: &[CopyLine],
 ) -> Result<Claims, Memory>
     requires made { IsMadeOf source.now made.now }
-    requires lines { HasLines source.now made.now lines.now }
+    requires lines { finds.HasLines source.now made.now lines.now }
     ensures handed { IfOk result (AreHandedOn made.now) }
     ensures restricted { IfOk result (λ c. AreFactsTold source.now.facts lines.now c.facts) }
 {
@@ -58,7 +56,7 @@ fn claims_of(
 /// The copy lines of functions and markers.
 fn lines_of(alloc: Global, source: &Source, made: &Made) -> Result<Vec<CopyLine>, Memory>
     requires { IsMadeOf source.now made.now }
-    ensures { IfOk result (λ v. HasLines source.now made.now v.items) }
+    ensures { IfOk result (λ v. finds.HasLines source.now made.now v.items) }
 {
     let mut counted = Vec::from_slice(alloc, source.facts.functions.as_slice())?;
     counted.extend_from_slice(source.facts.markers.as_slice())?;
@@ -74,7 +72,7 @@ fn lines_of(alloc: Global, source: &Source, made: &Made) -> Result<Vec<CopyLine>
 /// What is told of the image.
 pub fn tell(alloc: Global, source: &Source, made: &Made) -> Result<Told, Memory>
     requires { IsMadeOf source.now made.now }
-    ensures { IfOk result (IsTold source.now made.now) }
+    ensures { IfOk result (finds.IsTold source.now made.now) }
 {
     let lines = lines_of(alloc, source, made)?;
     match claims_of(alloc, source, made, &lines) {

@@ -1,3 +1,5 @@
+pub mod Shown
+pub mod Sources
 pub mod Places
 pub mod Nevers
 pub mod Restrictions

@@ -17,9 +17,8 @@ use Rattle.low_ir.specs.Programs.{low_of}
 use Rattle.low_ir.specs.Runs.{block_in}
 use Rattle.low_ir.specs.Turns.{mark_in}
 use Rattle.claims_definition.specs.Laws.{IsPlaceOf}
-use Rattle.claims_definition.specs.Listed.{Laid, places_of}
+use Rattle.claims_definition.specs.Listed.{Laid, places_of, places_below}
 use Rattle.claims_image.specs.Images.{laid_of}
-use Rattle.claims_places.specs.Places.{places_below}
 use Rattle.layout_laid.specs.declared.laid.Laid as lays
 use Rattle.image_frames.specs.Memories.{Placement}
 use Rattle.compile_made.specs.Made.{IsInMemory}

@@ -29,8 +29,8 @@ use Rattle.image_definition.specs.Images.{image_in}
 use Rattle.simulation_kept.specs.Laws.{run_of}
 use Rattle.claims_definition.specs.Listed.{claims_of}
 use Rattle.claims_image.specs.Images.{laid_of}
-use Rattle.compile_image_law.specs.Laws.{AreKept, EndsAsMain, IsCompiled, passed}
-use Rattle.compile_image_law.proofs.Sources.{source_shows}
+use Rattle.compile_runs.specs.Shows.{AreKept, EndsAsMain, IsCompiled, passed}
+use Rattle.compile_runs.proofs.Sources.{source_shows}
 use Rattle.compile_claims.specs.Laws.{under}
 use Rattle.compile_claims.specs.Named.{named}
 use Rattle.compile_claims.proofs.Bounds.{run_keeps}

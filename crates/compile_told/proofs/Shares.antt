@@ -27,10 +27,9 @@ use Rattle.asm_program.specs.Functions.{function_in, no_function}
 use Rattle.lower_law.specs.Programs.{KeepsProgram}
 use Rattle.low_places.proofs.Ways.{of_function, placed_function}
 use Rattle.claims_definition.specs.Laws.{AreRanges, HasPlaces, RangesAscend}
-use Rattle.claims_definition.specs.Listed.{CodeRange, Laid, by_address, code_range, code_ranges, places_of, placing}
+use Rattle.claims_definition.specs.Listed.{CodeRange, Laid, by_address, code_range, code_ranges, places_of, placing, places_below}
 use Rattle.claims_definition.proofs.Blocks.{AllBelow}
 use Rattle.claims_image.specs.Images.{laid_of}
-use Rattle.claims_places.specs.Places.{places_below}
 use Rattle.compile_claims.specs.Places.{places_at}
 use Rattle.compile_lines.specs.CopyLines.{AreLinesOf}
 use Rattle.compile_lines.specs.Shares.{name_by, named}

@@ -22,7 +22,7 @@ use Rattle.plan_expressions.specs.Fits.{Formal, OfWord, OfArray, Function, Signa
 use Rattle.plan_expressions.specs.Meets.{IsLayout, Layout, Untouched, home, is_own, is_passed}
 use Rattle.facts_counting.specs.Loops.{function_loops, items_loops}
 use Rattle.counting_alike.proofs.Alike.{Alike, Comes, alike_then, alike_undefined}
-use Rattle.counting_runs.proofs.Counted.{set_begins, set_there}
+use Rattle.counting_laws.proofs.Counted.{set_begins, set_there}
 use Rattle.counting_alike.proofs.Declaring.{with_bounds}
 use Rattle.plan_derived.proofs.Lists.{Each}
 use Rattle.counting_alike.proofs.Objects.{Begins, Names, Row, Stays}

@@ -27,18 +27,18 @@ use Rattle.facts_counting.specs.Changes.{expr_changes, option_changes, start_cha
 use Rattle.facts_counting.specs.Counting.{counting, is_limit, is_up, least_turns, turns as turns_of}
 use Rattle.facts_counting.specs.Loops.{unless_written}
 use Rattle.counting_alike.proofs.Alike.{Alike, Ends, alike_and, alike_fine, alike_then, alike_weaken}
-use Rattle.counting_runs.proofs.Arithmetic.{ahead}
-use Rattle.counting_runs.proofs.Counted.{Comparison, Holds, Sets, Steps, compared_lives, compared_value, first_fits, start_sets, steps_positive, steps_so, tested_word, tests_so}
+use Rattle.counting_laws.proofs.Arithmetic.{ahead}
+use Rattle.counting_laws.proofs.Counted.{Comparison, Holds, Sets, Steps, compared_lives, compared_value, first_fits, start_sets, steps_positive, steps_so, tested_word, tests_so}
 use Rattle.counting_alike.proofs.Declaring.{dropped_keeps, start_keeps, with_bounds}
 use Rattle.counting_alike.proofs.Entering.{left_scope, scope_run, start_owned}
 use Rattle.counting_alike.proofs.Expressions.{runs}
 use Rattle.plan_derived.proofs.Forms.{Parts, bounds_are, counter, parts}
-use Rattle.counting_runs.proofs.Homes.{counter_home}
+use Rattle.counting_laws.proofs.Homes.{counter_home}
 use Rattle.counting_alike.proofs.Looping.{behind_keeps, turns_keep}
 use Rattle.counting_alike.proofs.Objects.{Names, Stays, stays_then}
 use Rattle.counting_alike.proofs.Settings.{IsRun, Keeps, Spares, keeps_then, resumed, spares_first, spares_second}
 use Rattle.counting_alike.proofs.Steps.{keeps_here}
-use Rattle.counting_runs.proofs.Turning.{Round, turns_alike}
+use Rattle.counting_laws.proofs.Turning.{Round, turns_alike}
 
 -- the bounds of a loop: those that are derived for it and wider ones, or others, which are the same, and then it is to blame
 abbrev pub LoopBy : (blamed : ℕ → Type 0) → (derived : Option Bounds) (narrow wide : Bounds) (at : ℕ) → Type 0

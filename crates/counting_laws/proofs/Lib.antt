@@ -1,3 +1,7 @@
+pub mod Homes
+pub mod Counted
+pub mod Arithmetic
+pub mod Turning
 pub mod Fors
 pub mod Statements
 pub mod Calls

@@ -7,7 +7,10 @@
 //! others, leave the meaning as it is.
 //!
 //! The proof goes through two runs at once, under narrow and under wide bounds: both do the same, and what a loop counts with is
-//! changed by nothing but the head of that loop. Of where objects live it uses what the plan of a program says of them.
+//! changed by nothing but the head of that loop. Of where objects live it uses what the plan of a program says of them. Before it
+//! stand that the object which a loop counts with lives in the frame of its function (`proofs/Homes`), that the head of the loop
+//! sets it, compares it and steps it (`Counted`), how often its test then holds (`Arithmetic`), and that it turns so often, whatever
+//! wider bounds it has (`Turning`).
 #![tactic(auto)]
 
 mod laws;

@@ -1,6 +1,6 @@
 // A program that is laid.
-use claims_lists::CodeRange;
 use claims_items::LaidItem;
+use claims_lists::CodeRange;
 use code_flow_system::{Claims, LoopShape, Span};
 use rv_core::Image;
 use wcc_base::Items;

@@ -32,6 +32,13 @@ fn flag_at(flags: &[bool], at: u32) -> bool {
     }
 }
 
+fn is_set(flags: &[bool], at: usize) -> bool {
+    match flags.get(at) {
+        None => false,
+        Some(flag) => *flag,
+    }
+}
+
 fn set_flags(flags: &mut [bool], others: &[bool]) {
     for (at, other) in others.iter().enumerate() {
         if *other {
@@ -174,21 +181,32 @@ impl Seen {
         }
     }
 
+    /// The scalar at a place, if it may have a register and is used more than so much.
+    fn better(&self, object: &Object, at: u32, best: u64) -> Option<u64> {
+        if !is_scalar(object) || flag_at(&self.banned, at) {
+            return None;
+        }
+        match self.uses.get(at as usize) {
+            None => None,
+            Some(uses) => { if *uses > best { Some(*uses) } else { None } }
+        }
+    }
+
     /// Takes the scalar that is used most, if one is used more than so much.
     fn take(&mut self, objects: &[Object]) -> Option<Resident> {
         let mut best = LEAST;
         let mut found = None;
-        for (at, object) in objects.iter().enumerate() {
-            if let Some(uses) = self.uses.get(at) {
-                if *uses > best && is_scalar(object) && !flag_at(&self.banned, at as u32) {
-                    best = *uses;
-                    found = Some(Resident {
-                        object: at as u32,
-                        kind: object.kind,
-                        written: flag_at(&self.written, at as u32),
-                    });
-                }
+        let mut at = 0u32;
+        for object in objects {
+            if let Some(uses) = self.better(object, at, best) {
+                best = uses;
+                found = Some(Resident {
+                    object: at,
+                    kind: object.kind,
+                    written: flag_at(&self.written, at),
+                });
             }
+            at = at.saturating_add(1);
         }
         if let Some(resident) = found {
             set_flag(&mut self.banned, resident.object);
@@ -197,23 +215,26 @@ impl Seen {
     }
 }
 
-fn leads_surely(sure: &[bool], at: usize, end: End) -> bool {
+fn leads_surely(sure: &[bool], at: u32, end: End) -> bool {
     match end {
         End::Return { .. } => false,
-        End::Jump { block } => block as usize <= at || flag_at(sure, block),
+        End::Jump { block } => block <= at || flag_at(sure, block),
         End::Branch { taken, other, .. } => flag_at(sure, taken) && flag_at(sure, other),
     }
 }
 
-/// Whether each run of a function that ends comes to a block.
+/// Whether each run of a function that ends comes to a block, by the last blocks first.
 fn is_certain(alloc: Global, blocks: &[Block], block: u32) -> Result<bool, Memory> {
     let mut sure = vec![in alloc; false; blocks.len()]?;
-    let mut at = blocks.len();
-    while at > 0 {
-        at -= 1;
-        let flag = at as u32 == block || leads_surely(&sure, at, blocks[at].end);
-        if let Some(it) = sure.get_mut(at) {
-            *it = flag;
+    let Ok(count) = u32::try_from(blocks.len()) else {
+        return Ok(false);
+    };
+    for back in 0..count {
+        let at = count.wrapping_sub(back).wrapping_sub(1);
+        if let Some(it) = blocks.get(at as usize) {
+            if at == block || leads_surely(&sure, at, it.end) {
+                set_flag(&mut sure, at);
+            }
         }
     }
     Ok(flag_at(&sure, 0))
@@ -238,7 +259,7 @@ fn worth_at(function: &Function, certain: &[bool], block: u32) -> u64 {
             depth = depth.saturating_add(1);
             if each.header < first {
                 first = each.header;
-                counts = flag_at(certain, number as u32);
+                counts = is_set(certain, number);
             }
         }
     }
@@ -263,11 +284,13 @@ fn residents_in(
     }
     let certain = certain_loops(alloc, function, is_main)?;
     let mut seen = Seen::new(alloc, low.objects.len())?;
-    for (number, block) in function.blocks.iter().enumerate() {
-        let worth = worth_at(function, &certain, number as u32);
+    let mut number = 0u32;
+    for block in &function.blocks {
+        let worth = worth_at(function, &certain, number);
         for instr in &block.code {
             seen.instr(low, rows, instr, worth);
         }
+        number = number.saturating_add(1);
     }
     for _ in 0..MOST {
         if let Some(resident) = seen.take(&low.objects) {
@@ -280,9 +303,10 @@ fn residents_in(
 /// By function: the scalars that get registers.
 pub fn chosen(alloc: Global, low: &Low, rows: &[Vec<bool>]) -> Result<Vec<Vec<Resident>>, Memory> {
     let mut chosen = Vec::new(alloc);
-    for (number, function) in low.functions.iter().enumerate() {
-        let is_main = number as u32 == low.main;
-        chosen.push(residents_in(alloc, low, rows, function, is_main)?)?;
+    let mut number = 0u32;
+    for function in &low.functions {
+        chosen.push(residents_in(alloc, low, rows, function, number == low.main)?)?;
+        number = number.saturating_add(1);
     }
     Ok(chosen)
 }

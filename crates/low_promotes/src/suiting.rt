@@ -1,6 +1,7 @@
 // Whether scalars may be in registers.
 ghost use Rattle.std.specs.Prelude.{◌≡◌, ℕ, true, false, [], map, slice_index_or, All};
 ghost use Rattle.low_ir.specs.Kinds.{kind_number};
+ghost use Rattle.low_ir.specs.declared.object.Storage.TheVariants.{Global};
 ghost use Rattle.low_ir.specs.Effects.{is_member};
 ghost use Rattle.low_ir.specs.View.{address_of, base_of, block_of, claim_of, instr_of, object_of};
 ghost use Rattle.low_promoted.specs.Suiting.{AreDistinct, AreScalars, BaseSuits, BlockKept, IsKept, IsScalar, IsTold, IsWhole, StoreSuits, is_only_read, is_resident, kind_in};
@@ -275,17 +276,26 @@ pub fn blocks_kept(
     true
 }
 
-/// Whether an object is a global of this kind and no array.
+/// Whether an object is a global of a kind and no array.
+fn is_global(object: &Object, kind: Kind) -> bool
+    ensures alike { result ≡ true → object.now.kind ≡ kind }
+    ensures storage { result ≡ true → object.now.storage ≡ Global }
+    ensures size { result ≡ true → object.now.length ≡ 1 }
+{
+    match object.storage {
+        Storage::Constant => false,
+        Storage::Local => false,
+        Storage::Global => object.length == 1 && are_same(object.kind, kind),
+    }
+}
+
+/// Whether a scalar is a global of its kind and no array.
 fn is_scalar(objects: &[Object], resident: Resident) -> bool
     ensures { result ≡ true → IsScalar (map object_of objects.now) resident.object resident.kind }
 {
     match objects.get(resident.object as usize) {
         None => false,
-        Some(object) => match object.storage {
-            Storage::Constant => false,
-            Storage::Local => false,
-            Storage::Global => object.length == 1 && are_same(object.kind, resident.kind),
-        },
+        Some(object) => is_global(object, resident.kind),
     }
 }
 

@@ -11,7 +11,7 @@ use low_ir::{Block, End, Function};
 use rv_core::Condition;
 
 /// How many blocks a way goes past at most.
-const STEPS: usize = 64;
+const STEPS: usize = 1024;
 
 fn decided(
     condition: Condition,

@@ -25,8 +25,8 @@ use Rattle.path_duals.specs.Duals.{final_level, final_pairs, values_of, owe_of, 
 use Rattle.path_duals.proofs.PotentialLemmas.{all_of, given_moves}
 use Rattle.path_duals.proofs.RowLemmas.{alongside, final_priced, potential_place, walks_dual}
 use Rattle.path_counts.proofs.FreeLemmas.{left_all, right_all}
-use Rattle.path_cert.specs.Laws.{HasRanges}
-use Rattle.path_cert.proofs.CertLemmas.{nevers_long, loops_long}
+use Rattle.path_cert.specs.Ranges.{HasRanges}
+use Rattle.path_cert.proofs.LongLemmas.{nevers_long, loops_long}
 use Rattle.path_cert.proofs.PartLemmas.{potentials_ascend}
 use Rattle.path_cert.specs.Priced.{fact_price, fact_prices, fact_total, PricesPayFacts, fact_certificate, AreMultipliers}
 use Rattle.path_best.specs.Laws.{FactsAreAccepted}

@@ -22,7 +22,7 @@ use Rattle.path_dual_ranges.specs.Ranges.{IsNarrowDual}
 use Rattle.path_dual_ranges.proofs.ClaimSizes.{size-append, held_size}
 use Rattle.path_dual_ranges.proofs.RowSizes.{sizes}
 use Rattle.path_dual_ranges.proofs.FineSizes.{loose_most, duals_narrow}
-use Rattle.path_cert.specs.Laws.{HasRanges}
+use Rattle.path_cert.specs.Ranges.{HasRanges}
 use Rattle.path_cert.specs.Best.{best_worth}
 use Rattle.path_cert.specs.Priced.{fact_price, fact_size, fact_prices, fact_certificate}
 use Rattle.path_best.specs.Laws.{SizesCoverPrices, FactsHaveRanges}

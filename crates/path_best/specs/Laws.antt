@@ -11,7 +11,7 @@ use Rattle.path_rows.specs.Driver.{Prices}
 use Rattle.path_ranges.specs.Bounded.{IsBounded}
 use Rattle.path_ranges.specs.Ranges.{IsEnough}
 use Rattle.path_counts.specs.Laws.{BacksAreFree}
-use Rattle.path_cert.specs.Laws.{HasRanges}
+use Rattle.path_cert.specs.Ranges.{HasRanges}
 use Rattle.path_cert.specs.Best.{best_worth, HasBestFlow}
 use Rattle.path_cert.specs.Priced.{fact_price, fact_size, fact_prices, fact_certificate, AreMultipliers}
 

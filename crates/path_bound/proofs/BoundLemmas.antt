@@ -32,8 +32,9 @@ use Rattle.path_counts.specs.Laws.{HasBounds, IsOpenSystem}
 use Rattle.path_counts.proofs.KeepLemmas.{all_keep, goes, counted}
 use Rattle.path_slack.proofs.MoveLemmas.{all_reached}
 use Rattle.path_cert.specs.Certificates.{entry_worth, mark_of, certificate_with, costs_of, certificate_of}
-use Rattle.path_cert.specs.Laws.{HasRanges, HasFlowRanges, IsOpenFlow}
-use Rattle.path_cert.proofs.CertLemmas.{limits_same, price_same, below_zero, all_accepted}
+use Rattle.path_cert.specs.Ranges.{HasRanges}
+use Rattle.path_bound.specs.Accepted.{HasFlowRanges, IsOpenFlow}
+use Rattle.path_bound.proofs.CertLemmas.{limits_same, price_same, below_zero, all_accepted}
 use Rattle.path_limits.specs.Limits.{IsLoopWithin}
 use Rattle.path_limits.proofs.NarrowLemmas.{counts_below, narrow_limits}
 use Rattle.path_cost_ranges.specs.Ranges.{HasRanges as HasNumbers}

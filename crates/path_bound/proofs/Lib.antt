@@ -1,2 +1,3 @@
+pub mod CertLemmas
 pub mod BoundLemmas
 pub mod PricedLemmas

@@ -1,2 +1,2 @@
 pub mod PartLemmas
-pub mod CertLemmas
+pub mod LongLemmas

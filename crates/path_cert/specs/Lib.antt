@@ -1,4 +1,4 @@
 pub mod Certificates
 pub mod Best
 pub mod Priced
-pub mod Laws
+pub mod Ranges

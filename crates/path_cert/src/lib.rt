@@ -2,17 +2,9 @@
 //! 1986, linear programming duality).
 //!
 //! Its potentials and multipliers are those of the walks, at the costs of moves as prices. Where the entry's worth isn't
-//! negative it lists the flow by the worths, and it says else that there is no flow.
+//! negative it lists the flow by the worths, and it says else that there is no flow. `specs/Best` says which flow the walks list
+//! at any prices, and when it is a best one; `specs/Priced` has the prices that pay for facts, and the certificate of the walks
+//! at these; `specs/Ranges` the ranges of what every certificate has. `proofs/` has what holds of its lists.
 //!
-//! Proved, by a call with an empty body: where its numbers keep their ranges, and worths are open where the flow goes, the
-//! certificate is in form, and it is accepted (`certificates_are_accepted`).
-//!
-//! `specs/Best` says which flow the walks list at any prices, and when it is a best one; `specs/Priced` has the prices that
-//! pay for facts, and the certificate of the walks at these. Their laws are those of `path_best`.
-//!
-//! The crate has definitions and this law.
+//! The crate has no code. That certificates are accepted is proved by `path_bound` at costs, and by `path_best` at other prices.
 #![tactic(auto)]
-
-mod laws;
-
-pub use laws::certificates_are_accepted;

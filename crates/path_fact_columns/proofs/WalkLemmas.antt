@@ -11,7 +11,7 @@ use Rattle.code_flow_system.specs.declared.shapes.LoopShape.{LoopShape}
 use Rattle.code_flow_system.specs.declared.shapes.Span.{Span}
 use Rattle.code_flow_system.specs.Systems.{System}
 use Rattle.code_flow_system.specs.Certificates.{whole_part, IsInForm, Accepts}
-use Rattle.path_cert.specs.Laws.{HasRanges}
+use Rattle.path_cert.specs.Ranges.{HasRanges}
 use Rattle.path_flows.specs.Flows.{amounts_of}
 use Rattle.path_rows.specs.Driver.{blank}
 use Rattle.path_walks.specs.Sizes.{AllStaySmall}

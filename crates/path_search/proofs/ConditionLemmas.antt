@@ -1,41 +1,17 @@
--- Headers that are jumps back of other loops.
-use Rattle.std.proofs.Common.{◌≡◌, ◌≢◌, ℕ, zero, suc, ◌≤◌, arith, refl, sym, ap, ◌∙◌, subst, List, [], ◌∷◌, Contains, All, inl, inr, ◌⊎◌, Bool, true, false}
+-- Where a header is the jump back of another loop, that loop never turns.
+use Rattle.std.proofs.Common.{◌≡◌, ◌≢◌, ℕ, zero, suc, ◌≤◌, arith, refl, sym, ap, ◌∙◌, subst, List, [], ◌∷◌, Contains, inl, inr, ◌⊎◌, Bool, true, false}
 use Rattle.std.proofs.lemmas.Bool.Decides.{eqb_tells}
 use Rattle.std.proofs.lemmas.List.Elements.{All-contains}
-use Rattle.code_flow_system.specs.declared.claims.LoopClaim.{LoopClaim}
 use Rattle.code_flow_system.specs.declared.moves.Move.{Move}
 use Rattle.code_flow_system.specs.declared.shapes.LoopShape.{LoopShape}
 use Rattle.code_flow_system.specs.declared.shapes.Span.{Span}
 use Rattle.code_flow_system.specs.Moves.{destinations}
 use Rattle.code_flow_system.specs.Systems.{System, has_moves}
-use Rattle.code_flow_system.specs.Shapes.{AreShapesOf, IsInLoop, AreNested, AreAllNested, EntersAtHeader, IsLoop, Fits}
-use Rattle.path_fit.specs.Loops.{HeadsOwnLoop}
+use Rattle.code_flow_system.specs.Shapes.{IsInLoop, AreNested, AreAllNested, EntersAtHeader, IsLoop, Fits}
 use Rattle.path_places.specs.Reached.{ReachedBy, AreReached}
-use Rattle.path_places.proofs.HeaderLemmas.{back_of, only, decide_in}
+use Rattle.path_places.proofs.HeaderLemmas.{only, decide_in}
 use Rattle.path_places.proofs.FunctionLemmas.{move_of}
-use Rattle.path_counts.specs.Laws.{BacksAreFree}
 use Rattle.path_search.specs.Conditions.{SharedHeadersNeverTurn}
-
--- ---- where no jump back is the header of another loop
-
-shape_of : (cs : List LoopClaim) (ls : List LoopShape) → AreShapesOf cs ls → (c : LoopClaim) → Contains cs c → (l : LoopShape) × Contains ls l × (l.header ≡ c.header) × (l.back ≡ c.back)
-shape_of [] ls are c (i, lt, e) = absurd (omega (arith, lt))
-shape_of (d ∷ cs) [] are c i = absurd are
-shape_of (d ∷ cs) (l ∷ ls) are c (zero, lt, e) = (l, (zero, omega arith, refl), are.0 ∙ ap (λ (x : LoopClaim). x.header) e, are.1 ∙ ap (λ (x : LoopClaim). x.back) e)
-shape_of (d ∷ cs) (l ∷ ls) are c (suc i, lt, e) = later (shape_of cs ls are.2 c (i, omega (arith, lt), e))
-  where
-    later : ((k : LoopShape) × Contains ls k × (k.header ≡ c.header) × (k.back ≡ c.back)) → (k : LoopShape) × Contains (l ∷ ls) k × (k.header ≡ c.header) × (k.back ≡ c.back)
-    later r = (r.0, (suc r.1.0, omega (arith, r.1.1), r.1.2), r.2, r.3)
-
-pub backs_free : (s : System) (ls : List LoopShape) → AreShapesOf s.claims.loops ls → All (λ (l : LoopShape). HeadsOwnLoop ls l.back) ls → BacksAreFree s ls
-backs_free s ls are apart c ic back other =
-    let k = back_of ls c.header back in
-    let l = shape_of s.claims.loops ls are c ic in
-    let own : HeadsOwnLoop ls k.0.back = All-contains (λ (x : LoopShape). HeadsOwnLoop ls x.back) ls k.0 apart k.1 in
-    let e : l.0.back ≡ k.0.back = All-contains (λ (x : LoopShape). x.header ≡ k.0.back → x.back ≡ k.0.back) ls l.0 own l.1 (l.2 ∙ sym k.2) in
-    absurd (other (sym l.3 ∙ (e ∙ k.2)))
-
--- ---- where one is, the other loop never turns
 
 -- two of the ranges nest
 nested_two : (ls : List LoopShape) → AreAllNested ls → (k l : LoopShape) → Contains ls k → Contains ls l → (k ≡ l) ⊎ (AreNested k l ⊎ AreNested l k)

@@ -33,8 +33,6 @@ use Rattle.path_duals.specs.Duals.{Values, values_of, potentials_of, both_of, ne
 use Rattle.path_duals.proofs.LongLemmas.{worths_long}
 use Rattle.path_duals.proofs.PotentialLemmas.{potential_at}
 use Rattle.path_flows.specs.Flows.{amounts_of, parts_of}
-use Rattle.path_counts.specs.Laws.{HasBounds}
-use Rattle.path_limits.specs.Limits.{IsLoopWithin}
 use Rattle.path_limits.specs.Narrow.{FetchesCost, HasShortBounds}
 use Rattle.path_dual_ranges.proofs.ClaimSizes.{size-append}
 use Rattle.path_cost_ranges.specs.Ranges.{HasSmallValues}
@@ -49,8 +47,8 @@ use Rattle.path_values.specs.Owed.{owe_at, nevers_by, loops_by}
 use Rattle.path_values.proofs.ValueLemmas.{multipliers_of}
 use Rattle.path_values.specs.Laws.{plain_by}
 use Rattle.path_conditions.specs.Bounding.{CanBound}
+use Rattle.path_conditions.proofs.Holding.{within_all, backs_free}
 use Rattle.path_search.specs.Kinds.{SaysOne}
-use Rattle.path_search.proofs.ConditionLemmas.{backs_free}
 use Rattle.path_search.specs.Unmarked.{values_in, unmarked_of, AreAddable, marked}
 
 -- ---- the rows of a certificate without multipliers of never claims
@@ -209,10 +207,6 @@ module _ (t : Table) (s : System) (ls : List LoopShape) (ps : List Span) (whole 
       by_sign false = tt
 
 -- ---- the conditions
-
-pub within_all : (cs : List LoopClaim) → All HasBounds cs → All HasShortBounds cs → All IsLoopWithin cs
-within_all [] h k = All-nil IsLoopWithin
-within_all (c ∷ cs) h k = All-cons IsLoopWithin c cs (All-head HasBounds c cs h, (All-head HasShortBounds c cs k).0) (within_all cs (All-tail HasBounds c cs h) (All-tail HasShortBounds c cs k))
 
 pub conditions_hold : (t : Table) (s : System) (ls : List LoopShape) (ps : List Span) → IsSystem s → AreReached s → CanBound t s ls ps → FetchesCost t → All HasShortBounds s.claims.loops → claim_count s.claims < 2 ^ 32 → IsBoundable t s ls ps
 conditions_hold t s ls ps system reached can fetches short few = record {

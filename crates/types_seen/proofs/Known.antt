@@ -1,11 +1,11 @@
 -- Each function that is called is known by the type of its definition.
-use Rattle.std.proofs.Common.{◌≡◌, inl, inr, refl, ap, ◌∙◌, sym, subst, ℕ, ◌+◌, ◌<◌, zero, suc, Bool, true, false, cond, List, [], ◌∷◌, ◌++◌, length, map, Option, Some, None, nat_eq, arith, one-add, eqb-true, eq-eqb, lt-ltb}
+use Rattle.std.proofs.Common.{◌≡◌, inr, refl, ap, ◌∙◌, sym, subst, ℕ, ◌+◌, ◌<◌, zero, suc, Bool, true, false, cond, List, [], ◌∷◌, ◌++◌, length, map, Option, Some, None, nat_eq, arith, one-add, eqb-true, eq-eqb, lt-ltb}
 use Rattle.std.specs.Prelude.{◌&&◌, ◌||◌, ◌==◌, if◌then◌else◌, not, slice_get}
 use Rattle.std.specs.List.{list_any, position_or_len}
 use Rattle.std.specs.Map.{lookup}
 use Rattle.std.proofs.lemmas.Bool.{and_parts, false≢true, not-false, or_parts, true≢false}
 use Rattle.std.proofs.lemmas.Option.{none-some, same_Some}
-use Rattle.c_tree.specs.Tree.{Row, Nothing, Then, Param, Parameter, Shape, Scalar, Unsized, Sized, Object, Declared, Declaration, Objects, Prototype, External, Restriction, Declaring, Function}
+use Rattle.c_tree.specs.Tree.{Row, Nothing, Then, Parameter, Shape, Object, Declared, Declaration, Objects, Prototype, External, Restriction, Declaring, Function}
 use Rattle.c_tree.specs.declared.expression.Specifier.{Specifier}
 use Rattle.types_tree.specs.Tree.{function_name}
 use Rattle.types_tree.specs.Tree as typed
@@ -13,14 +13,14 @@ use Rattle.types_tree.specs.declared.expression.Callee.{Callee}
 use Rattle.types_tree.specs.declared.expression.Callee.TheVariants.{Getchar, Putchar, Function as Own}
 use Rattle.types_value.specs.Kinds.{is_void, same_kind}
 use Rattle.types_value.specs.declared.kind.Kind.{Kind as CType}
-use Rattle.types_rules.specs.DeclarationRules.{Base, after_declaration, after_object, after_param, base_of, extent_of, has_bad_param_size, has_no_constant_size, is_filled, with_filling, function_rule, has_other_type, is_no_list, is_object, param_type, param_types, redeclares, redefines, routine, types_of, within_function}
+use Rattle.types_rules.specs.DeclarationRules.{Base, after_declaration, after_object, base_of, extent_of, has_bad_param_size, has_no_constant_size, is_filled, with_filling, function_rule, has_other_type, is_no_list, is_object, redeclares, redefines, routine, within_function}
 use Rattle.types_rules.specs.ExpressionRules.{when}
-use Rattle.types_rules.specs.Scope.{Around, Outline, after_row, found_here, getchar_type, index_of, is_among, left, nothing_yet, or_else, or_zero, putchar_type, routine_of, same_bool, same_param, same_params, same_type, started, unseen, with_number, with_object, with_routine, with_type}
+use Rattle.types_rules.specs.Scope.{Around, Outline, after_row, found_here, getchar_type, index_of, is_among, left, nothing_yet, or_else, or_zero, putchar_type, routine_of, same_bool, same_param, same_params, same_type, started, with_number, with_object, with_routine, with_type}
 use Rattle.types_rules.specs.Sights.{SeenFunction, definitions, external_nodes, externals_nodes, fault_at, first_fault, param_nodes, params_nodes, shape_nodes, items_nodes, body_around}
-use Rattle.types_rules.specs.Specifiers.{are_wrong, is_const, kind_spelled}
+use Rattle.types_rules.specs.Specifiers.{are_wrong, kind_spelled}
 use Rattle.types_rules.specs.StatementRules.{in_function}
 use Rattle.types_rules.specs.Types.{has_definition}
-use Rattle.types_rules.specs.Typing.{and_param, callee_of, typed_param, typed_params, typed_row, typed_shape}
+use Rattle.types_rules.specs.Typing.{callee_of}
 use Rattle.types_rules.specs.declared.fault.Rule.TheVariants as rules
 use Rattle.types_rules.specs.declared.scope.ParamType.{ParamType}
 use Rattle.types_rules.specs.declared.scope.Routine.{Routine}

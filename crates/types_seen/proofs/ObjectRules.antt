@@ -1,8 +1,8 @@
 -- What holds of objects at which no rule fails.
-use Rattle.std.proofs.Common.{◌≡◌, ℕ, ◌≤◌, Bool, true, false, Option, Some, None, leb-true}
+use Rattle.std.proofs.Common.{◌≡◌, ℕ, ◌≤◌, false, Option, Some, None, leb-true}
 use Rattle.std.specs.Prelude.{◌&&◌, ◌||◌, ◌++◌, not, nat_le, is_none, is_some}
 use Rattle.std.proofs.lemmas.Bool.{and_parts, not-false, true≢false}
-use Rattle.c_tree.specs.Tree.{Shape, Initial, Object, Declared}
+use Rattle.c_tree.specs.Tree.{Shape, Initial, Declared}
 use Rattle.types_value.specs.Kinds.{is_void}
 use Rattle.types_rules.specs.DeclarationRules.{Base, after_object, has_bad_size, has_no_constant_size, has_no_constant_value, has_void_value, has_wrong_initial, is_bad_size, is_size, object_rule}
 use Rattle.types_rules.specs.ExpressionRules.{when}

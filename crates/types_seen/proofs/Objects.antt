@@ -1,9 +1,9 @@
 -- The objects that file level declares, and those that functions declare.
-use Rattle.std.proofs.Common.{◌≡◌, inl, inr, ⊎_elim, refl, ap, ◌∙◌, sym, ℕ, zero, suc, ◌+◌, ◌<◌, ◌≤◌, Bool, true, false, List, [], ◌∷◌, ◌++◌, drop, length, Option, Some, arith, ltb-true, ltb-false}
+use Rattle.std.proofs.Common.{◌≡◌, inl, inr, ⊎_elim, refl, ap, ◌∙◌, sym, ℕ, zero, suc, ◌+◌, ◌<◌, ◌≤◌, Bool, true, false, List, [], ◌∷◌, ◌++◌, drop, length, Some, arith, ltb-true, ltb-false}
 use Rattle.std.specs.Prelude.{nat_lt, slice_get}
 use Rattle.std.proofs.lemmas.Bool.{false≢true}
 use Rattle.std.proofs.lemmas.Option.{none-some, same_Some, slice_get_within}
-use Rattle.c_tree.specs.Tree.{Row, Nothing, Then, Object, Declared, Shape, Scalar as Single, Unsized, Sized, Objects, Prototype, External, Restriction, Declaring, Function}
+use Rattle.c_tree.specs.Tree.{Row, Nothing, Then, Object, Declared, Scalar as Single, Unsized, Sized, Objects, Prototype, External, Restriction, Declaring, Function}
 use Rattle.types_tree.specs.declared.variable.Duration.{Duration}
 use Rattle.types_tree.specs.declared.variable.Duration.TheVariants.{Static, Automatic}
 use Rattle.types_tree.specs.declared.variable.Extent.{Extent}

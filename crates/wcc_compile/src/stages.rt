@@ -10,8 +10,8 @@ ghost use Rattle.rv_core.specs.Table.{table_of};
 ghost use Rattle.spm_placement.specs.Sets.{AreBest};
 ghost use Rattle.compile_made.specs.Made.{IsMade};
 ghost use Rattle.compile_made.specs.Placed.{IsPlacedBy};
-ghost use Rattle.compile_passes.specs.Passes.{AreBegun, AreStages, passes, stages_of};
-ghost use Rattle.compile_reporting.specs.Sources.{IsMadeOf, IsOf, IsOfBy, IsReportOn, names_of, tree_of};
+ghost use Rattle.compile_passes.specs.Passes as passes;
+ghost use Rattle.compile_reporting.specs.Sources as sources;
 ghost use Rattle.wcc_compile.specs.Built.{IsBuilt, gains_of};
 ghost use Rattle.wcc_compile.specs.Steps.{IsFirst, IsLast};
 ghost use Rattle.wcc_compile.specs.Written.{IsWritten};
@@ -25,9 +25,8 @@ use compile_image::{laid, lowered, planned, read, unlaid};
 use compile_lengths::texts_are_short;
 use compile_made::{Made, Stages};
 use compile_passes::{begun, passed};
-use compile_reporting::{find, joined, tell};
+use compile_reporting::{find, flows_visit_few, gains_by, joined, tell};
 use compile_reports::reported_are_reports;
-use compile_visits::{flows_visit_few, gains_by};
 use elf_image::read_of_write;
 use facts_front::Source;
 use high_fold::Fold;
@@ -42,9 +41,9 @@ use wcc_report::Report;
 
 /// A source in the high form: its plan, and what each pass makes of the program before it.
 fn high(alloc: Global, source: &Source, options: &Options) -> Result<Stages, Memory>
-    requires { (text : List ℕ) × IsOf text source.now }
-    ensures begun { IfOk result (AreBegun options.now (names_of source.now) (tree_of source.now) source.now.facts) }
-    ensures all { IfOk result (λ s. length s.before.items ≡ passes) }
+    requires { (text : List ℕ) × sources.IsOf text source.now }
+    ensures begun { IfOk result (passes.AreBegun options.now (sources.names_of source.now) (sources.tree_of source.now) source.now.facts) }
+    ensures all { IfOk result (λ s. length s.before.items ≡ passes.passes) }
 {
     let stages = begun(alloc, source, planned(alloc, source)?);
     let stages = passed(alloc, source, stages, options, 0, &Fold)?;
@@ -62,10 +61,10 @@ fn high(alloc: Global, source: &Source, options: &Options) -> Result<Stages, Mem
 
 /// A source in memory: what the passes make of it, the low form, the image with nothing in the scratchpad.
 fn made(alloc: Global, source: &Source, options: &Options) -> Result<Made, Memory>
-    requires { (text : List ℕ) × IsOf text source.now }
-    ensures stages { IfOk result (λ m. AreStages options.now (names_of source.now) (tree_of source.now) source.now.facts (stages_of m.stages)) }
-    ensures all { IfOk result (λ m. length m.stages.before.items ≡ passes) }
-    ensures made { IfOk result (IsMade (names_of source.now) (tree_of source.now) source.now.facts) }
+    requires { (text : List ℕ) × sources.IsOf text source.now }
+    ensures stages { IfOk result (λ m. passes.AreStages options.now (sources.names_of source.now) (sources.tree_of source.now) source.now.facts (passes.stages_of m.stages)) }
+    ensures all { IfOk result (λ m. length m.stages.before.items ≡ passes.passes) }
+    ensures made { IfOk result (IsMade (sources.names_of source.now) (sources.tree_of source.now) source.now.facts) }
     ensures none { IfOk result (IsPlacedBy []) }
 {
     nothing_can_be_placed();
@@ -77,8 +76,8 @@ fn made(alloc: Global, source: &Source, options: &Options) -> Result<Made, Memor
 
 /// The report on it: what is told of the source, and the bound with its shares.
 fn reported(alloc: Global, source: &Source, made: &Made, costs: &Costs) -> Result<Report, Memory>
-    requires { IsMadeOf source.now made.now }
-    ensures reported { IfOk result (IsReportOn (table_of costs.now) source.now made.now) }
+    requires { sources.IsMadeOf source.now made.now }
+    ensures reported { IfOk result (sources.IsReportOn (table_of costs.now) source.now made.now) }
     ensures typed { IfOk result IsTyped }
     ensures cycles { IfOk result (λ r. r.cert.cycles ≤ 2 ^ 62) }
 {
@@ -95,9 +94,9 @@ fn reported(alloc: Global, source: &Source, made: &Made, costs: &Costs) -> Resul
 
 /// Both together.
 fn with_report(alloc: Global, source: &Source, made: Made, costs: &Costs) -> Result<Built, Memory>
-    requires { IsMadeOf source.now made }
+    requires { sources.IsMadeOf source.now made }
     ensures made { IfOk result (λ b. b.made ≡ made) }
-    ensures reported { IfOk result (λ b. IsReportOn (table_of costs.now) source.now b.made b.report) }
+    ensures reported { IfOk result (λ b. sources.IsReportOn (table_of costs.now) source.now b.made b.report) }
     ensures typed { IfOk result (λ b. IsTyped b.report) }
     ensures cycles { IfOk result (λ b. b.report.cert.cycles ≤ 2 ^ 62) }
 {
@@ -112,7 +111,7 @@ fn with_report(alloc: Global, source: &Source, made: Made, costs: &Costs) -> Res
 
 /// A source with nothing in the scratchpad, and the report on it.
 fn first(alloc: Global, source: &Source, options: &Options) -> Result<Built, Memory>
-    requires { (text : List ℕ) × IsOf text source.now }
+    requires { (text : List ℕ) × sources.IsOf text source.now }
     ensures laid { IfOk result (IsFirst options.now source.now) }
     ensures typed { IfOk result (λ b. IsTyped b.report) }
     ensures cycles { IfOk result (λ b. b.report.cert.cycles ≤ 2 ^ 62) }
@@ -186,11 +185,11 @@ fn placed(alloc: Global, source: &Source, first: Built, options: &Options) -> Re
 
 /// The image of a source that was read, and the report on it, with these options.
 fn built(alloc: Global, source: &Source, options: &Options) -> Result<Built, Memory>
-    requires { (text : List ℕ) × IsOf text source.now }
-    ensures built { IfOk result (λ b. (text : List ℕ) → IsOfBy options.now.derive text source.now → IsBuilt options.now text b) }
-    ensures compiled { IfOk result (λ b. (derive : Bool) (text : List ℕ) → IsOfBy derive text source.now → IsCompiled derive options.now.spm (table_of options.now.costs) text (text_of b.made.laid.image) (report_text b.report) b.report) }
+    requires { (text : List ℕ) × sources.IsOf text source.now }
+    ensures built { IfOk result (λ b. (text : List ℕ) → sources.IsOfBy options.now.derive text source.now → IsBuilt options.now text b) }
+    ensures compiled { IfOk result (λ b. (derive : Bool) (text : List ℕ) → sources.IsOfBy derive text source.now → IsCompiled derive options.now.spm (table_of options.now.costs) text (text_of b.made.laid.image) (report_text b.report) b.report) }
     ensures cycles { IfOk result (λ b. b.report.cert.cycles ≤ 2 ^ 62) }
-    ensures short { IfOk result (λ b. (text : List ℕ) → IsOf text source.now → length text ≤ 1048576 → AreShort (text_of b.made.laid.image) (report_text b.report)) }
+    ensures short { IfOk result (λ b. (text : List ℕ) → sources.IsOf text source.now → length text ≤ 1048576 → AreShort (text_of b.made.laid.image) (report_text b.report)) }
 {
     choices_fit();
     reported_are_compiled();

@@ -1,6 +1,10 @@
+use Rattle.std.proofs.Common.{length}
 use Rattle.low_promoted.specs.Suiting.{AreDistinct}
 use Rattle.low_promotes.specs.Residents.{residents_of}
 use Rattle.low_promotes.proofs.suiting.are_distinct.Given as goal
 
-abbrev pub invariant-loop : goal.invariant-loop
-invariant-loop l = AreDistinct (residents_of l.rest) → AreDistinct (residents_of l.residents)
+abbrev pub invariant-loop-first : goal.invariant-loop-first
+invariant-loop-first l = AreDistinct (residents_of l.rest) → AreDistinct (residents_of l.residents)
+
+abbrev pub decreases-loop-first : goal.decreases-loop-first
+decreases-loop-first l = length l.rest

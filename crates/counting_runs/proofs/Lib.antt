@@ -1,4 +1,0 @@
-pub mod Homes
-pub mod Counted
-pub mod Arithmetic
-pub mod Turning
