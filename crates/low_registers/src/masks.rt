@@ -37,7 +37,7 @@ fn hold(holders: &mut Vec<Option<Lasting>>, place: Place, new: Lasting)
     }
 }
 
-fn names(into: Option<u32>, register: u32) -> bool
+pub fn names(into: Option<u32>, register: u32) -> bool
     ensures { result ≡ names into register }
 {
     match into {
