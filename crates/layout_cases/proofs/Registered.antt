@@ -2,7 +2,7 @@
 use Rattle.std.proofs.Common.{◌≡◌, ◌<◌, ℕ, zero, suc, ◌+◌, Bool, true, false, List, [], ◌∷◌, ◌++◌, length, get_or, take, Some, Option, refl, sym, ap, ◌∙◌, subst, arith, if◌then◌else◌, ⊎_elim}
 use Rattle.std.specs.Prelude.{map, nat_lt, slice_get, slice_index_or, replicate, ◌&&◌}
 use Rattle.std.specs.List.{range_with_len}
-use Rattle.std.proofs.lemmas.Bool.{and_parts, cases_eq, lt-leb, ltb-true}
+use Rattle.std.proofs.lemmas.Bool.{and_parts, cases_eq, le-leb, ltb-true}
 use Rattle.std.proofs.lemmas.Bool.Decides.{nat_tests}
 use Rattle.std.proofs.lemmas.List.{map-append, take_more}
 use Rattle.low_ir.specs.declared.low.Function as functions
@@ -54,7 +54,7 @@ place_inside : (size v : ℕ) → v < size → is_inside size (place_at v) ≡ t
 place_inside size v h = by (nat_lt v machine_registers) refl
   where
     by : (b : Bool) → nat_lt v machine_registers ≡ b → is_inside size (if b then InRegister v else Slot v) ≡ true
-    by true t = lt-leb v machine_registers (ltb-true v machine_registers t)
+    by true t = let small = ltb-true v machine_registers t in le-leb v machine_registers (omega (arith, small))
     by false t = lt_test v size h
 
 place_lasts : (v : ℕ) → is_lasting (place_at v) ≡ true
