@@ -129,7 +129,7 @@ module _ (g : Given) where
       (give g false r n (Point d a) is d (Pointer t.object k) r.world h code_is refl (omega arith) refl
       (λ P inside go. point_lays g (course_in g r r.world h.block h.returns) P n r.top.func t.object t.start t.offset a.displacement r.top.store (body g r h.block is) a.base a.offset d (ready_of g r n h) t.based t.moved inside (code_at g r n (Do (Point d a)) is h code_is)
       (λ m z. go m (outcome g r n m h.block h.returns is d (code g (Pointer t.object k)) h.exchanges z)))
-      (λ q y z e. cc) (write_place r.top.store d (Pointer t.object k)) refl)
+      (λ q y z e s. cc) (write_place r.top.store d (Pointer t.object k)) refl)
 
   -- an element of an array, k bytes behind its first
   pub record Element (n q k w : ℕ) (kind : Kind) : Type 0 where
@@ -205,7 +205,7 @@ module _ (g : Given) where
           (λ P inside go. load_lays g (course_in g r r.world h.block h.returns) P n r.top.func q b x a.displacement (object_at mem q + k) (w % 2 ^ (8 * kind_bytes kind)) r.top.store (body g r h.block is) (OfArrays (named g.layout.program a.base)) kind a.base a.offset d (ready_of g r n h) based moved inside
           el.lands el.aligned (q, has, el.region) el.found (subst (λ u. u < 2 ^ 32) (sym value) small) (code_at g r n (Do (Load kind d a)) is h code_is)
           (λ m y. go m (outcome g r n m h.block h.returns is d w h.exchanges (subst (λ u. Gave g (course_in g r r.world h.block h.returns) n m r.top.func d u (body g r h.block is)) value y))))
-          (λ q y z e. cc) (write_place r.top.store d (Word w)) refl)
+          (λ q y z e s. cc) (write_place r.top.store d (Word w)) refl)
 
   -- an array behind a store to one of its elements
   array_stored : (k : Course) (n m q b v : ℕ) (c : Contents) (x : Object) (xs : List Noted) → IsArray mem q x c (view_of (state g n)) → b % kind_bytes c.kind ≡ 0 → b / kind_bytes c.kind < length c.elements
@@ -327,7 +327,7 @@ module _ (g : Given) where
             block = h.block;
             inside = in_rest g.layout.program r.top.func h.block (Do (Store kind a x)) is r.top.end inside;
             returns = h.returns;
-            holds = holds_led false r n m is u h.returns h.inside.there (λ q s spare. w.registers q s) (λ q y z e. cc) (words_stored place n m q k v c.kind found.0 (body g r h.block is) found.1 l.inside w) (arrays_stored place n m q k v r.world.objects c (body g r h.block is) h.holds.arrays there_is even less w) h.holds;
+            holds = holds_led false r n m is u h.returns h.inside.there (λ q s spare. w.registers q s) (λ q y z e s. cc) (words_stored place n m q k v c.kind found.0 (body g r h.block is) found.1 l.inside w) (arrays_stored place n m q k v r.world.objects c (body g r h.block is) h.holds.arrays there_is even less w) h.holds;
             exchanges = record { input = w.input ∙ h.exchanges.input; bytes = h.exchanges.bytes; output = w.output ∙ h.exchanges.output };
             at = w.at;
           }))

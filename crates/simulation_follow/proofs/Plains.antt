@@ -125,7 +125,7 @@ module _ (g : Given) where
       give false r n (Set d x) is d v r.world h code_is refl (operand-small r.top.func r.top.store x v h.holds.room e) refl
       (λ P inside go. set_lays g (course_in r r.world h.block h.returns) P n r.top.func r.top.store (body r h.block is) d x v (ready_of r n h) e inside (operand-small r.top.func r.top.store x v h.holds.room e) (code_at r n (Do (Set d x)) is h code_is)
       (λ m a. go m (outcome r n m h.block h.returns is d (code g v) h.exchanges a)))
-      (λ q y z e. cc) (write_place r.top.store d v) refl
+      (λ q y z e s. cc) (write_place r.top.store d v) refl
 
   pub operate_follows : (r : PlacedRunning) (n : ℕ) (is : List (Instr Place (List ℕ))) (operator : Alu) (d : Place) (x y : Operand Place) (h : Going_at r n) → r.top.code ≡ Do (Operate operator d x y) ∷ is
       → (o p : Option Value) → operand_value places r.top.store x ≡ o → operand_value places r.top.store y ≡ p
@@ -139,7 +139,7 @@ module _ (g : Given) where
       give false r n (Operate operator d x y) is d (Word (alu_value operator a b)) r.world h code_is refl small refl
       (λ P inside go. operate_lays g (course_in r r.world h.block h.returns) P n r.top.func r.top.store (body r h.block is) operator d x y a b (ready_of r n h) e1 e2 inside small (code_at r n (Do (Operate operator d x y)) is h code_is)
       (λ m z. go m (outcome r n m h.block h.returns is d (alu_value operator a b) h.exchanges z)))
-      (λ q y z e. cc) (write_place r.top.store d (Word (alu_value operator a b))) refl
+      (λ q y z e s. cc) (write_place r.top.store d (Word (alu_value operator a b))) refl
 
   pub get_follows : (r : PlacedRunning) (n : ℕ) (is : List (Instr Place (List ℕ))) (d : Place) (h : Going_at r n) → r.top.code ≡ Do (Get d) ∷ is
       → Later (Runs (goes_on (forgotten g true r) is (got r.world) (write_place (unset_if true r.top.store) d (Word (next_byte r.world.input))))) n

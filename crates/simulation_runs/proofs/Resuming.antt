@@ -71,7 +71,7 @@ module _ (g : Given) where
         block = block;
         inside = inside;
         returns = rest;
-        holds = holds_kept g false (resumed r w ws) n m d (Word v) file w.frame.code r.world rest inside.there e small (record { registers = λ q s spare o. a.registers q s o; reads = a.reads }) a.located refl (λ q same. writes q (is ∙ ap Some same)) (λ q y z e. cc) holds;
+        holds = holds_kept g false (resumed r w ws) n m d (Word v) file w.frame.code r.world rest inside.there e small (record { registers = λ q s spare o. a.registers q s o; reads = a.reads }) a.located refl (λ q same. writes q (is ∙ ap Some same)) (λ q y z e s. cc) holds;
         exchanges = record { input = a.input ∙ exchanges.input; bytes = exchanges.bytes; output = a.output ∙ exchanges.output };
         at = a.at;
       }))

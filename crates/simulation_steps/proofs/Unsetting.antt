@@ -18,7 +18,7 @@ same_register : (q r : ℕ) → InRegister q ≡ InRegister r → q ≡ r
 same_register q r e = cc
 
 pub unset_read : (b : Bool) (t : File) (p : Place) (x : Value) → read_place (unset_if b t) p ≡ Some x → (read_place t p ≡ Some x) × (b ≡ true → p ≢ InRegister result_register)
-unset_read false t p x e = (e, λ z. cc)
+unset_read false t p x e = (e, λ z s. cc)
 unset_read true t (Slot k) x e = (e, λ z s. cc)
 unset_read true t (InRegister q) x e =
     ⊎_elim
