@@ -1,12 +1,11 @@
 -- What stands for an instruction among the turns of a function.
-use Rattle.std.proofs.Common.{◌≡◌, ◌≢◌, ℕ, zero, suc, ◌+◌, ◌≤◌, Bool, true, false, List, [], ◌∷◌, ◌++◌, length, Option, Some, None, refl, sym, ap, ◌∙◌, subst, arith}
-use Rattle.std.specs.Prelude.{◌==◌, if◌then◌else◌, slice_get}
+use Rattle.std.proofs.Common.{◌≡◌, ℕ, zero, suc, ◌+◌, ◌≤◌, true, List, [], ◌∷◌, ◌++◌, length, Option, Some, None, refl, sym, ap, ◌∙◌, subst, arith}
+use Rattle.std.specs.Prelude.{if◌then◌else◌, slice_get}
 use Rattle.std.proofs.lemmas.Bool.{eqb-true}
 use Rattle.std.proofs.lemmas.List.{get_or_append_left, get_or-append-add}
-use Rattle.low_ir.specs.Code.{Operand, Plain, Instr, Do, Call, End, Block, Function, Note}
+use Rattle.low_ir.specs.Code.{Plain, Instr, Do, Call, End, Block, Function, Note}
 use Rattle.low_ir.specs.Effects.{dest, is_served}
 use Rattle.low_ir.specs.Live.{CallAt, IsRest, ServedAt, Spot, place_of}
-use Rattle.low_registers.specs.declared.briefs.Turn.{Turn}
 use Rattle.low_registers.specs.declared.briefs.Turn.TheVariants.{Stays, Comes}
 use Rattle.low_registers.specs.declared.order.Lasting.{Lasting}
 use Rattle.low_registers.specs.Briefs.{IsBrief, blocks_turns, code_turns, instr_turn, is_own, turn_at}

@@ -1,5 +1,5 @@
 -- Registers that can have the result register: while they live, nothing else comes into it.
-use Rattle.std.specs.Prelude.{◌≡◌, ℕ, ◌≤◌, Bool, true, false, if◌then◌else◌, List, [], ◌∷◌, ◌++◌, Option, slice_index_or}
+use Rattle.std.specs.Prelude.{◌≡◌, ℕ, ◌≤◌, Bool, true, false, if◌then◌else◌, List, [], ◌∷◌, ◌++◌, slice_index_or}
 use Rattle.low_ir.specs.Code.{Instr, Do, Call, Block, Function, Note}
 use Rattle.low_ir.specs.Effects.{dest, is_member, is_served}
 use Rattle.low_registers.specs.declared.briefs.Turn.{Turn}

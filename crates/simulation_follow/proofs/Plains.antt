@@ -10,6 +10,7 @@ use Rattle.rv_core.specs.Memory.{read_from}
 use Rattle.rv_steps.specs.Steps.{Later}
 use Rattle.rv_steps.proofs.LaterLemmas.{now}
 use Rattle.low_ir.specs.declared.places.Place.{Place}
+use Rattle.low_ir.specs.declared.places.Place.TheVariants.{Register as InRegister}
 use Rattle.low_ir.specs.declared.run.Value.{Value}
 use Rattle.low_ir.specs.declared.run.Value.TheVariants.{Word, Pointer}
 use Rattle.low_ir.specs.Code.{Operand, Register, Constant, Plain, Set, Operate, Get, Instr, Do}

@@ -31,7 +31,7 @@ use Rattle.simulation_relation.specs.Views.{view_of}
 use Rattle.simulation_relation.specs.Waiting.{PlacedWaiting, AreWaiting, IsLinked}
 use Rattle.simulation_relation.specs.Following.{PlacedRunning, Holds, Exchanges}
 use Rattle.simulation_steps.proofs.Given.{Given, run_of, state, reg, read, At}
-use Rattle.simulation_steps.proofs.Places.{IsSteady, steady_is, lasting_apart}
+use Rattle.simulation_steps.proofs.Places.{IsSteady, lasting_apart}
 use Rattle.simulation_steps.proofs.Noting.{noted_code}
 use Rattle.simulation_steps.proofs.Operands.{frame, into}
 use Rattle.simulation_follow.proofs.Apart.{arrays_kept}
