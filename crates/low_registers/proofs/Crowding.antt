@@ -12,15 +12,24 @@ use Rattle.low_ir.specs.Places.{machine_registers, result_register}
 use Rattle.low_registers.specs.declared.order.Lasting.{Lasting}
 use Rattle.low_registers.specs.declared.choice.Choice.{Choice}
 use Rattle.low_registers.specs.declared.choice.Choice.TheVariants.{Free, Instead, InSlot}
+use Rattle.low_registers.specs.Briefs.{IsBrief}
 use Rattle.low_registers.specs.Orders.{AreInOrder, Covers}
 use Rattle.low_registers.specs.Spills.{AreDistinct}
-use Rattle.low_registers.specs.Scans.{AllTaken, AreCrowded, IsChoice, Scan, Scanned, evicted_by, followed, given, holder, is_over, place_of, unplaced}
+use Rattle.low_registers.specs.Scans.{AllTaken, AreCrowded, CanHold, IsChoice, Scan, Scanned, evicted_by, followed, given, holder, is_over, place_of, unplaced}
 use Rattle.low_registers.proofs.Scanning.{freed, is_evicted, is_given, is_spilled, place_same, same_register}
 
 -- who has a machine register that is taken
 taken_by : (p : ℕ) (o : Option Lasting) → is_over p o ≡ false → (y : Lasting) × (o ≡ Some y) × (p ≤ y.last)
 taken_by p None e = cc
 taken_by p (Some y) e = (y, refl, ltb-false y.last p e)
+
+can_few : (fn : Function ℕ Note) (q : ℕ) (x : Lasting) → CanHold fn q x → q ≤ result_register
+can_few fn q x (inl small) = omega (arith, small)
+can_few fn q x (inr both) = let is = both.0 in omega (arith, is)
+
+can_brief : (fn : Function ℕ Note) (q : ℕ) (x : Lasting) → CanHold fn q x → q ≡ result_register → IsBrief fn x
+can_brief fn q x (inl small) is = absurd (omega (arith, small, is))
+can_brief fn q x (inr both) is = both.1
 
 module _ (fn : Function ℕ Note) (n : ℕ) (all done : List Lasting) (s : Scan) (h : Scanned fn n all done s) (p : ℕ) (taken : AllTaken s p) (before : (y : Lasting) → Contains done y → y.first ≤ p) where
   -- a register that is done, covers p, and has one of the first m machine registers
@@ -188,7 +197,7 @@ module _ (n : ℕ) (all : List Lasting) (order : AreInOrder n all) where
           (freed fn n all (take i all) s h one small q machine y e x.first (before y has.0, late) (crowd taken) x before)
 
       follows : (c : Choice) → IsChoice fn s x c → Scanned fn n all more (followed c x s)
-      follows (Free q) k = is_given fn n all (take i all) s h x (order.below x here) new q k.0 k.2 (free_of q k.1)
+      follows (Free q) k = is_given fn n all (take i all) s h x (order.below x here) new q (can_few fn q x k.0) (can_brief fn q x k.0) (free_of q k.1)
       follows (Instead q) k = instead q (holder s q) refl k.0 k.1
       follows InSlot k = is_spilled fn n all (take i all) s h x (order.below x here) new (order.proper x here) (crowd k)
 

@@ -1,5 +1,5 @@
 -- A scan over the registers in the order in which their intervals begin.
-use Rattle.std.specs.Prelude.{◌≡◌, ◌≢◌, ◌⊎◌, ℕ, suc, ◌+◌, ◌<◌, ◌≤◌, nat_lt, Bool, true, false, List, length, replicate, Option, Some, None, Contains, slice_index_or, slice_set}
+use Rattle.std.specs.Prelude.{◌≡◌, ◌≢◌, ◌⊎◌, ℕ, suc, ◌+◌, ◌<◌, nat_lt, Bool, true, false, List, length, replicate, Option, Some, None, Contains, slice_index_or, slice_set}
 use Rattle.low_ir.specs.declared.places.Place.{Place}
 use Rattle.low_ir.specs.declared.places.Place.TheVariants.{Register as InRegister, Slot}
 use Rattle.low_ir.specs.Code.{Function, Note}
@@ -36,10 +36,13 @@ is_free s p q = is_over p (holder s q)
 abbrev pub AllTaken : Scan → ℕ → Type 0
 AllTaken s p = (q : ℕ) → q < machine_registers → is_free s p q ≡ false
 
--- a machine register that is free, the result register only for what is brief; or where none is that lasts, one that is taken from its
--- holder, or a slot
+-- a machine register that can hold a register: the result register only what is brief
+abbrev pub CanHold : Function ℕ Note → ℕ → Lasting → Type 0
+CanHold fn q x = (q < machine_registers) ⊎ ((q ≡ result_register) × IsBrief fn x)
+
+-- a machine register that is free; or where none is that lasts, one that is taken from its holder, or a slot
 abbrev pub IsChoice : Function ℕ Note → Scan → Lasting → Choice → Type 0
-IsChoice fn s x (Free q) = (q ≤ result_register) × (is_free s x.first q ≡ true) × (q ≡ result_register → IsBrief fn x)
+IsChoice fn s x (Free q) = CanHold fn q x × (is_free s x.first q ≡ true)
 IsChoice fn s x (Instead q) = (q < machine_registers) × AllTaken s x.first
 IsChoice fn s x InSlot = AllTaken s x.first
 
