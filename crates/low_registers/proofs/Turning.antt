@@ -1,14 +1,15 @@
 -- What stands for an instruction among the turns of a function.
-use Rattle.std.proofs.Common.{◌≡◌, ℕ, zero, suc, ◌+◌, ◌≤◌, true, List, [], ◌∷◌, ◌++◌, length, Option, Some, None, refl, sym, ap, ◌∙◌, subst, arith}
+use Rattle.std.proofs.Common.{◌≡◌, ℕ, zero, suc, ◌+◌, ◌<◌, ◌≤◌, true, false, List, [], ◌∷◌, ◌++◌, length, Option, Some, None, refl, sym, ap, ◌∙◌, subst, inl, inr, arith, append_assoc}
 use Rattle.std.specs.Prelude.{if◌then◌else◌, slice_get}
-use Rattle.std.proofs.lemmas.Bool.{eqb-true}
+use Rattle.std.proofs.lemmas.Bool.{cases_eq, eqb-true}
 use Rattle.std.proofs.lemmas.List.{get_or_append_left, get_or-append-add}
 use Rattle.low_ir.specs.Code.{Plain, Instr, Do, Call, End, Block, Function, Note}
-use Rattle.low_ir.specs.Effects.{dest, is_served}
+use Rattle.low_ir.specs.Effects.{dest, is_member, is_served}
 use Rattle.low_ir.specs.Live.{CallAt, IsRest, ServedAt, Spot, place_of}
+use Rattle.low_registers.specs.declared.briefs.Turn.{Turn}
 use Rattle.low_registers.specs.declared.briefs.Turn.TheVariants.{Stays, Comes}
 use Rattle.low_registers.specs.declared.order.Lasting.{Lasting}
-use Rattle.low_registers.specs.Briefs.{IsBrief, blocks_turns, code_turns, instr_turn, is_own, turn_at}
+use Rattle.low_registers.specs.Briefs.{AreOwn, IsBrief, blocks_turns, code_turns, instr_turn, is_own, turn_at}
 use Rattle.low_registers.specs.Masks.{names}
 
 length-code_turns : (is : List (Instr ℕ Note)) → length (code_turns is) ≡ suc (length is)
@@ -60,3 +61,17 @@ module _ (fn : Function ℕ Note) (x : Lasting) (brief : IsBrief fn x) (p : ℕ)
 
   pub served_own : ServedAt fn p d → d ≡ Some x.register
   served_own c = comes_own (spot_turn fn.blocks p (Do c.0) c.1 c.2 c.5 ∙ served_turn c.0 d c.3 c.4)
+
+-- what comes at the places before one, and there
+pub own_to : (turns : List Turn) (x : Lasting) (at : ℕ) → x.last ≤ at → ((p : ℕ) → x.first ≤ p → p < at → is_own x.register (turn_at turns p) ≡ true) → is_own x.register (turn_at turns x.last) ≡ true → AreOwn turns x
+own_to turns x at behind before last p from to = elim (cases_eq p x.last) [
+  | inl same ↦ subst (λ q. is_own x.register (turn_at turns q) ≡ true) (sym same) last
+  | inr other ↦ before p from (omega (arith, behind, to, other))
+]
+
+pub is_brief_by : (fn : Function ℕ Note) (turns : List Turn) (x : Lasting) → turns ≡ blocks_turns fn.blocks → is_member fn.parameters x.register ≡ false → AreOwn turns x → IsBrief fn x
+is_brief_by fn turns x is other own = record { own = subst (λ ts. AreOwn ts x) is own; passed = other }
+
+-- one more block
+pub turns_put : (old new : List Turn) (b : Block ℕ Note) (bs all : List (Block ℕ Note)) → new ≡ old ++ code_turns b.code → old ++ blocks_turns (b ∷ bs) ≡ blocks_turns all → new ++ blocks_turns bs ≡ blocks_turns all
+turns_put old new b bs all put before = ap (λ ts. ts ++ blocks_turns bs) put ∙ (append_assoc old (code_turns b.code) (blocks_turns bs) ∙ before)

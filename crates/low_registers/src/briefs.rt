@@ -1,13 +1,13 @@
 // Registers that can have the result register: while they live, nothing else comes into it.
 ghost use Rattle.std.specs.Prelude.{◌≡◌, ◌++◌, true, map, IfOk, OnOk};
 ghost use Rattle.low_ir.specs.Effects.{is_member};
-ghost use Rattle.low_ir.specs.View.{block_of, function_of, instr_of};
+ghost use Rattle.low_ir.specs.View.{function_of, instr_of};
 ghost use Rattle.low_registers.specs.Briefs.{AreOwn, IsBrief, blocks_turns, code_turns, instr_turn, is_own, turn_at};
 
 use super::masks::names;
 use super::order::Lasting;
 use low_ir::instruction::Instr;
-use low_ir::{Block, Function};
+use low_ir::Function;
 use std::alloc::Global;
 use wcc_base::Memory;
 
@@ -45,11 +45,11 @@ fn put_code(turns: &mut Vec<Turn>, code: &[Instr]) -> Result<(), Memory>
 }
 
 /// What the places of a function's code do.
-pub fn turns(alloc: Global, blocks: &[Block]) -> Result<Vec<Turn>, Memory>
-    ensures { IfOk result (λ turns. turns.items ≡ blocks_turns (map block_of blocks.now)) }
+pub fn turns(alloc: Global, function: &Function) -> Result<Vec<Turn>, Memory>
+    ensures { IfOk result (λ turns. turns.items ≡ blocks_turns (function_of function.now).blocks) }
 {
     let mut turns = Vec::new(alloc);
-    for block in blocks {
+    for block in &function.blocks {
         put_code(&mut turns, &block.code)?;
     }
     Ok(turns)
@@ -64,10 +64,10 @@ fn turn_at(turns: &[Turn], at: usize) -> Turn
     }
 }
 
-fn is_own(register: u32, turn: Turn) -> bool
-    ensures { result ≡ is_own register turn }
+fn is_own(turns: &[Turn], register: u32, at: usize) -> bool
+    ensures { result ≡ is_own register (turn_at turns.now at) }
 {
-    match turn {
+    match turn_at(turns, at) {
         Turn::Stays => true,
         Turn::Comes(into) => names(into, register),
     }
@@ -77,11 +77,11 @@ fn are_own(turns: &[Turn], each: Lasting) -> bool
     ensures { result ≡ true → AreOwn turns.now each }
 {
     for at in each.first..each.last {
-        if !is_own(each.register, turn_at(turns, at)) {
+        if !is_own(turns, each.register, at) {
             return false;
         }
     }
-    is_own(each.register, turn_at(turns, each.last))
+    is_own(turns, each.register, each.last)
 }
 
 fn is_among(registers: &[u32], register: u32) -> bool
@@ -100,5 +100,8 @@ pub fn is_brief(function: &Function, turns: &[Turn], each: Lasting) -> bool
     requires { turns.now ≡ blocks_turns (function_of function.now).blocks }
     ensures { result ≡ true → IsBrief (function_of function.now) each }
 {
-    !is_among(&function.parameters, each.register) && are_own(turns, each)
+    if is_among(&function.parameters, each.register) {
+        return false;
+    }
+    are_own(turns, each)
 }

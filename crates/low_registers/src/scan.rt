@@ -283,10 +283,10 @@ pub fn scan_all(
     ensures scanned { IfOk result (Scanned (function_of function.now) (function_of function.now).size order.now order.now) }
     ensures slots { IfOk result (λ s. s.slots ≤ (function_of function.now).size) }
 {
-    let turns = turns(alloc, &function.blocks)?;
+    let turns = turns(alloc, function)?;
     let mut scan = Scan::new(alloc, function.registers)?;
     for each in order {
-        let brief = is_liked(function, &turns, tastes, *each);
+        let brief = is_liked(function, turns.as_slice(), tastes, *each);
         let choice = scan.choose(*each, tastes, brief);
         scan.follow(choice, *each);
     }

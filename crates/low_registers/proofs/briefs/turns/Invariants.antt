@@ -4,4 +4,4 @@ use Rattle.low_registers.specs.Briefs.{blocks_turns}
 use Rattle.low_registers.proofs.briefs.turns.Given as goal
 
 abbrev pub invariant-loop-block : goal.invariant-loop-block
-invariant-loop-block l = l.turns.items ++ blocks_turns (map block_of (drop l.block-index l.blocks)) ≡ blocks_turns (map block_of l.blocks)
+invariant-loop-block l = l.turns.items ++ blocks_turns (map block_of (drop l.block-index l.function.blocks.items)) ≡ blocks_turns (map block_of l.function.blocks.items)
