@@ -13,7 +13,8 @@ use Rattle.low_ir.specs.Places.{machine_registers, registers_of}
 use Rattle.low_registers.specs.declared.order.Lasting.{Lasting}
 use Rattle.low_registers.specs.Orders.{AreApart, AreInOrder, IsOver}
 use Rattle.low_registers.specs.Scans.{place_at}
-use Rattle.low_registers.specs.Masks.{Sweep, begun, begun_from, blocks_masks, code_masks, code_swept, held_at, held_by, instr_mask, instr_swept, keeps, mask_below, names, unswept}
+use Rattle.low_registers.specs.Briefs.{names}
+use Rattle.low_registers.specs.Masks.{Sweep, begun, begun_from, blocks_masks, code_masks, code_swept, held_at, held_by, instr_mask, instr_swept, keeps, mask_below, unswept}
 use Rattle.low_registers.proofs.Crowding.{before, new, part}
 use Rattle.low_registers.proofs.Masking.{kept}
 use Rattle.low_registers.proofs.Putting.{length-code_masks}

@@ -9,8 +9,7 @@ use Rattle.low_ir.specs.Live.{CallAt, IsRest, ServedAt, Spot, place_of}
 use Rattle.low_registers.specs.declared.briefs.Turn.{Turn}
 use Rattle.low_registers.specs.declared.briefs.Turn.TheVariants.{Stays, Comes}
 use Rattle.low_registers.specs.declared.order.Lasting.{Lasting}
-use Rattle.low_registers.specs.Briefs.{AreOwn, IsBrief, blocks_turns, code_turns, instr_turn, is_own, turn_at}
-use Rattle.low_registers.specs.Masks.{names}
+use Rattle.low_registers.specs.Briefs.{AreOwn, IsBrief, blocks_turns, code_turns, instr_turn, is_own, names, turn_at}
 
 length-code_turns : (is : List (Instr ℕ Note)) → length (code_turns is) ≡ suc (length is)
 length-code_turns [] = refl

@@ -1,11 +1,10 @@
 -- Registers that can have the result register: while they live, nothing else comes into it.
-use Rattle.std.specs.Prelude.{◌≡◌, ℕ, ◌≤◌, Bool, true, false, if◌then◌else◌, List, [], ◌∷◌, ◌++◌, slice_index_or}
+use Rattle.std.specs.Prelude.{◌≡◌, ℕ, ◌≤◌, ◌==◌, Bool, true, false, if◌then◌else◌, List, [], ◌∷◌, ◌++◌, Option, Some, None, slice_index_or}
 use Rattle.low_ir.specs.Code.{Instr, Do, Call, Block, Function, Note}
 use Rattle.low_ir.specs.Effects.{dest, is_member, is_served}
 use Rattle.low_registers.specs.declared.briefs.Turn.{Turn}
 use Rattle.low_registers.specs.declared.briefs.Turn.TheVariants.{Stays, Comes}
 use Rattle.low_registers.specs.declared.order.Lasting.{Lasting}
-use Rattle.low_registers.specs.Masks.{names}
 
 -- a call, and what the environment performs, takes the result register for its own value
 abbrev pub instr_turn : Instr ℕ Note → Turn
@@ -23,6 +22,11 @@ blocks_turns (b ∷ bs) = code_turns b.code ++ blocks_turns bs
 
 abbrev pub turn_at : List Turn → ℕ → Turn
 turn_at turns p = slice_index_or turns p Stays
+
+-- whether a value that goes to a register, if it is wanted, goes to v
+abbrev pub names : Option ℕ → ℕ → Bool
+names None v = false
+names (Some d) v = d == v
 
 abbrev pub is_own : ℕ → Turn → Bool
 is_own v Stays = true
