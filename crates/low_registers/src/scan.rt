@@ -175,7 +175,7 @@ impl Scan {
 
     fn instead(&self, new: Lasting, tastes: &Tastes) -> Choice
         requires { AllTaken self.now new.first }
-        ensures { (fn : Function ℕ Note) → IsChoice fn self.now new result }
+        ensures { (code : Function ℕ Note) → IsChoice code self.now new result }
     {
         match self.cheapest(new, tastes) {
             Some(machine) => Choice::Instead(machine),
@@ -184,10 +184,12 @@ impl Scan {
     }
 
     fn choose(&self, new: Lasting, tastes: &Tastes, brief: bool) -> Choice
-        ensures { (fn : Function ℕ Note) → (brief ≡ true → IsBrief fn new) → IsChoice fn self.now new result }
+        ensures { (code : Function ℕ Note) → (brief ≡ true → IsBrief code new) → IsChoice code self.now new result }
     {
-        if brief && self.is_free(new.first, RESULT) {
-            return Choice::Free(RESULT);
+        if brief {
+            if self.is_free(new.first, RESULT) {
+                return Choice::Free(RESULT);
+            }
         }
         match self.free_for(new, tastes) {
             Some(machine) => Choice::Free(machine),
@@ -269,7 +271,10 @@ fn is_liked(function: &Code, turns: &[Turn], tastes: &Tastes, each: Lasting) -> 
     requires { turns.now ≡ blocks_turns (function_of function.now).blocks }
     ensures { result ≡ true → IsBrief (function_of function.now) each }
 {
-    tastes.likes_result(each.register) && is_brief(function, turns, each)
+    if !tastes.likes_result(each.register) {
+        return false;
+    }
+    is_brief(function, turns, each)
 }
 
 /// Places for the registers of a function, in the order in which their intervals begin.

@@ -1,4 +1,4 @@
-use Rattle.std.proofs.Common.{ap, arith, get_or, subst}
+use Rattle.std.proofs.Common.{ap, arith, get_or, subst, ◌∙◌}
 use Rattle.std.proofs.lemmas.List.{take_all}
 use Rattle.low_ir.specs.View.{function_of}
 use Rattle.low_registers.specs.declared.order.Lasting.{Lasting}
@@ -25,6 +25,9 @@ loop-each-preserved c =
           let few = before.slots in
           omega (arith, e, more, few);
     }
+
+pub is_liked-requires : goal.is_liked-requires
+is_liked-requires c = c.as_slice.ensures.value ∙ c.in_ok-turns.ensures
 
 pub follow-requires : goal.follow-requires
 follow-requires c =
