@@ -6,8 +6,8 @@ ghost use Rattle.low_registers.specs.Briefs.{AreOwn, IsBrief, blocks_turns, code
 
 use super::masks::names;
 use super::order::Lasting;
-use low_ir::instruction::Instr;
 use low_ir::Function;
+use low_ir::instruction::Instr;
 use std::alloc::Global;
 use wcc_base::Memory;
 

@@ -1,8 +1,8 @@
 // Which registers are best in the result register. Nothing is proved of it: whoever may not have it gets another one.
 use super::order::Lasting;
 use super::tastes::{Tastes, worths};
-use low_ir::Function;
 use low_ir::instruction::{End, Instr, Operand};
+use low_ir::{Block, Function};
 use std::alloc::Global;
 use wcc_base::Memory;
 
@@ -107,32 +107,42 @@ impl Uses {
         }
     }
 
-    fn new(alloc: Global, function: &Function) -> Result<Uses, Memory> {
-        let registers = function.registers as usize;
-        let mut uses = Uses {
+    /// Nothing is known yet.
+    fn empty(alloc: Global, registers: usize) -> Result<Uses, Memory> {
+        Ok(Uses {
             saves: vec![in alloc; 0u64; registers]?,
             comes: vec![in alloc; 0u32; registers]?,
             spoils: vec![in alloc; 0u32; 1]?,
             passed: vec![in alloc; false; registers]?,
             copies: Vec::new(alloc),
-        };
+        })
+    }
+
+    /// A block, before which so many instructions take the result register; answers how many do before the next one.
+    fn read_block(&mut self, block: &Block, worth: u64, before: u32) -> Result<u32, Memory> {
+        let mut spoils = before;
+        for instr in &block.code {
+            if self.read(instr, worth)? {
+                spoils = spoils.wrapping_add(1);
+            }
+            self.spoils.push(spoils)?;
+        }
+        if let End::Return { value } = block.end {
+            self.go(value, worth);
+        }
+        self.spoils.push(spoils)?;
+        Ok(spoils)
+    }
+
+    fn new(alloc: Global, function: &Function) -> Result<Uses, Memory> {
+        let mut uses = Uses::empty(alloc, function.registers as usize)?;
         for register in &function.parameters {
             set(&mut uses.passed, *register, true);
         }
         let worths = worths(alloc, function)?;
         let mut spoils = 0u32;
         for (number, block) in function.blocks.iter().enumerate() {
-            let worth = worth_in(&worths, number);
-            for instr in &block.code {
-                if uses.read(instr, worth)? {
-                    spoils = spoils.wrapping_add(1);
-                }
-                uses.spoils.push(spoils)?;
-            }
-            if let End::Return { value } = block.end {
-                uses.go(value, worth);
-            }
-            uses.spoils.push(spoils)?;
+            spoils = uses.read_block(block, worth_in(&worths, number), spoils)?;
         }
         Ok(uses)
     }
@@ -190,6 +200,56 @@ fn chosen(
     Ok(chosen)
 }
 
+/// Those of some intervals that may have the result register.
+fn able(alloc: Global, order: &[Lasting], uses: &Uses) -> Result<Vec<Lasting>, Memory> {
+    let mut able = Vec::new(alloc);
+    for each in order {
+        if uses.may(*each) {
+            able.push(*each)?;
+        }
+    }
+    Ok(able)
+}
+
+/// How much a register is worth there by itself.
+fn own_weight(uses: &Uses, tastes: &Tastes, register: u32) -> u64 {
+    let saves = weight(&uses.saves, register).saturating_mul(SCALE);
+    if tastes.is_plain(register) {
+        saves.saturating_add(1)
+    } else {
+        saves
+    }
+}
+
+/// By register, how much it is worth there, where those that are picked are there.
+fn weights(
+    alloc: Global,
+    uses: &Uses,
+    tastes: &Tastes,
+    able: &[Lasting],
+    picked: &[bool],
+) -> Result<Vec<u64>, Memory> {
+    let mut weights = vec![in alloc; 0u64; picked.len()]?;
+    for each in able {
+        add(
+            &mut weights,
+            each.register,
+            own_weight(uses, tastes, each.register),
+        );
+    }
+    for copy in &uses.copies {
+        let (into, of, worth) = *copy;
+        let saves = worth.saturating_mul(SCALE);
+        if is_set(picked, into) {
+            add(&mut weights, of, saves);
+        }
+        if is_set(picked, of) {
+            add(&mut weights, into, saves);
+        }
+    }
+    Ok(weights)
+}
+
 /// By register, whether it is best in the result register.
 pub fn in_result(
     alloc: Global,
@@ -199,32 +259,11 @@ pub fn in_result(
 ) -> Result<Vec<bool>, Memory> {
     let registers = function.registers as usize;
     let uses = Uses::new(alloc, function)?;
-    let mut left = Vec::new(alloc);
-    for each in order {
-        if uses.may(*each) {
-            left.push(*each)?;
-        }
-    }
+    let able = able(alloc, order, &uses)?;
     let mut picked = vec![in alloc; false; registers]?;
     for _ in 0..ROUNDS {
-        let mut weights = vec![in alloc; 0u64; registers]?;
-        for each in &left {
-            let saves = weight(&uses.saves, each.register).saturating_mul(SCALE);
-            add(&mut weights, each.register, saves);
-            if tastes.is_plain(each.register) {
-                add(&mut weights, each.register, 1);
-            }
-        }
-        for copy in &uses.copies {
-            let (into, of, worth) = *copy;
-            if is_set(&picked, into) {
-                add(&mut weights, of, worth.saturating_mul(SCALE));
-            }
-            if is_set(&picked, of) {
-                add(&mut weights, into, worth.saturating_mul(SCALE));
-            }
-        }
-        picked = chosen(alloc, left.as_slice(), &weights, registers)?;
+        let weights = weights(alloc, &uses, tastes, able.as_slice(), picked.as_slice())?;
+        picked = chosen(alloc, able.as_slice(), weights.as_slice(), registers)?;
     }
     Ok(picked)
 }
