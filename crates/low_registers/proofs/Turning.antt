@@ -18,8 +18,11 @@ length-code_turns (i ∷ is) = ap suc (length-code_turns is)
 heads : (i j : Instr ℕ Note) (is js : List (Instr ℕ Note)) → i ∷ is ≡ j ∷ js → i ≡ j
 heads i j is js e = cc
 
+nothing_left : (i : Instr ℕ Note) (is : List (Instr ℕ Note)) → [] ≡ i ∷ is → ⊥
+nothing_left i is e = cc
+
 code_turn : (code is : List (Instr ℕ Note)) (i : Instr ℕ Note) (k : ℕ) → IsRest code k (i ∷ is) → (k ≤ length code) × (turn_at (code_turns code) k ≡ instr_turn i)
-code_turn [] is i zero r = cc
+code_turn [] is i zero r = absurd (nothing_left i is r)
 code_turn (j ∷ code) is i zero r = (omega arith, ap instr_turn (heads j i code is r))
 code_turn [] is i (suc k) r = absurd r
 code_turn (j ∷ code) is i (suc k) r = let h = code_turn code is i k r in (let a = h.0 in omega (arith, a), h.1)
@@ -30,7 +33,10 @@ block_turn (y ∷ bs) zero x e k few =
     let same : y ≡ x = cc in
     let l = length-code_turns y.code in
     let less : k ≤ length y.code = subst (λ (z : Block ℕ Note). k ≤ length z.code) (sym same) few in
-    get_or_append_left (code_turns y.code) (blocks_turns bs) Stays k (omega (arith, l, less)) ∙ ap (λ (z : Block ℕ Note). turn_at (code_turns z.code) k) same
+    let first : 0 + k ≡ k = omega arith in
+    ap (turn_at (code_turns y.code ++ blocks_turns bs)) first
+    ∙ (get_or_append_left (code_turns y.code) (blocks_turns bs) Stays k (omega (arith, l, less))
+    ∙ ap (λ (z : Block ℕ Note). turn_at (code_turns z.code) k) same)
 block_turn (y ∷ bs) (suc b) x e k few =
     let l = length-code_turns y.code in
     let at : suc (length y.code) + place_of bs b + k ≡ length (code_turns y.code) + (place_of bs b + k) = omega (arith, l) in
