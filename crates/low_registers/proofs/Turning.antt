@@ -9,7 +9,7 @@ use Rattle.low_ir.specs.Live.{CallAt, IsRest, ServedAt, Spot, place_of}
 use Rattle.low_registers.specs.declared.briefs.Turn.{Turn}
 use Rattle.low_registers.specs.declared.briefs.Turn.TheVariants.{Stays, Comes}
 use Rattle.low_registers.specs.declared.order.Lasting.{Lasting}
-use Rattle.low_registers.specs.Briefs.{AreOwn, IsBrief, blocks_turns, code_turns, instr_turn, is_own, names, turn_at}
+use Rattle.low_registers.specs.Briefs.{AreOwn, AreOwnBefore, IsBrief, blocks_turns, code_turns, instr_turn, is_own, names, turn_at}
 
 length-code_turns : (is : List (Instr ℕ Note)) → length (code_turns is) ≡ suc (length is)
 length-code_turns [] = refl
@@ -68,11 +68,14 @@ module _ (fn : Function ℕ Note) (x : Lasting) (brief : IsBrief fn x) (p : ℕ)
   served_own c = comes_own (spot_turn fn.blocks p (Do c.0) c.1 c.2 c.5 ∙ served_turn c.0 d c.3 c.4)
 
 -- what comes at the places before one, and there
-pub own_to : (turns : List Turn) (x : Lasting) (at : ℕ) → x.last ≤ at → ((p : ℕ) → x.first ≤ p → p < at → is_own x.register (turn_at turns p) ≡ true) → is_own x.register (turn_at turns x.last) ≡ true → AreOwn turns x
-own_to turns x at behind before last p from to = elim (cases_eq p x.last) [
-  | inl same ↦ subst (λ q. is_own x.register (turn_at turns q) ≡ true) (sym same) last
-  | inr other ↦ before p from (omega (arith, behind, to, other))
+pub own_next : (turns : List Turn) (x : Lasting) (n : ℕ) → AreOwnBefore turns x n → is_own x.register (turn_at turns n) ≡ true → AreOwnBefore turns x (n + 1)
+own_next turns x n before here p from to = elim (cases_eq p n) [
+  | inl same ↦ subst (λ q. is_own x.register (turn_at turns q) ≡ true) (sym same) here
+  | inr other ↦ before p from (omega (arith, to, other))
 ]
+
+pub own_to : (turns : List Turn) (x : Lasting) → AreOwnBefore turns x x.last → is_own x.register (turn_at turns x.last) ≡ true → AreOwn turns x
+own_to turns x before here p from to = own_next turns x x.last before here p from (omega (arith, to))
 
 pub is_brief_by : (fn : Function ℕ Note) (turns : List Turn) (x : Lasting) → turns ≡ blocks_turns fn.blocks → is_member fn.parameters x.register ≡ false → AreOwn turns x → IsBrief fn x
 is_brief_by fn turns x is other own = record { own = subst (λ ts. AreOwn ts x) is own; passed = other }

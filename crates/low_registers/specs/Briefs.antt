@@ -1,5 +1,5 @@
 -- Registers that can have the result register: while they live, nothing else comes into it.
-use Rattle.std.specs.Prelude.{◌≡◌, ℕ, ◌≤◌, ◌==◌, Bool, true, false, if◌then◌else◌, List, [], ◌∷◌, ◌++◌, Option, Some, None, slice_index_or}
+use Rattle.std.specs.Prelude.{◌≡◌, ℕ, ◌<◌, ◌≤◌, ◌==◌, Bool, true, false, if◌then◌else◌, List, [], ◌∷◌, ◌++◌, Option, Some, None, slice_index_or}
 use Rattle.low_ir.specs.Code.{Instr, Do, Call, Block, Function, Note}
 use Rattle.low_ir.specs.Effects.{dest, is_member, is_served}
 use Rattle.low_registers.specs.declared.briefs.Turn.{Turn}
@@ -32,7 +32,11 @@ abbrev pub is_own : ℕ → Turn → Bool
 is_own v Stays = true
 is_own v (Comes d) = names d v
 
--- what comes into the result register in the interval of x is a value of its own
+-- what comes into the result register in the interval of x, and before the place n, is a value of its own
+abbrev pub AreOwnBefore : List Turn → Lasting → ℕ → Type 0
+AreOwnBefore turns x n = (p : ℕ) → x.first ≤ p → p < n → is_own x.register (turn_at turns p) ≡ true
+
+-- all that comes into it there is
 abbrev pub AreOwn : List Turn → Lasting → Type 0
 AreOwn turns x = (p : ℕ) → x.first ≤ p → p ≤ x.last → is_own x.register (turn_at turns p) ≡ true
 

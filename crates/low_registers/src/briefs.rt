@@ -2,7 +2,7 @@
 ghost use Rattle.std.specs.Prelude.{◌≡◌, ◌++◌, true, map, IfOk, OnOk};
 ghost use Rattle.low_ir.specs.Effects.{is_member};
 ghost use Rattle.low_ir.specs.View.{function_of, instr_of};
-ghost use Rattle.low_registers.specs.Briefs.{AreOwn, IsBrief, blocks_turns, code_turns, instr_turn, is_own, turn_at};
+ghost use Rattle.low_registers.specs.Briefs.{AreOwn, AreOwnBefore, IsBrief, blocks_turns, code_turns, instr_turn, is_own, turn_at};
 
 use super::masks::names;
 use super::order::Lasting;
@@ -73,15 +73,24 @@ fn is_own(turns: &[Turn], register: u32, at: usize) -> bool
     }
 }
 
-fn are_own(turns: &[Turn], each: Lasting) -> bool
-    ensures { result ≡ true → AreOwn turns.now each }
+fn are_own_before(turns: &[Turn], each: Lasting) -> bool
+    ensures { result ≡ true → AreOwnBefore turns.now each each.last }
 {
     for at in each.first..each.last {
         if !is_own(turns, each.register, at) {
             return false;
         }
     }
-    is_own(turns, each.register, each.last)
+    true
+}
+
+fn are_own(turns: &[Turn], each: Lasting) -> bool
+    ensures { result ≡ true → AreOwn turns.now each }
+{
+    if !is_own(turns, each.register, each.last) {
+        return false;
+    }
+    are_own_before(turns, each)
 }
 
 fn is_among(registers: &[u32], register: u32) -> bool
