@@ -1,7 +1,7 @@
 -- Distances and quotients.
 use Rattle.std.proofs.Common.{◌≡◌, refl, ℕ, ◌+◌, ◌/◌, ◌^◌, ◌<◌, ◌≤◌, ℤ, pos, negsuc, ◌<ℤ◌, Bool, true, false, arith, div-le_self, FitsSigned, w64}
 use Rattle.std.proofs.lemmas.Int.{ints}
-use Rattle.facts_counting.specs.Counting.{turns_over}
+use Rattle.facts_loops.specs.Counting.{turns_over}
 
 pub room : (a s : ℕ) → a < 2 ^ 63 → a / s + 1 < 2 ^ 64
 room a s small = let le : a / s ≤ a = div-le_self a s in omega (arith, le, small)

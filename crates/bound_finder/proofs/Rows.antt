@@ -9,8 +9,8 @@ use Rattle.types_tree.specs.declared.expression.Expr as exprs
 use Rattle.types_tree.specs.declared.statement.Item as items
 use Rattle.types_tree.specs.declared.statement.Statement as statements
 use Rattle.types_tree.specs.declared.variable.Variable.{Variable}
-use Rattle.facts_counting.specs.Changes.{expr_changes, exprs_changes, items_changes, statement_changes}
-use Rattle.facts_counting.specs.Loops.{items_loops, statement_loops}
+use Rattle.facts_loops.specs.Changes.{expr_changes, exprs_changes, items_changes, statement_changes}
+use Rattle.facts_loops.specs.CountingLoops.{items_loops, statement_loops}
 
 pub call_changes : (object : ℕ) (callee : Callee) (v : Vec exprs.Expr Global) (at : ℕ) → expr_changes object (expr_of (exprs.Call callee v at)) ≡ exprs_changes object (exprs_of v.items)
 call_changes object callee v at = ap (expr_changes object) (call_view callee v at)

@@ -4,9 +4,9 @@ use Rattle.types_tree.specs.View.{declaration_of, statement_of}
 use Rattle.types_tree.specs.declared.statement.Item.{Item}
 use Rattle.types_tree.specs.declared.statement.Item.TheVariants.{Declaration, Statement, Restriction, Label}
 use Rattle.types_tree.specs.declared.variable.Variable.{Variable}
-use Rattle.facts_counting.specs.Changes.{declaration_changes, statement_changes}
-use Rattle.facts_counting.specs.Loops.{statement_loops}
-use Rattle.facts_counting.specs.declared.form.LoopForm.{LoopForm}
+use Rattle.facts_loops.specs.Changes.{declaration_changes, statement_changes}
+use Rattle.facts_loops.specs.CountingLoops.{statement_loops}
+use Rattle.facts_loops.specs.declared.form.LoopForm.{LoopForm}
 
 abbrev pub item_changes : (object : ℕ) → Item → Bool
 item_changes object (Declaration declaration) = declaration_changes object (declaration_of declaration)

@@ -2,7 +2,7 @@
 ghost use Rattle.std.specs.Prelude.{◌≡◌, ◌||◌, map};
 ghost use Rattle.c_tree.specs.Named.{map_option};
 ghost use Rattle.types_tree.specs.View.{declaration_of, expr_of, exprs_of, initial_of, items_of, object_of, place_of, start_of, statement_of};
-ghost use Rattle.facts_counting.specs.Changes.{declaration_changes, expr_changes, exprs_changes, initial_changes, items_changes, object_changes, objects_changes, option_changes, place_changes, start_changes, statement_changes, target_changes};
+ghost use Rattle.facts_loops.specs.Changes.{declaration_changes, expr_changes, exprs_changes, initial_changes, items_changes, object_changes, objects_changes, option_changes, place_changes, start_changes, statement_changes, target_changes};
 ghost use Rattle.bound_finder.specs.Items.{item_changes};
 
 use types_tree::declaration::{Declaration, Initial, Object};

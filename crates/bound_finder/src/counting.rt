@@ -2,13 +2,13 @@
 ghost use Rattle.std.specs.Prelude.{◌≡◌, ◌≤◌, ◌^◌, IfSome, Some, map, nat_lt, slice_get};
 ghost use Rattle.c_tree.specs.Named.{map_option};
 ghost use Rattle.types_tree.specs.View.{declaration_of, expr_of, initial_of, object_of, place_of, start_of, statement_of};
-ghost use Rattle.facts_counting.specs.Counting.{adds, assigned_object, assigned_word, compared, counter_of, counting, declared_object, declared_word, first_word, goes, initial_word, int_constant, is_converted, is_counter, is_limit, is_local, is_scalar, limit_by, limit_of, number_of, on_some, only, only_if, positive, reads, same_object, scalar_of, set_object, step_of, stepped_by, steps_up, word_of};
+ghost use Rattle.facts_loops.specs.Counting.{adds, assigned_object, assigned_word, compared, counter_of, counting, declared_object, declared_word, first_word, goes, initial_word, int_constant, is_converted, is_counter, is_limit, is_local, is_scalar, limit_by, limit_of, number_of, on_some, only, only_if, positive, reads, same_object, scalar_of, set_object, step_of, stepped_by, steps_up, word_of};
 
 use super::changing::statement_changes;
 use super::turns::{bounds_by, is_up, turns};
 use c_tree::expression::PostfixOperator;
-use facts_counting::Limit;
 use facts_definitions::Bounds;
+use facts_loops::Limit;
 use facts_most::{is_constant, leaves, word};
 use types_tree::declaration::{Declaration, Initial, Object};
 use types_tree::expression::{Expr, Place};

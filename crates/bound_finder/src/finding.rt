@@ -3,12 +3,12 @@ ghost use Rattle.std.specs.Prelude.{◌≡◌, ◌++◌, ◌∷◌, [], IfOk, On
 ghost use Rattle.facts_definitions.specs.FlowFacts.{and_one};
 ghost use Rattle.types_tree.specs.View.{function_of, items_of, program_of, statement_of};
 ghost use Rattle.bound_finder.specs.Items.{item_loops};
-ghost use Rattle.facts_counting.specs.Loops.{derived_among, derived_by, derived_of, functions_loops, items_loops, loops_of, statement_loops, unless_written};
+ghost use Rattle.facts_loops.specs.CountingLoops.{derived_among, derived_by, derived_of, functions_loops, items_loops, loops_of, statement_loops, unless_written};
 
 use super::counting::counting;
 use c_tree::Pragma;
-use facts_counting::LoopForm;
 use facts_definitions::{Bounds, Derived};
+use facts_loops::LoopForm;
 use std::alloc::{AllocError, Global};
 use types_tree::external::Function;
 use types_tree::program::Program;

@@ -1,10 +1,10 @@
 // How often a loop turns that counts from a word to a limit.
 ghost use Rattle.std.specs.Prelude.{◌≡◌, ◌≤◌, ◌<◌, ◌^◌, ◌≤ℤ◌, pos};
 ghost use Rattle.wcc_base.specs.Words.{signed_word};
-ghost use Rattle.facts_counting.specs.Counting.{bounds_by, distance, is_strict, is_up, least_turns, turns, turns_over};
+ghost use Rattle.facts_loops.specs.Counting.{bounds_by, distance, is_strict, is_up, least_turns, turns, turns_over};
 
-use facts_counting::Limit;
 use facts_definitions::Bounds;
+use facts_loops::Limit;
 use types_value::Operator;
 use wcc_base::sign_extend;
 

@@ -15,8 +15,7 @@ use crate::scan::{blanks_end, comment_end, line_end, number_end, quoted_end, wor
 use crate::texts::{first_size, has, is_on_line, is_one, is_span, stands};
 use crate::words::{PREFIXES, PUNCTUATORS, lone_sign, sign_kind, word_kind};
 use c_tree::token::TokenKind;
-use parse_constant::{is_character, is_integer};
-use parse_pragma::{behind_blanks, directive_text, read_operator};
+use parse_tokens::{behind_blanks, directive_text, is_character, is_integer, read_operator};
 
 /// Whether a line begins behind blanks.
 fn fresh_behind_blanks(source: &[u8], at: usize, end: usize, fresh: bool) -> bool

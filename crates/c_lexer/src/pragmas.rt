@@ -4,7 +4,7 @@ ghost use Rattle.c_lexer.specs.Kinds.{pragma_kind};
 
 use crate::pieces::Kind;
 use c_tree::token::TokenKind;
-use parse_pragma::first_word;
+use parse_tokens::first_word;
 
 /// What a pragma with this text is.
 pub fn pragma_kind(text: &[u8]) -> Kind

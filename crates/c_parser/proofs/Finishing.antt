@@ -20,7 +20,7 @@ use Rattle.c_tree.proofs.NamedForms.{externals_formed, first_named}
 use Rattle.c_tree.proofs.NamedSizes.{size_externals_named}
 use Rattle.parse_begun.specs.declared.begun.State as states
 use Rattle.parse_begun.specs.View.{Names, state_of}
-use Rattle.parse_lexeme.specs.Lexemes.{word_said}
+use Rattle.parse_words.specs.Lexemes.{word_said}
 use Rattle.parse_grammar.specs.Begun.{Bytes, State, File}
 use Rattle.parse_grammar.specs.Depth.{deep}
 use Rattle.parse_grammar.proofs.Nodes.{nodes_unit}

@@ -17,10 +17,10 @@ use Rattle.c_tree.specs.Tree.{Row, External}
 use Rattle.c_tree.proofs.Holding.{EachSpoken, Meets, holds_externals, marks_agree, said_agree}
 use Rattle.c_tree.proofs.Names.{All-from_EachName, EachName, with_names-Contains}
 use Rattle.parse_grammar.specs.Begun.{Bytes}
-use Rattle.parse_lexeme.specs.declared.lexeme.Lexeme as lexeme
-use Rattle.parse_lexeme.specs.declared.lexeme.Lexeme.TheVariants as variants
-use Rattle.parse_lexeme.specs.declared.lexeme.Word.{Word}
-use Rattle.parse_lexeme.specs.Lexemes.{lexeme_of, word_said}
+use Rattle.parse_words.specs.declared.lexeme.Lexeme as lexeme
+use Rattle.parse_words.specs.declared.lexeme.Lexeme.TheVariants as variants
+use Rattle.parse_words.specs.declared.lexeme.Word.{Word}
+use Rattle.parse_words.specs.Lexemes.{lexeme_of, word_said}
 use Rattle.parse_words.specs.Words.{AreNumbered, IsNumbered}
 
 -- the number of a name as its bytes

@@ -7,8 +7,8 @@ use Rattle.parse_grammar.specs.Begun.{State}
 use Rattle.parse_grammar.specs.Depth.{deep}
 use Rattle.parse_grammar.specs.Law.{run}
 use Rattle.parse_grammar.specs.Machine.{Goes, step}
-use Rattle.parse_lexeme.specs.declared.lexeme.Word.{Word}
-use Rattle.parse_lexeme.specs.Lexemes.{word_said}
+use Rattle.parse_words.specs.declared.lexeme.Word.{Word}
+use Rattle.parse_words.specs.Lexemes.{word_said}
 use Rattle.c_parser.proofs.Reading.{run_push, stopped}
 use Rattle.c_parser.specs.declared.fault.ParseFault.{ParseFault}
 use Rattle.c_parser.specs.Refused.{Halts, Stops}

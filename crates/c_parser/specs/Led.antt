@@ -7,8 +7,8 @@ use Rattle.parse_begun.specs.View.{Names, state_of}
 use Rattle.parse_grammar.specs.Begun.{Bytes}
 use Rattle.parse_grammar.specs.Law.{run}
 use Rattle.parse_grammar.specs.Machine.{Goes}
-use Rattle.parse_lexeme.specs.declared.lexeme.Word.{Word}
-use Rattle.parse_lexeme.specs.Lexemes.{word_said}
+use Rattle.parse_words.specs.declared.lexeme.Word.{Word}
+use Rattle.parse_words.specs.Lexemes.{word_said}
 use Rattle.parse_words.specs.Words.{AreNumbered}
 
 -- whatever the names are, these words lead to the state; with these names they say what the tokens say

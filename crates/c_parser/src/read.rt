@@ -4,7 +4,7 @@ ghost use Rattle.parse_begun.specs.View.{Names, state_of};
 ghost use Rattle.parse_grammar.specs.Law.{run};
 ghost use Rattle.parse_grammar.specs.Machine.{Goes, step};
 ghost use Rattle.c_parser.specs.Refused.{Halts, Stops};
-ghost use Rattle.parse_lexeme.specs.Lexemes.{word_said};
+ghost use Rattle.parse_words.specs.Lexemes.{word_said};
 
 use super::fault::ParseFault;
 use super::step::step;
@@ -12,7 +12,7 @@ use parse_begun::begun::State;
 use parse_begun::list::no_externals;
 use parse_begun::refusal::Refusal;
 use parse_depth::is_shallow;
-use parse_lexeme::Word;
+use parse_words::Word;
 use std::alloc::Global;
 
 /// The state behind one word more.

@@ -3,7 +3,7 @@ ghost use Rattle.parse_begun.specs.Depths.{state_depth};
 ghost use Rattle.parse_begun.specs.declared.begun.State.TheVariants.{OfDeclarator, OfHead, OfOperand, OfProto, OfReceiver, OfStatement};
 ghost use Rattle.parse_begun.specs.View.{Gives, Names, state_of};
 ghost use Rattle.parse_grammar.specs.Machine.{step};
-ghost use Rattle.parse_lexeme.specs.Lexemes.{word_said};
+ghost use Rattle.parse_words.specs.Lexemes.{word_said};
 
 use parse_begun::begun::{
     AtDeclarator, AtHead, AtOperand, AtProto, AtReceiver, AtStatement, Declarator, Frames, Head,
@@ -17,7 +17,6 @@ use parse_declaration::object::{
 use parse_declaration::parameter::{begin_param, begin_params, end_params, go_on_param};
 use parse_declaration::specifiers::{begin_further, go_on_specified};
 use parse_ending::behind::{begin_arguments, begin_bracket, behind_operand, go_on_type};
-use parse_lexeme::Word;
 use parse_operand::operand::begin_operand;
 use parse_statement::begins::{begin_any_statement, begin_bounded_loop};
 use parse_statement::heads::{
@@ -26,6 +25,7 @@ use parse_statement::heads::{
 };
 use parse_statement::items::{end_default, go_on_among, go_on_at_file_level, open_choice};
 use parse_statement::settle::settle_statement;
+use parse_words::Word;
 use std::alloc::Global;
 
 /// A token where an operand is wanted or stands, or within it.

@@ -20,7 +20,7 @@ use Rattle.claims_bounds.specs.Flows.{HasFlows}
 use Rattle.claims_bounds.proofs.FlowLemmas.{flows_keep_bounds}
 use Rattle.claims_definition.proofs.Fitting.{claims_fit}
 use Rattle.path_places.specs.Reached.{AreFilled}
-use Rattle.path_counts.specs.Laws.{HasBounds}
+use Rattle.path_flows.specs.CountLaws.{HasBounds}
 use Rattle.claims_bounds.specs.Bounds.{LaidCanBound}
 use Rattle.claims_bounds.proofs.LoopLemmas.{bounds, backs_apart}
 

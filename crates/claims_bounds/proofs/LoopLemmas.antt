@@ -26,7 +26,7 @@ use Rattle.claims_bounds.specs.Flows.{HasFlows}
 use Rattle.claims_definition.specs.Shapes.{AreShaped}
 use Rattle.path_fit.specs.Loops.{HeadsOwnLoop}
 use Rattle.path_places.proofs.FunctionLemmas.{is_back_at}
-use Rattle.path_counts.specs.Laws.{HasBounds}
+use Rattle.path_flows.specs.CountLaws.{HasBounds}
 use Rattle.claims_bounds.specs.Bounds.{IsBounded}
 use Rattle.low_ir.specs.Turns.{CanTurn}
 

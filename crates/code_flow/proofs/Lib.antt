@@ -6,3 +6,5 @@ pub mod CrossLemmas
 pub mod LeastLemmas
 pub mod CollectLemmas
 pub mod SystemLemmas
+pub mod Ranks
+pub mod Few

@@ -13,13 +13,20 @@
 //! words of flash and scratchpad, beside what it finds; its steps are linear in the reached
 //! instructions but for the sorting of exits and of addresses where no code can stand.
 //!
-//! The crate knows nothing of files, certificates or of how claims were found.
+//! Proved too, by a call with an empty body: where the code of an image ends behind so many words of
+//! flash and of the scratchpad, a certificate that is accepted for the image's system has no more
+//! potentials than these words, and its flow lists no more than two moves of each
+//! ([`certificates_are_few`], `specs/Sizes`): instructions stand in code alone, and an address has two
+//! moves at most.
+//!
+//! The crate knows nothing of files, nor of how certificates and claims were found.
 #![tactic(auto)]
 
 mod collect;
 mod faults;
 mod finding;
 mod flaws;
+mod laws;
 mod places;
 mod sorted;
 mod walk;
@@ -30,3 +37,4 @@ pub use code_flow_system::{
     Span, System, Within,
 };
 pub use finding::{CodeFault, system};
+pub use laws::certificates_are_few;

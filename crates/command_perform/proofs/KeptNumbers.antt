@@ -1,6 +1,6 @@
 -- The source of each number is kept on the empty input.
 use Rattle.std.proofs.Common.{zero, suc, arith}
-use Rattle.command_numbered_law.proofs.Sources.{numbered_done}
+use Rattle.command_numbered.proofs.Sources.{numbered_done}
 use Rattle.command_perform.specs.Numbered.{NumbersAreKept}
 
 pub numbers_are_kept : NumbersAreKept

@@ -18,10 +18,10 @@ use Rattle.response_analysis.specs.Tasks.{period_of}
 use Rattle.response_analysis.specs.Equation.{AreResponses}
 use Rattle.response_analysis.specs.Schedule.{Job, AreJobs, ApartFrom}
 use Rattle.response_analysis.specs.Ends.{EndInTime}
-use Rattle.response_tasks.specs.declared.entry.Entry.{Entry}
-use Rattle.response_tasks.specs.Lists.{IsList}
-use Rattle.response_tasks.proofs.OneList.{one_list}
-use Rattle.response_tasks.proofs.OneList.{never_fails as list_never_fails}
+use Rattle.response_time.specs.declared.entry.Entry.{Entry}
+use Rattle.response_time.specs.Lists.{IsList}
+use Rattle.response_time.proofs.OneList.{one_list}
+use Rattle.response_time.proofs.OneList.{never_fails as list_never_fails}
 use Rattle.command_words.specs.Requests.{RespondRequest}
 use Rattle.command_perform.specs.Words.{Respond}
 use Rattle.command_perform.specs.Outputs.{Outputs}

@@ -19,11 +19,11 @@ use Rattle.response_analysis.specs.declared.task.Task.{Task}
 use Rattle.response_analysis.specs.Tasks.{IsTask, AreTasks}
 use Rattle.response_analysis.specs.Equation.{AreLeastResponses, IsFirstLate}
 use Rattle.response_analysis.specs.Ends.{EndInTime, AreReached}
-use Rattle.response_tasks.specs.declared.entry.Entry.{Entry}
-use Rattle.response_tasks.specs.declared.fault.ListFault.{ListFault}
-use Rattle.response_tasks.specs.declared.fault.ListFault.TheVariants.{Line, Number, Memory}
-use Rattle.response_tasks.specs.Entries.{are_visible, is_file, IsEntry}
-use Rattle.response_tasks.specs.Lists.{IsList, IsFault}
+use Rattle.response_time.specs.declared.entry.Entry.{Entry}
+use Rattle.response_time.specs.declared.fault.ListFault.{ListFault}
+use Rattle.response_time.specs.declared.fault.ListFault.TheVariants.{Line, Number, Memory}
+use Rattle.response_time.specs.Entries.{are_visible, is_file, IsEntry}
+use Rattle.response_time.specs.Lists.{IsList, IsFault}
 use Rattle.command_words.specs.Requests.{RespondRequest}
 use Rattle.command_perform.specs.declared.make.Made.{Made}
 use Rattle.command_perform.specs.Words.{Respond}

@@ -16,10 +16,10 @@ use Rattle.response_analysis.specs.declared.task.Task.{Task}
 use Rattle.response_analysis.specs.Equation.{AreResponses, AreLeastResponses, IsFirstLate}
 use Rattle.response_analysis.specs.Schedule.{Job, IsFinishedAt, ApartFrom}
 use Rattle.response_analysis.specs.Ends.{EndInTime, AreReached}
-use Rattle.response_tasks.specs.declared.entry.Entry.{Entry}
-use Rattle.response_tasks.specs.declared.fault.ListFault.{ListFault}
-use Rattle.response_tasks.specs.declared.fault.ListFault.TheVariants.{Line, Number, Memory}
-use Rattle.response_tasks.specs.Lists.{IsList, FailsAt}
+use Rattle.response_time.specs.declared.entry.Entry.{Entry}
+use Rattle.response_time.specs.declared.fault.ListFault.{ListFault}
+use Rattle.response_time.specs.declared.fault.ListFault.TheVariants.{Line, Number, Memory}
+use Rattle.response_time.specs.Lists.{IsList, FailsAt}
 use Rattle.command_words.specs.Requests.{RespondRequest}
 use Rattle.command_perform.specs.Lines.{response_line, late_line}
 use Rattle.command_perform.specs.Outputs.{Outputs}

@@ -5,7 +5,7 @@ use Rattle.wcc_base.specs.declared.limits.Bound.{Bound}
 use Rattle.wcc_base.specs.declared.status.Status.{Status}
 use Rattle.rv_core.specs.Table.{Table}
 use Rattle.response_analysis.specs.declared.task.Task.{Task}
-use Rattle.response_tasks.specs.declared.entry.Entry.{Entry}
+use Rattle.response_time.specs.declared.entry.Entry.{Entry}
 use Rattle.command_perform.specs.Gathering.{Overlong}
 use Rattle.command_perform.specs.Finishing.{NoneFailed}
 use Rattle.command_perform.specs.Responding.{wanted_task, AreTasksOf, RefusesTask, RefusesFirst, OverlongFirst, RefusesListed, OverlongListed}

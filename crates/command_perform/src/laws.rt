@@ -17,7 +17,7 @@ ghost use Rattle.command_perform.specs.Gathering.{Fit, contents_of};
 ghost use Rattle.command_perform.specs.Commands.{wanted_of, IsOfSource, CanAccept, CanExitRun};
 ghost use Rattle.response_analysis.specs.declared.task.Task.{Task};
 ghost use Rattle.response_analysis.specs.Ends.{EndInTime};
-ghost use Rattle.response_tasks.specs.declared.entry.Entry.{Entry};
+ghost use Rattle.response_time.specs.declared.entry.Entry.{Entry};
 ghost use Rattle.command_perform.specs.Reporting.{CanSummarize};
 ghost use Rattle.command_perform.specs.Responding.{AreTasksOf, CanRespond, RunsEndInTime};
 ghost use Rattle.command_perform.specs.Promises.{CanEnd};

@@ -4,8 +4,8 @@ ghost use Rattle.std.specs.Prelude.{◌≡◌, ◌⊎◌, ◌+◌, ◌≤◌, �
 ghost use Rattle.wcc_base.specs.declared.status.Status.TheVariants as status;
 ghost use Rattle.rv_core.specs.Table.{table_of};
 ghost use Rattle.response_analysis.specs.Tasks.{AreTasks};
-ghost use Rattle.response_tasks.specs.Entries.{IsEntry, is_file};
-ghost use Rattle.response_tasks.specs.Lists.{IsList};
+ghost use Rattle.response_time.specs.Entries.{IsEntry, is_file};
+ghost use Rattle.response_time.specs.Lists.{IsList};
 ghost use Rattle.command_words.specs.Held.{respond_request, table_name};
 ghost use Rattle.command_perform.specs.Words.{Respond};
 ghost use Rattle.command_perform.specs.Gathering.{Gathered, NotGathered, OnlyRead};

@@ -17,10 +17,10 @@ use Rattle.code_flow.specs.declared.finding.CodeFault.TheVariants.{Memory}
 use Rattle.facts_definitions.specs.FlowFacts.{AreFacts}
 use Rattle.facts_definitions.specs.declared.facts.Facts.{Facts}
 use Rattle.facts_sources.specs.Sources.{IsSource}
-use Rattle.facts_restrictions.specs.Limits.{AreLimited}
-use Rattle.facts_restrictions.proofs.Limited.{are_limited}
+use Rattle.facts_limits.specs.Limits.{AreLimited}
+use Rattle.facts_limits.proofs.Limited.{are_limited}
 use Rattle.types_tree.specs.Tree as c
-use Rattle.plan_checked.proofs.Sources.{checked}
+use Rattle.plan_law.proofs.Sources.{checked}
 use Rattle.high_ir.specs.Weight.{reach}
 use Rattle.high_pass.specs.Listing.{LoopEntry}
 use Rattle.low_ir.specs.Code.{Low}

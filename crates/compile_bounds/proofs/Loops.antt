@@ -30,7 +30,7 @@ use Rattle.claims_image.specs.Images.{laid_of}
 use Rattle.compile_made.specs.declared.made.Made.{Made}
 use Rattle.compile_made.specs.Made.{IsInMemory, IsLowered, IsMade, copies_of, high_of}
 use Rattle.image_frames.specs.Memories.{Placement}
-use Rattle.plan_checked.proofs.Sources.{checked}
+use Rattle.plan_law.proofs.Sources.{checked}
 use Rattle.compile_turns.proofs.Few.{source_loops_few}
 use Rattle.compile_turns.proofs.Lowering.{EachLoop, lowered_each, placed_each}
 use Rattle.compile_bounds.specs.Laws.{CanBeNamed}

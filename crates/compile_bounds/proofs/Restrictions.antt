@@ -8,7 +8,7 @@ use Rattle.frac128.specs.Terms.{Terms, int_sum_by}
 use Rattle.code_flow_system.specs.declared.claims.FactClaim.{FactClaim}
 use Rattle.code_flow_system.specs.Claims.{are_aligned, fact_flaws, is_aligned}
 use Rattle.facts_definitions.specs.declared.facts.Facts.{Facts}
-use Rattle.facts_restrictions.specs.Limits.{AreLimited}
+use Rattle.facts_limits.specs.Limits.{AreLimited}
 use Rattle.path_conditions.specs.Natural.{both_totals}
 use Rattle.report_text.specs.declared.entries.CopyLine.{CopyLine}
 use Rattle.compile_facts.specs.Laws.{StandIn}

@@ -4,9 +4,9 @@ use Rattle.facts_definitions.specs.declared.facts.Facts.{Facts}
 use Rattle.facts_sources.specs.Sources.{IsSource}
 use Rattle.types_tree.specs.Tree as c
 use Rattle.plan_carried.specs.Sources.{planned_listing, source_behaviour}
-use Rattle.plan_checked.proofs.Sources.{checked}
+use Rattle.plan_law.proofs.Sources.{checked}
 use Rattle.high_ir.specs.Whole.{HasElements, IsWhole}
-use Rattle.plan_elements.proofs.Programs.{plan_some}
+use Rattle.plan_formed.proofs.ElementPrograms.{plan_some}
 use Rattle.plan_law.specs.Plans.{KeepsSource}
 use Rattle.plan_law.proofs.Law.{planned_keeps}
 use Rattle.high_ir.specs.Formed.{IsHigh}

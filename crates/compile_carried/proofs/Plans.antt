@@ -9,12 +9,12 @@ use Rattle.high_ir.specs.Tree as high
 use Rattle.high_pass.specs.Law.{IsLawful, signature_of}
 use Rattle.high_pass.specs.Listing.{Listing}
 use Rattle.plan_definition.specs.Programs.{plan_of, program_planned}
-use Rattle.plan_forms.proofs.Programs.{length_planned}
+use Rattle.plan_forms.proofs.FormedPrograms.{length_planned}
 use Rattle.plan_formed.specs.Checked.{IsChecked}
 use Rattle.plan_formed.proofs.Operations.{operations_few}
 use Rattle.plan_formed.proofs.Planned.{planned_is_high}
-use Rattle.plan_bytes.proofs.Bytes.{bytes_most}
-use Rattle.plan_checked.proofs.Sources.{checked}
+use Rattle.plan_law.proofs.Bytes.{bytes_most}
+use Rattle.plan_law.proofs.Sources.{checked}
 use Rattle.compile_kept.specs.Limits.{IsLimited, global_bytes}
 use Rattle.compile_carried.proofs.Units.{few_functions, globals_few}
 

@@ -29,10 +29,10 @@ use Rattle.high_ir.specs.Tree.{Object}
 use Rattle.high_ir.specs.Words.{kind_bytes}
 use Rattle.plan_definition.specs.Layouts.{Given, elements_of, first_given, given_object, givens, givens_behind, local_object, object_before, objects_from, storage_of}
 use Rattle.plan_definition.specs.Operators.{kind_of}
-use Rattle.plan_source.proofs.Faults.{no_first, no_second}
-use Rattle.plan_memory.specs.Memory.{AllSolid, SolidBy}
-use Rattle.plan_memory.proofs.Growing.{externals_grow}
-use Rattle.plan_memory.proofs.Memory.{few_globals, rules_pass}
+use Rattle.plan_formed.proofs.Faults.{no_first, no_second}
+use Rattle.plan_formed.specs.Memory.{AllSolid, SolidBy}
+use Rattle.plan_formed.proofs.Growing.{externals_grow}
+use Rattle.plan_formed.proofs.Memory.{few_globals, rules_pass}
 use Rattle.compile_kept.specs.Limits.{global_bytes, global_object_bytes}
 
 -- functions

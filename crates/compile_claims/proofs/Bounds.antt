@@ -14,7 +14,7 @@ use Rattle.code_flow_system.specs.KeptRuns.{KeepsClaims, visit_count}
 use Rattle.code_flow_system.specs.Loose.{IsLoose, KeepsTurns}
 use Rattle.code_flow_system.specs.Shapes.{AreShapesOf, Fits, IsLoop}
 use Rattle.code_flow_system.specs.Systems.{System}
-use Rattle.path_counts.specs.Laws.{HasBounds}
+use Rattle.path_flows.specs.CountLaws.{HasBounds}
 use Rattle.path_conditions.specs.Searching.{CanSearch}
 use Rattle.path_conditions.specs.Bounding.{CanBound}
 use Rattle.high_pass.specs.Listing.{LoopEntry}

@@ -16,7 +16,7 @@ use Rattle.facts_definitions.specs.declared.facts.Restriction.{Restriction}
 use Rattle.facts_definitions.specs.declared.facts.Term.{Term}
 use Rattle.flow_facts.specs.Translating.{as_term, index_in, places_of, sum_places, term_places, terms_places}
 use Rattle.flow_facts.specs.declared.places.Places.{Places}
-use Rattle.facts_restrictions.specs.Limits.{IsCountedTerm, IsLimited}
+use Rattle.facts_limits.specs.Limits.{IsCountedTerm, IsLimited}
 use Rattle.path_conditions.specs.Natural.{AreNatural, IsNaturalFact}
 use Rattle.promise_report.specs.Facts.{AreFactLines, IsFactLine, places_by, places_in}
 use Rattle.report_text.specs.declared.entries.CopyLine.{CopyLine}

@@ -22,7 +22,7 @@ use Rattle.flow_facts.specs.declared.places.Places.{Places}
 use Rattle.meaning_semantics.specs.Runs.{compared, count_of, first_violated, holds, sum_of}
 use Rattle.promise_report.specs.Facts.{AreFactLines, IsFactLine, places_by, places_in}
 use Rattle.report_text.specs.declared.entries.CopyLine.{CopyLine}
-use Rattle.facts_restrictions.specs.Limits.{AreLimited, IsCountedTerm, IsLimited}
+use Rattle.facts_limits.specs.Limits.{AreLimited, IsCountedTerm, IsLimited}
 use Rattle.compile_facts.specs.Told.{AreFactsTold}
 use Rattle.compile_facts.proofs.Totals.{left_total, right_total, term_total}
 

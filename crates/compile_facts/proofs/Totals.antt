@@ -15,7 +15,7 @@ use Rattle.flow_facts.specs.Translating.{as_term, places_of, sum_places, term_pl
 use Rattle.flow_facts.specs.declared.places.Places.{Places}
 use Rattle.promise_report.specs.Facts.{AreFactLines, IsFactLine, places_by}
 use Rattle.report_text.specs.declared.entries.CopyLine.{CopyLine}
-use Rattle.facts_restrictions.specs.Limits.{AreLimited, IsCountedTerm, IsLimited}
+use Rattle.facts_limits.specs.Limits.{AreLimited, IsCountedTerm, IsLimited}
 use Rattle.path_conditions.specs.Natural.{both_totals}
 use Rattle.compile_facts.specs.Told.{AreFactsTold}
 use Rattle.compile_facts.proofs.Forms.{places_held}

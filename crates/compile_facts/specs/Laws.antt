@@ -4,7 +4,7 @@ use Rattle.frac128.specs.Terms.{Terms, int_sum_by}
 use Rattle.code_flow_system.specs.declared.claims.FactClaim.{FactClaim}
 use Rattle.code_flow_system.specs.Counts.{KeepsFact}
 use Rattle.facts_definitions.specs.declared.facts.Facts.{Facts}
-use Rattle.facts_restrictions.specs.Limits.{AreLimited}
+use Rattle.facts_limits.specs.Limits.{AreLimited}
 use Rattle.meaning_semantics.specs.Runs.{first_violated}
 use Rattle.path_conditions.specs.Natural.{IsNaturalFact, both_totals}
 use Rattle.report_text.specs.declared.entries.CopyLine.{CopyLine}

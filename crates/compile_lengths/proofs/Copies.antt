@@ -12,7 +12,7 @@ use Rattle.compile_claims.specs.Places.{places_at}
 use Rattle.compile_facts.specs.Told.{places_many}
 use Rattle.compile_lines.specs.CopyLines.{AreLinesOf}
 use Rattle.compile_names.specs.Laws.{IsNamed}
-use Rattle.report_sizes.specs.Room.{copies_room}
+use Rattle.report_laws.specs.Room.{copies_room}
 use Rattle.report_text.specs.declared.entries.CopyLine.{CopyLine}
 use Rattle.compile_counts.proofs.Marks.{entry_places, marks_few, marks_places}
 use Rattle.compile_lengths.proofs.Names.{ids_length}

@@ -4,7 +4,7 @@ use Rattle.std.specs.Prelude.{◌==◌, if◌then◌else◌}
 use Rattle.std.proofs.lemmas.Bool.{false≢true}
 use Rattle.std.proofs.lemmas.List.Elements.{All-cons, All-from_recursion, All-head, All-nil, All-tail}
 use Rattle.rv_core.specs.declared.image.Segment.{Segment}
-use Rattle.code_flow_sizes.specs.Laws.{EndsWithin, Words}
+use Rattle.code_flow.specs.Sizes.{EndsWithin, Words}
 use Rattle.asm_placed.specs.Written.{flash_words, scratchpad_words}
 use Rattle.low_ir.specs.Places.{Placed}
 use Rattle.image_definition.specs.Images.{data_in, flash_bytes, formed_in, image_in, rows_in, scratchpad_bytes}

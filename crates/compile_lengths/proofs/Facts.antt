@@ -9,7 +9,7 @@ use Rattle.frac128.specs.Terms.{Terms}
 use Rattle.code_flow_system.specs.declared.claims.FactClaim.{FactClaim}
 use Rattle.facts_definitions.specs.declared.facts.Facts.{Facts}
 use Rattle.path_answer.specs.declared.bounded.Column.{Column}
-use Rattle.report_sizes.specs.Room.{columns_room, facts_room, terms_room}
+use Rattle.report_laws.specs.Room.{columns_room, facts_room, terms_room}
 use Rattle.report_text.specs.Forms.{IsColumn, IsFact, IsTerm}
 use Rattle.report_text.specs.declared.entries.CopyLine.{CopyLine}
 use Rattle.compile_facts.specs.Laws.{AreFactClaims, AreLow}

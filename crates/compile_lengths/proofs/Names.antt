@@ -13,8 +13,8 @@ use Rattle.facts_definitions.specs.declared.facts.FlowFault.TheVariants.{BadPrag
 use Rattle.facts_definitions.specs.declared.site.Site.{Site}
 use Rattle.facts_definitions.specs.declared.site.Site.TheVariants as sites
 use Rattle.facts_sources.specs.Sources.{IsSource, derived_for}
-use Rattle.facts_names.specs.Laws.{names_length}
-use Rattle.facts_names.proofs.Sources.{fit}
+use Rattle.facts_limits.specs.Names.{names_length}
+use Rattle.facts_limits.proofs.Sources.{fit}
 use Rattle.c_tree.specs.Names.{name_of}
 use Rattle.c_tree.specs.declared.expression.NameId.{NameId}
 use Rattle.types_tree.specs.Tree.{Program, function_name}

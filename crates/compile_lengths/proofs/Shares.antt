@@ -29,7 +29,7 @@ use Rattle.simulation_marks.proofs.Sums.{in_numbers, summed, upto}
 use Rattle.path_answer.specs.declared.bounded.Kind.{Kind}
 use Rattle.path_answer.specs.declared.bounded.Kind.TheVariants.{Greatest, Empty, Wide, Spent}
 use Rattle.report_shares.specs.Shares.{with_sum}
-use Rattle.report_sizes.specs.Room.{name_length, shares_room}
+use Rattle.report_laws.specs.Room.{name_length, shares_room}
 use Rattle.report_text.specs.declared.entries.Share.{Share}
 use Rattle.compile_lines.specs.Shares.{name_by, named, share_of}
 use Rattle.compile_reports.specs.Reported.{AreShared}

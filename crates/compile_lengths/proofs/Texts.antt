@@ -8,11 +8,11 @@ use Rattle.rv_core.specs.Images.{AreLoadable, Image}
 use Rattle.rv_core.specs.Table.{Table}
 use Rattle.elf_image.specs.Text.{text_of}
 use Rattle.code_flow_system.specs.Claims.{Claims}
-use Rattle.code_flow_sizes.specs.Laws.{EndsWithin, HasFew, Words, count}
-use Rattle.code_flow_sizes.proofs.Few.{has_few}
+use Rattle.code_flow.specs.Sizes.{EndsWithin, HasFew, Words, count}
+use Rattle.code_flow.proofs.Few.{has_few}
 use Rattle.facts_definitions.specs.declared.facts.Facts.{Facts}
 use Rattle.facts_sources.specs.Sources.{IsSource}
-use Rattle.facts_restrictions.proofs.Limited.{are_limited}
+use Rattle.facts_limits.proofs.Limited.{are_limited}
 use Rattle.types_tree.specs.Tree.{Program}
 use Rattle.high_pass.specs.Listing.{LoopEntry}
 use Rattle.low_ir.specs.Placings.{assignment_of, placed_of}
@@ -20,8 +20,8 @@ use Rattle.low_ir.specs.Programs.{low_of}
 use Rattle.claims_definition.specs.Listed.{Laid, claims_of, places_below}
 use Rattle.claims_image.specs.Images.{laid_of}
 use Rattle.report_laws.specs.Typed.{IsTyped}
-use Rattle.report_sizes.specs.Room.{columns_room, copies_room, facts_room, shares_room}
-use Rattle.report_sizes.proofs.Lengths.{short as text_short}
+use Rattle.report_laws.specs.Room.{columns_room, copies_room, facts_room, shares_room}
+use Rattle.report_laws.proofs.Lengths.{short as text_short}
 use Rattle.report_text.specs.Lines.{report_text}
 use Rattle.report_text.specs.Reports.{Report}
 use Rattle.promise_compiler.specs.Lengths.{AreShort}

@@ -7,7 +7,7 @@ use Rattle.facts_definitions.specs.declared.facts.Facts.{Facts}
 use Rattle.facts_sources.specs.Sources.{IsSource}
 use Rattle.types_tree.specs.Tree.{Program}
 use Rattle.plan_carried.specs.Sources.{source_marks}
-use Rattle.plan_checked.proofs.Sources.{checked}
+use Rattle.plan_law.proofs.Sources.{checked}
 use Rattle.high_pass.specs.Listing.{MarkEntry, mark_entry}
 use Rattle.high_pass.proofs.Entries.{length_of_entries}
 use Rattle.plan_formed.proofs.Facts.{says}

@@ -16,12 +16,12 @@ use Rattle.code_flow_system.proofs.LooseLemmas.{flows_are_loose, goes_back}
 use Rattle.path_answer.specs.declared.bounded.Column.{Column}
 use Rattle.path_answer.specs.declared.bounded.Kind.{Kind}
 use Rattle.path_answer.specs.declared.bounded.Kind.TheVariants as kinds
-use Rattle.path_counts.specs.Free.{free}
+use Rattle.path_flows.specs.Free.{free}
 use Rattle.path_fact_kinds.specs.Columns.{IsBest}
 use Rattle.path_conditions.specs.Searching.{CanSearch}
 use Rattle.path_fact_kinds.specs.Kinds.{HasKind, IsBoundAlone}
 use Rattle.path_fact_kinds.specs.Searched.{AreSearched}
-use Rattle.path_pivot_laws.specs.Laws.{column_at}
+use Rattle.path_pivot_laws.specs.RoundLaws.{column_at}
 
 scaled : (s w u n : ℕ) → 0 < s → s * w ≡ u * n → w < u * 2 ^ 60 → n < 2 ^ 60 * s
 scaled s w u n some e lt =

@@ -13,7 +13,7 @@ use compile_counts::claims_are_few;
 use compile_lines::copy_lines;
 use compile_made::Made;
 use facts_front::Source;
-use facts_restrictions::restrictions_are_limited;
+use facts_limits::restrictions_are_limited;
 use std::alloc::Global;
 use wcc_base::Memory;
 use wcc_report::CopyLine;

@@ -20,7 +20,7 @@ use Rattle.report_shares.specs.Shares.{share_sum}
 use Rattle.report_shares.proofs.FillLemmas.{sum_small}
 use Rattle.facts_definitions.specs.declared.facts.Facts.{Facts}
 use Rattle.facts_sources.specs.Sources.{IsSource}
-use Rattle.facts_restrictions.proofs.Limited.{are_limited}
+use Rattle.facts_limits.proofs.Limited.{are_limited}
 use Rattle.types_tree.specs.Tree.{Program}
 use Rattle.high_pass.specs.Listing.{Listing}
 use Rattle.high_pass.proofs.Elements.{All-append_front}

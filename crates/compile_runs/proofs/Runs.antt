@@ -14,7 +14,7 @@ use Rattle.code_flow_system.specs.KeptRuns.{KeepsClaims, visit_count}
 use Rattle.code_flow_system.specs.Systems.{IsSystemOf}
 use Rattle.c_tree.specs.declared.expression.NameId.{NameId}
 use Rattle.facts_definitions.specs.declared.facts.Facts.{Facts}
-use Rattle.facts_restrictions.specs.Limits.{AreLimited}
+use Rattle.facts_limits.specs.Limits.{AreLimited}
 use Rattle.types_tree.specs.Tree.{Program}
 use Rattle.high_pass.specs.Carries.{Behaviour}
 use Rattle.high_pass.specs.Listing.{Listing, LoopEntry, MarkEntry}

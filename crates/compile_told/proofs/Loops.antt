@@ -20,7 +20,7 @@ use Rattle.high_pass.proofs.Elements.{All-map_back, Contains-flat_map}
 use Rattle.high_pass.proofs.Origins.{finds_among}
 use Rattle.plan_carried.proofs.Bounds.{AreBy-starts}
 use Rattle.plan_carried.proofs.Numbers.{bounds_found}
-use Rattle.plan_loops.specs.Loops.{bounded as in_passes}
+use Rattle.plan_carried.specs.Loops.{bounded as in_passes}
 use Rattle.low_ir.specs.Code.{Loop, Low}
 use Rattle.low_ir.specs.Places.{Assignment, Placed, placed}
 use Rattle.lower_budget.specs.Costs.{bounded}

@@ -10,7 +10,7 @@ use Rattle.facts_loops.specs.Factors as source
 use Rattle.facts_loops.specs.Loops.{SourceLoop, starts_of}
 use Rattle.high_ir.specs.declared.copies.NeverMark.{NeverMark}
 use Rattle.high_pass.specs.Carries.{Behaviour, StartsFewer, bounds_of}
-use Rattle.plan_loops.specs.Loops.{as_bounds, bounded as in_passes}
+use Rattle.plan_carried.specs.Loops.{as_bounds, bounded as in_passes}
 use Rattle.compile_claims.specs.Places.{places_at}
 use Rattle.compile_claims.specs.Named.{AreNevers, never_at, nevers_at}
 use Rattle.promise_report.specs.Facts.{IsNeverLine}

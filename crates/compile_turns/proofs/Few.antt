@@ -10,11 +10,11 @@ use Rattle.plan_carried.specs.Sources.{source_behaviour}
 use Rattle.plan_definition.specs.Programs.{plan_of, program_planned}
 use Rattle.plan_formed.specs.Checked.{IsChecked}
 use Rattle.plan_formed.proofs.Planned.{planned_is_high, program_numbered}
-use Rattle.plan_loops.specs.Loops.{Planned, functions_loops, in_source}
-use Rattle.plan_loops.proofs.Numbers.{functions_order, number_of}
-use Rattle.plan_loops.proofs.Sources.{functions_are}
-use Rattle.plan_numbers.specs.Numbers.{functions_loops as loops_count}
-use Rattle.plan_numbers.proofs.Programs.{functions_count}
+use Rattle.plan_carried.specs.Loops.{Planned, functions_loops, in_source}
+use Rattle.plan_carried.proofs.LoopNumbers.{functions_order, number_of}
+use Rattle.plan_carried.proofs.LoopSources.{functions_are}
+use Rattle.plan_forms.specs.Numbers.{functions_loops as loops_count}
+use Rattle.plan_forms.proofs.NumberedPrograms.{functions_count}
 use Rattle.high_ir.specs.Formed.{IsHigh}
 use Rattle.high_ir.specs.Standing.{Bounded}
 use Rattle.high_ir.specs.Tree.{Program}

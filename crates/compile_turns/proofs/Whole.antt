@@ -8,7 +8,7 @@ use Rattle.types_tree.specs.Tree as c
 use Rattle.plan_carried.specs.Sources.{source_behaviour}
 use Rattle.high_ir.specs.Formed.{IsHigh}
 use Rattle.high_ir.specs.Tree as high
-use Rattle.plan_loops.specs.Loops.{bounded}
+use Rattle.plan_carried.specs.Loops.{bounded}
 use Rattle.high_pass.specs.Carries.{Carries}
 use Rattle.high_pass.specs.Listing.{Listing}
 use Rattle.low_ir.specs.Code.{Low}

@@ -17,7 +17,7 @@ use Rattle.types_rules.specs.Operations.{left_kind, operator_of, right_kind, sig
 use Rattle.types_rules.specs.Scope.{or_zero}
 use Rattle.types_rules.specs.Specifiers.{kind_spelled}
 use Rattle.types_rules.specs.declared.constant.Folded.{Folded}
-use Rattle.plan_whole.proofs.Constants.{BelowIn, computed_below, converted_below, either_below, signed_below}
+use Rattle.plan_law.proofs.Constants.{BelowIn, computed_below, converted_below, either_below, signed_below}
 use Rattle.compile_words.specs.Trees.{TreeWords}
 
 with_below : (o : Option ℕ) (f : ℕ → Option ℕ) → BelowIn o → ((x : ℕ) → x < 2 ^ 32 → BelowIn (f x)) → BelowIn (with_word o f)

@@ -9,10 +9,10 @@ use Rattle.c_tree.specs.Names.{name_of}
 use Rattle.c_tree.specs.Said.{AreTokens}
 use Rattle.c_tree.specs.Spelling.{spell_unit}
 use Rattle.types_tree.specs.Tree.{Program}
-use Rattle.plan_checked.proofs.Sources.{checked}
+use Rattle.plan_law.proofs.Sources.{checked}
 use Rattle.plan_definition.specs.Programs.{program_planned}
-use Rattle.plan_whole.specs.Words.{ProgramWords}
-use Rattle.plan_whole.proofs.Whole.{planned_is_whole}
+use Rattle.plan_law.specs.Words.{ProgramWords}
+use Rattle.plan_law.proofs.Whole.{planned_is_whole}
 use Rattle.compile_words.proofs.Spelling.{unit_tree}
 use Rattle.compile_words.proofs.Tokens.{are_tokens, spelling_words}
 use Rattle.compile_words.proofs.Units.{unit_words}

@@ -19,7 +19,7 @@ use Rattle.types_rules.specs.Typing.{and_object, argument_of, converted, filling
 use Rattle.types_rules.specs.declared.scope.Binding.{Binding}
 use Rattle.types_rules.specs.declared.scope.Binding.TheVariants.{Object as Thing, Function as Routine}
 use Rattle.types_rules.specs.declared.scope.ParamType.{ParamType}
-use Rattle.plan_whole.specs.Words.{DeclarationWords, ExprWords, ExprsWords, InitialWords, ItemsWords, LabelWords, ObjectsWords, OptionWords, PlaceWords, StartWords, StatementWords}
+use Rattle.plan_law.specs.Words.{DeclarationWords, ExprWords, ExprsWords, InitialWords, ItemsWords, LabelWords, ObjectsWords, OptionWords, PlaceWords, StartWords, StatementWords}
 use Rattle.compile_words.specs.Trees.{DeclarationTree, InitialTree, ItemsTree, LabelTree, ObjectTree, OptionTree, RowTree, StartTree, StatementTree, TreeWords, TreesWords}
 use Rattle.compile_words.proofs.Folding.{case_word}
 

@@ -7,7 +7,7 @@ use Rattle.types_rules.specs.Specifiers.{kind_spelled}
 use Rattle.types_rules.specs.Typing.{and_external, typed_declaration, typed_function, typed_row}
 use Rattle.types_tree.specs.Tree as typed
 use Rattle.types_rules.specs.Typed.{typed_of}
-use Rattle.plan_whole.specs.Words.{ExternalsWords, FunctionsWords, ProgramWords}
+use Rattle.plan_law.specs.Words.{ExternalsWords, FunctionsWords, ProgramWords}
 use Rattle.compile_words.specs.Trees.{ExternalTree, RowTree, UnitTree}
 use Rattle.compile_words.proofs.Typing.{declaration_words, items_words}
 

@@ -11,10 +11,10 @@ use Rattle.types_value.specs.declared.operator.Operator.TheVariants.{Less, Great
 use Rattle.types_value.specs.declared.operator.Undefined.{Undefined as Cause}
 use Rattle.types_value.specs.declared.operator.Undefined.TheVariants.{Overflow}
 use Rattle.wcc_base.specs.Words.{difference_word, equal_word, signed_word, sum_word, truth_word}
-use Rattle.facts_counting.specs.Counting.{distance, is_limit, is_strict, is_up, turns, turns_over}
-use Rattle.facts_counting.specs.declared.form.Limit.{Limit}
+use Rattle.facts_loops.specs.Counting.{distance, is_limit, is_strict, is_up, turns, turns_over}
+use Rattle.facts_loops.specs.declared.form.Limit.{Limit}
 use Rattle.counting_laws.proofs.Counted.{moves, tested_word}
-use Rattle.plan_derived.proofs.Forms.{Positive}
+use Rattle.plan_law.proofs.DerivedForms.{Positive}
 
 -- quotients, a divisor further
 divisor_more : (d s q r : ℕ) → s ≤ d → q * s + r ≡ d - s → d ≡ (q + 1) * s + r

@@ -14,19 +14,19 @@ use Rattle.c_tree.specs.declared.expression.Specifier.{Specifier}
 use Rattle.types_tree.specs.Tree as c
 use Rattle.types_tree.specs.declared.variable.Variable.{Variable}
 use Rattle.plan_runs.specs.Serves.{AllServe, AreParameters, Serves, at_entry, source_with}
-use Rattle.plan_fit.specs.Places.{IsHome}
-use Rattle.plan_statements.specs.Flows.{Rest}
+use Rattle.plan_served.specs.Places.{IsHome}
+use Rattle.plan_runs.specs.Flows.{Rest}
 use Rattle.high_ir.specs.Tree as high
-use Rattle.plan_expressions.proofs.Cells.{slice_get-set_other}
-use Rattle.plan_expressions.specs.Fits.{Formal, OfWord, OfArray, Function, Signatures}
-use Rattle.plan_expressions.specs.Meets.{IsLayout, Layout, Untouched, home, is_own, is_passed}
-use Rattle.facts_counting.specs.Loops.{function_loops, items_loops}
-use Rattle.counting_alike.proofs.Alike.{Alike, Comes, alike_then, alike_undefined}
+use Rattle.plan_runs.proofs.Cells.{slice_get-set_other}
+use Rattle.plan_runs.specs.ExpressionFits.{Formal, OfWord, OfArray, Function, Signatures}
+use Rattle.plan_runs.specs.Meets.{IsLayout, Layout, Untouched, home, is_own, is_passed}
+use Rattle.facts_loops.specs.CountingLoops.{function_loops, items_loops}
+use Rattle.counting_laws.proofs.Alike.{Alike, Comes, alike_then, alike_undefined}
 use Rattle.counting_laws.proofs.Counted.{set_begins, set_there}
-use Rattle.counting_alike.proofs.Declaring.{with_bounds}
-use Rattle.plan_derived.proofs.Lists.{Each}
-use Rattle.counting_alike.proofs.Objects.{Begins, Names, Row, Stays}
-use Rattle.counting_alike.proofs.Settings.{CallsAlike, HandedTo, IsRun}
+use Rattle.counting_laws.proofs.Declaring.{with_bounds}
+use Rattle.plan_law.proofs.DerivedLists.{Each}
+use Rattle.counting_laws.proofs.Objects.{Begins, Names, Row, Stays}
+use Rattle.counting_laws.proofs.Settings.{CallsAlike, HandedTo, IsRun}
 use Rattle.counting_laws.proofs.Statements.{LoopFits, follows}
 
 nothing_there : (a b : ℕ) → a ≤ b → b < a + 0 → ⊥

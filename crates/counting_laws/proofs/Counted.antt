@@ -24,15 +24,15 @@ use Rattle.types_value.specs.declared.kind.Kind.TheVariants.{Int}
 use Rattle.types_value.specs.declared.operator.Operator.{Operator}
 use Rattle.types_value.specs.declared.operator.Operator.TheVariants.{Add, Subtract, Less, Greater, LessEqual, GreaterEqual}
 use Rattle.types_value.specs.declared.operator.Undefined.{Undefined as Cause}
-use Rattle.plan_statements.proofs.Constants.{constant_value}
-use Rattle.plan_expressions.specs.Fits.{Fit, Function, IsScalar, Signatures}
-use Rattle.plan_expressions.specs.Meets.{Layout, home}
-use Rattle.facts_counting.specs.Counting.{adds, compared, first_word, goes, initial_word, int_constant, is_limit, is_scalar, limit_by, limit_of, number_of, on_some, only, positive, reads, scalar_of, set_object, step_of, stepped_by, steps_up}
-use Rattle.facts_counting.specs.Counting as counting
-use Rattle.facts_counting.specs.declared.form.Limit.{Limit}
-use Rattle.counting_alike.proofs.Alike.{Ends, ends_then}
-use Rattle.plan_derived.proofs.Forms.{Positive, constant, is_int, on_some_parts, only_if_parts, positive_is}
-use Rattle.counting_alike.proofs.Objects.{Begins, Row}
+use Rattle.plan_runs.proofs.Constants.{constant_value}
+use Rattle.plan_runs.specs.ExpressionFits.{Fit, Function, IsScalar, Signatures}
+use Rattle.plan_runs.specs.Meets.{Layout, home}
+use Rattle.facts_loops.specs.Counting.{adds, compared, first_word, goes, initial_word, int_constant, is_limit, is_scalar, limit_by, limit_of, number_of, on_some, only, positive, reads, scalar_of, set_object, step_of, stepped_by, steps_up}
+use Rattle.facts_loops.specs.Counting as counting
+use Rattle.facts_loops.specs.declared.form.Limit.{Limit}
+use Rattle.counting_laws.proofs.Alike.{Ends, ends_then}
+use Rattle.plan_law.proofs.DerivedForms.{Positive, constant, is_int, on_some_parts, only_if_parts, positive_is}
+use Rattle.counting_laws.proofs.Objects.{Begins, Row}
 
 -- the object holds this word
 abbrev pub Holds : (object word : ℕ) → State → Type 0

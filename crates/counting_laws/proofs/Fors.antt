@@ -15,29 +15,29 @@ use Rattle.c_tree.specs.declared.pragma.Pragma.{Pragma}
 use Rattle.types_tree.specs.Tree.{Expr, For, ForStart, Statement}
 use Rattle.types_tree.specs.declared.variable.Variable.{Variable}
 use Rattle.plan_runs.specs.Serves.{source_with}
-use Rattle.plan_fit.specs.Places.{IsHome}
-use Rattle.plan_statements.proofs.Leaving.{Within, within}
-use Rattle.plan_statements.specs.Fits.{FitOption, FitStatement, start_declares, with_live}
-use Rattle.plan_statements.specs.Flows.{Rest}
+use Rattle.plan_served.specs.Places.{IsHome}
+use Rattle.plan_runs.proofs.Leaving.{Within, within}
+use Rattle.plan_runs.specs.StatementFits.{FitOption, FitStatement, start_declares, with_live}
+use Rattle.plan_runs.specs.Flows.{Rest}
 use Rattle.high_ir.specs.declared.object.Kind.{Kind}
-use Rattle.plan_expressions.specs.Fits.{Fit, Function, IsScalar, Signatures}
-use Rattle.plan_expressions.specs.Meets.{Layout, home, is_own}
+use Rattle.plan_runs.specs.ExpressionFits.{Fit, Function, IsScalar, Signatures}
+use Rattle.plan_runs.specs.Meets.{Layout, home, is_own}
 use Rattle.plan_definition.specs.declared.home.Home.TheVariants.{Frame}
-use Rattle.facts_counting.specs.Changes.{expr_changes, option_changes, start_changes, statement_changes}
-use Rattle.facts_counting.specs.Counting.{counting, is_limit, is_up, least_turns, turns as turns_of}
-use Rattle.facts_counting.specs.Loops.{unless_written}
-use Rattle.counting_alike.proofs.Alike.{Alike, Ends, alike_and, alike_fine, alike_then, alike_weaken}
+use Rattle.facts_loops.specs.Changes.{expr_changes, option_changes, start_changes, statement_changes}
+use Rattle.facts_loops.specs.Counting.{counting, is_limit, is_up, least_turns, turns as turns_of}
+use Rattle.facts_loops.specs.CountingLoops.{unless_written}
+use Rattle.counting_laws.proofs.Alike.{Alike, Ends, alike_and, alike_fine, alike_then, alike_weaken}
 use Rattle.counting_laws.proofs.Arithmetic.{ahead}
 use Rattle.counting_laws.proofs.Counted.{Comparison, Holds, Sets, Steps, compared_lives, compared_value, first_fits, start_sets, steps_positive, steps_so, tested_word, tests_so}
-use Rattle.counting_alike.proofs.Declaring.{dropped_keeps, start_keeps, with_bounds}
-use Rattle.counting_alike.proofs.Entering.{left_scope, scope_run, start_owned}
-use Rattle.counting_alike.proofs.Expressions.{runs}
-use Rattle.plan_derived.proofs.Forms.{Parts, bounds_are, counter, parts}
+use Rattle.counting_laws.proofs.Declaring.{dropped_keeps, start_keeps, with_bounds}
+use Rattle.counting_laws.proofs.Entering.{left_scope, scope_run, start_owned}
+use Rattle.counting_laws.proofs.Expressions.{runs}
+use Rattle.plan_law.proofs.DerivedForms.{Parts, bounds_are, counter, parts}
 use Rattle.counting_laws.proofs.Homes.{counter_home}
-use Rattle.counting_alike.proofs.Looping.{behind_keeps, turns_keep}
-use Rattle.counting_alike.proofs.Objects.{Names, Stays, stays_then}
-use Rattle.counting_alike.proofs.Settings.{IsRun, Keeps, Spares, keeps_then, resumed, spares_first, spares_second}
-use Rattle.counting_alike.proofs.Steps.{keeps_here}
+use Rattle.counting_laws.proofs.Looping.{behind_keeps, turns_keep}
+use Rattle.counting_laws.proofs.Objects.{Names, Stays, stays_then}
+use Rattle.counting_laws.proofs.Settings.{IsRun, Keeps, Spares, keeps_then, resumed, spares_first, spares_second}
+use Rattle.counting_laws.proofs.Steps.{keeps_here}
 use Rattle.counting_laws.proofs.Turning.{Round, turns_alike}
 
 -- the bounds of a loop: those that are derived for it and wider ones, or others, which are the same, and then it is to blame

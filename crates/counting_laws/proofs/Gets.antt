@@ -12,17 +12,17 @@ use Rattle.facts_definitions.specs.declared.site.Site.{Site}
 use Rattle.c_tree.specs.declared.pragma.Pragma.{Pragma}
 use Rattle.types_tree.specs.Tree as c
 use Rattle.types_tree.specs.declared.variable.Variable.{Variable}
-use Rattle.plan_fit.proofs.Loops.{bounds_behind, bounds_first, bounds_second, loops_of}
-use Rattle.plan_fit.specs.Places.{AreBounds}
-use Rattle.plan_numbers.specs.Numbers as numbers
-use Rattle.plan_numbers.specs.Numbers.{FunctionsNumbered, ItemsNumbered, StatementNumbered}
+use Rattle.plan_served.proofs.Loops.{bounds_behind, bounds_first, bounds_second, loops_of}
+use Rattle.plan_served.specs.Places.{AreBounds}
+use Rattle.plan_forms.specs.Numbers as numbers
+use Rattle.plan_forms.specs.Numbers.{FunctionsNumbered, ItemsNumbered, StatementNumbered}
 use Rattle.plan_definition.specs.Statements.{loops_before}
-use Rattle.plan_source.proofs.Sites.{declaration_bounds, statement_bounds}
-use Rattle.facts_counting.specs.Counting.{counting}
-use Rattle.facts_counting.specs.Loops.{derived_among, derived_by, functions_loops, items_loops, statement_loops, unless_written}
-use Rattle.facts_counting.specs.declared.form.LoopForm.{LoopForm}
+use Rattle.plan_formed.proofs.SourceSites.{declaration_bounds, statement_bounds}
+use Rattle.facts_loops.specs.Counting.{counting}
+use Rattle.facts_loops.specs.CountingLoops.{derived_among, derived_by, functions_loops, items_loops, statement_loops, unless_written}
+use Rattle.facts_loops.specs.declared.form.LoopForm.{LoopForm}
 use Rattle.counting_laws.specs.Wider.{HasOwn}
-use Rattle.plan_derived.proofs.Lists.{Each, each_append, each_both, each_weaken}
+use Rattle.plan_law.proofs.DerivedLists.{Each, each_append, each_both, each_weaken}
 
 own_number : (number n : ℕ) → number ≡ n + 1 → number - 1 ≡ n + 0
 own_number number n e = omega (arith, e)

@@ -17,23 +17,23 @@ use Rattle.types_rules.specs.Typing.{typed_items}
 use Rattle.c_tree.specs.Tree.{Row, External, Whole}
 use Rattle.types_tree.specs.Tree as c
 use Rattle.types_tree.specs.Tree.{Program}
-use Rattle.plan_fit.specs.Places.{AreBounds}
+use Rattle.plan_served.specs.Places.{AreBounds}
 use Rattle.types_seen.proofs.Fronts.{defined}
 use Rattle.types_seen.proofs.Units.{of_tree}
 use Rattle.types_seen.specs.Fronts.{IsDefined, begun_by, behind}
 use Rattle.types_seen.specs.Units.{HasTree, IsUnit}
-use Rattle.plan_numbers.specs.Numbers.{FunctionsNumbered}
-use Rattle.plan_numbers.specs.Numbers as numbers
+use Rattle.plan_forms.specs.Numbers.{FunctionsNumbered}
+use Rattle.plan_forms.specs.Numbers as numbers
 use Rattle.plan_formed.proofs.Facts.{says}
 use Rattle.plan_served.proofs.Sites.{bounds_body}
-use Rattle.plan_source.proofs.Standing.{items_numbered}
-use Rattle.plan_source.proofs.Units.{functions_numbered}
-use Rattle.facts_counting.specs.Loops.{derived_of, function_loops, loops_of}
-use Rattle.facts_counting.specs.declared.form.LoopForm.{LoopForm}
+use Rattle.plan_formed.proofs.Standing.{items_numbered}
+use Rattle.plan_formed.proofs.Units.{functions_numbered}
+use Rattle.facts_loops.specs.CountingLoops.{derived_of, function_loops, loops_of}
+use Rattle.facts_loops.specs.declared.form.LoopForm.{LoopForm}
 use Rattle.counting_laws.specs.Wider.{HasDerived, HasOwn}
 use Rattle.counting_laws.proofs.Gets.{FormGets, Found, all_found, functions_ascend, items_get, own_of}
-use Rattle.plan_derived.proofs.Lists.{Each, all_of, each_both}
-use Rattle.plan_derived.proofs.Unbounded.{all_derived, each_of_functions}
+use Rattle.plan_law.proofs.DerivedLists.{Each, all_of, each_both}
+use Rattle.plan_law.proofs.Unbounded.{all_derived, each_of_functions}
 
 module _ (outline : Outline) (items : Row (External ℕ)) (program : Program) (unit : IsUnit outline items program) (derived : List Derived) (bounds : List Bounds) (are : AreBounds derived bounds 0 (sites_of program)) where
   -- each loop has its bounds among those of the program

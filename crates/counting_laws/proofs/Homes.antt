@@ -8,10 +8,10 @@ use Rattle.types_tree.specs.declared.variable.Extent.TheVariants.{Scalar as Sing
 use Rattle.types_tree.specs.declared.variable.Variable.{Variable}
 use Rattle.types_value.specs.Kinds.{same_kind}
 use Rattle.types_value.specs.declared.kind.Kind.TheVariants.{Int}
-use Rattle.plan_fit.specs.Places.{IsHome, IsInFrame}
+use Rattle.plan_served.specs.Places.{IsHome, IsInFrame}
 use Rattle.plan_definition.specs.declared.home.Home.{Home}
 use Rattle.plan_definition.specs.declared.home.Home.TheVariants.{Frame, Memory}
-use Rattle.facts_counting.specs.Counting.{is_counter, is_local}
+use Rattle.facts_loops.specs.Counting.{is_counter, is_local}
 
 local_home : (d : Duration) (e : Extent) (h : Home) → is_local d e ≡ true → IsHome d e h → IsInFrame h
 local_home Static Single h l lives = absurd (false≢true l)

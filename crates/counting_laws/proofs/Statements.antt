@@ -10,23 +10,23 @@ use Rattle.meaning_semantics.specs.declared.outcome.Flow.{Flow}
 use Rattle.meaning_semantics.specs.declared.outcome.Flow.TheVariants.{Onward, Break, Continue, Return}
 use Rattle.types_tree.specs.Tree.{Expr, Statement, Block, Empty, Evaluate, Marker, If, IfElse, While, Do, For, Switch, Break as BreakOff, Continue as GoOn, Return as GiveBack, Items, NoItem, WithDeclaration, WithStatement, WithRestriction, WithLabel}
 use Rattle.types_tree.specs.declared.variable.Variable.{Variable}
-use Rattle.plan_fit.specs.Places.{IsHome}
-use Rattle.plan_statements.specs.Fits.{FitItems, FitReturn, FitStatement, block_declares, start_declares, with_live}
-use Rattle.plan_statements.specs.Flows.{Rest}
+use Rattle.plan_served.specs.Places.{IsHome}
+use Rattle.plan_runs.specs.StatementFits.{FitItems, FitReturn, FitStatement, block_declares, start_declares, with_live}
+use Rattle.plan_runs.specs.Flows.{Rest}
 use Rattle.high_ir.specs.declared.object.Kind.{Kind}
-use Rattle.plan_expressions.specs.Fits.{Fit, Function, Signatures}
-use Rattle.plan_expressions.specs.Meets.{Layout, home}
-use Rattle.facts_counting.specs.Changes.{declaration_changes, expr_changes, items_changes, option_changes, statement_changes}
-use Rattle.facts_counting.specs.Loops.{items_loops, statement_loops}
-use Rattle.facts_counting.specs.declared.form.LoopForm.{LoopForm}
-use Rattle.counting_alike.proofs.Declaring.{declaration_keeps, dropped_keeps}
-use Rattle.counting_alike.proofs.Entering.{block_entered, block_owned, left_scope, scope_run}
+use Rattle.plan_runs.specs.ExpressionFits.{Fit, Function, Signatures}
+use Rattle.plan_runs.specs.Meets.{Layout, home}
+use Rattle.facts_loops.specs.Changes.{declaration_changes, expr_changes, items_changes, option_changes, statement_changes}
+use Rattle.facts_loops.specs.CountingLoops.{items_loops, statement_loops}
+use Rattle.facts_loops.specs.declared.form.LoopForm.{LoopForm}
+use Rattle.counting_laws.proofs.Declaring.{declaration_keeps, dropped_keeps}
+use Rattle.counting_laws.proofs.Entering.{block_entered, block_owned, left_scope, scope_run}
 use Rattle.counting_laws.proofs.Fors.{LoopBy, for_follows, ns, valued_keeps, ws}
-use Rattle.plan_derived.proofs.Lists.{Each, each_first, each_second}
-use Rattle.counting_alike.proofs.Looping.{behind_keeps, onward_keeps, out_keeps, turns_keep}
-use Rattle.counting_alike.proofs.Objects.{Names}
-use Rattle.counting_alike.proofs.Settings.{IsRun, Keeps, Spares, keeps_then, resumed, spares_first, spares_second}
-use Rattle.counting_alike.proofs.Steps.{choose_keeps, keeps_fine, keeps_here}
+use Rattle.plan_law.proofs.DerivedLists.{Each, each_first, each_second}
+use Rattle.counting_laws.proofs.Looping.{behind_keeps, onward_keeps, out_keeps, turns_keep}
+use Rattle.counting_laws.proofs.Objects.{Names}
+use Rattle.counting_laws.proofs.Settings.{IsRun, Keeps, Spares, keeps_then, resumed, spares_first, spares_second}
+use Rattle.counting_laws.proofs.Steps.{choose_keeps, keeps_fine, keeps_here}
 
 -- the bounds of a loop, narrow and wide
 abbrev pub LoopFits : (blamed : ℕ → Type 0) (narrow wide : List Bounds) → LoopForm → Type 0

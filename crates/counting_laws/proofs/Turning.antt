@@ -7,14 +7,14 @@ use Rattle.meaning_semantics.specs.declared.outcome.Flow.TheVariants.{Onward, Br
 use Rattle.meaning_semantics.specs.declared.outcome.Stop.TheVariants.{Broken}
 use Rattle.types_value.specs.Operators.{computed}
 use Rattle.types_value.specs.declared.kind.Kind.TheVariants.{Int}
-use Rattle.plan_expressions.specs.Meets.{Layout}
-use Rattle.facts_counting.specs.Counting.{is_up}
-use Rattle.facts_counting.specs.declared.form.Limit.{Limit}
-use Rattle.counting_alike.proofs.Alike.{Alike, Comes, alike_then}
+use Rattle.plan_runs.specs.Meets.{Layout}
+use Rattle.facts_loops.specs.Counting.{is_up}
+use Rattle.facts_loops.specs.declared.form.Limit.{Limit}
+use Rattle.counting_laws.proofs.Alike.{Alike, Comes, alike_then}
 use Rattle.counting_laws.proofs.Arithmetic.{Ahead}
 use Rattle.counting_laws.proofs.Counted.{Holds, Moved, moves, tested_word}
-use Rattle.counting_alike.proofs.Objects.{Names, Stays, stays_same}
-use Rattle.counting_alike.proofs.Settings.{Keeps, resumed}
+use Rattle.counting_laws.proofs.Objects.{Names, Stays, stays_same}
+use Rattle.counting_laws.proofs.Settings.{Keeps, resumed}
 
 none_left : (m : ℕ) → m ≤ 0 → m ≡ 0
 none_left m le = omega (arith, le)

@@ -27,25 +27,25 @@ use Rattle.types_seen.proofs.Calls.{calls_defined}
 use Rattle.types_seen.specs.Units.{HasTree}
 use Rattle.types_tree.specs.Tree.{Function, Program}
 use Rattle.types_tree.specs.declared.variable.Variable.{Variable}
-use Rattle.plan_begin.proofs.Begins.{begins}
-use Rattle.plan_fit.specs.Places.{IsHome}
-use Rattle.plan_statements.specs.Flows.{Rest}
-use Rattle.plan_expressions.specs.Fits.{Signatures}
-use Rattle.plan_expressions.specs.Meets.{Layout, Untouched, home}
-use Rattle.plan_layout.proofs.Statics.{laid}
-use Rattle.plan_layout.proofs.Trees.{is_layout}
-use Rattle.plan_layout.specs.Layouts.{layout_of, rest_of, signatures_of}
+use Rattle.plan_served.proofs.Begins.{begins}
+use Rattle.plan_served.specs.Places.{IsHome}
+use Rattle.plan_runs.specs.Flows.{Rest}
+use Rattle.plan_runs.specs.ExpressionFits.{Signatures}
+use Rattle.plan_runs.specs.Meets.{Layout, Untouched, home}
+use Rattle.plan_served.proofs.Statics.{laid}
+use Rattle.plan_served.proofs.Trees.{is_layout}
+use Rattle.plan_served.specs.Layouts.{layout_of, rest_of, signatures_of}
 use Rattle.plan_definition.specs.Programs.{program_planned}
 use Rattle.plan_served.proofs.Programs.{serves}
-use Rattle.facts_counting.specs.Loops.{function_loops, functions_loops, loops_of}
-use Rattle.facts_counting.specs.declared.form.LoopForm.{LoopForm}
+use Rattle.facts_loops.specs.CountingLoops.{function_loops, functions_loops, loops_of}
+use Rattle.facts_loops.specs.declared.form.LoopForm.{LoopForm}
 use Rattle.counting_laws.specs.Wider.{HasDerived, HasOwn, MayWiden, OnlyDerived, Widens}
-use Rattle.counting_alike.proofs.Alike.{Alike, Comes, alike_then, alike_weaken}
+use Rattle.counting_laws.proofs.Alike.{Alike, Comes, alike_then, alike_weaken}
 use Rattle.counting_laws.proofs.Calls.{calls_alike}
 use Rattle.counting_laws.proofs.Fors.{LoopBy}
-use Rattle.plan_derived.proofs.Lists.{Each, each_first, each_of, each_second}
-use Rattle.counting_alike.proofs.Quiet.{Anywhere, begun_alike}
-use Rattle.counting_alike.proofs.Settings.{HandedTo}
+use Rattle.plan_law.proofs.DerivedLists.{Each, each_first, each_of, each_second}
+use Rattle.counting_laws.proofs.Quiet.{Anywhere, begun_alike}
+use Rattle.counting_laws.proofs.Settings.{HandedTo}
 use Rattle.counting_laws.proofs.Statements.{LoopFits}
 
 each_function : (P : LoopForm → Type 0) (variables : List Variable) (fs : List Function) (g : ℕ) (f : Function) → Each P (functions_loops variables fs) → slice_get fs g ≡ Some f → Each P (function_loops variables f)

@@ -10,8 +10,8 @@ use Rattle.meaning_semantics.specs.declared.source_run.SourceRun.TheVariants.{Br
 use Rattle.meaning_semantics.specs.declared.source_run.Unkept.TheVariants.{Loop}
 use Rattle.types_tree.specs.Tree.{Program}
 use Rattle.types_seen.specs.Units.{HasTree}
-use Rattle.facts_counting.specs.Loops.{derived_of, loops_of}
-use Rattle.facts_counting.specs.declared.form.LoopForm.{LoopForm}
+use Rattle.facts_loops.specs.CountingLoops.{derived_of, loops_of}
+use Rattle.facts_loops.specs.declared.form.LoopForm.{LoopForm}
 use Rattle.counting_laws.specs.Wider.{HasDerived, OnlyDerived, Widens}
 
 abbrev pub LoopsFind : Type 0

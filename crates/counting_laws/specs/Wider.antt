@@ -6,8 +6,8 @@ use Rattle.facts_definitions.specs.declared.facts.Bounds.{Bounds}
 use Rattle.facts_definitions.specs.declared.facts.Facts.{Facts}
 use Rattle.types_tree.specs.Tree.{Program}
 use Rattle.types_seen.specs.Units.{HasTree}
-use Rattle.facts_counting.specs.Loops.{loops_of}
-use Rattle.facts_counting.specs.declared.form.LoopForm.{LoopForm}
+use Rattle.facts_loops.specs.CountingLoops.{loops_of}
+use Rattle.facts_loops.specs.declared.form.LoopForm.{LoopForm}
 
 -- a loop has the bounds that are derived for it, where they are
 abbrev pub HasOwn : (derived : Option Bounds) → Bounds → Type 0

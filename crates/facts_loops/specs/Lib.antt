@@ -1,2 +1,5 @@
 pub mod Loops
 pub mod Factors
+pub mod Changes
+pub mod Counting
+pub mod CountingLoops

@@ -5,7 +5,7 @@ ghost use Rattle.facts_definitions.specs.PragmaTexts.{at_most, bounded, bounds_a
 use super::bytes::{is_digit, same_bytes};
 use super::runs::next_run;
 use facts_definitions::Bounds;
-use parse_pragma::behind_first_word;
+use parse_tokens::behind_first_word;
 
 const GREATEST_BOUND: u32 = 2_147_483_647;
 

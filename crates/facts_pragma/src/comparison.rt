@@ -8,7 +8,7 @@ use super::bytes::same_bytes;
 use super::runs::next_run;
 use super::sums::read_sum;
 use facts_definitions::{Restriction, Term};
-use parse_pragma::behind_first_word;
+use parse_tokens::behind_first_word;
 use std::alloc::{AllocError, Global};
 use wcc_base::{Compare, Items, Text};
 

@@ -4,7 +4,7 @@ ghost use Rattle.facts_definitions.specs.PragmaTexts.{marker_name, name_among, r
 
 use super::bytes::is_name;
 use super::runs::next_run;
-use parse_pragma::behind_first_word;
+use parse_tokens::behind_first_word;
 
 fn name_among(text: &[u8]) -> Option<&[u8]>
     ensures some { IfSome result (λ name. name_among (runs text.now) ≡ Some name.now) }

@@ -16,7 +16,7 @@ use Rattle.types_rules.specs.Typed.{fault_of, typed_of}
 use Rattle.facts_definitions.specs.FlowFacts.{flow_facts}
 use Rattle.facts_definitions.specs.declared.facts.Derived.{Derived}
 use Rattle.facts_definitions.specs.declared.facts.Facts.{Facts}
-use Rattle.facts_counting.specs.Loops.{derived_of}
+use Rattle.facts_loops.specs.CountingLoops.{derived_of}
 
 -- the source's tokens are the spelling of this well-formed tree, which is at most 256 deep; its names are numbered in the order in which they first stand
 pub record HasUnit (source : List ℕ) (names : List (List ℕ)) (unit : TranslationUnit ℕ) : Type 0 where

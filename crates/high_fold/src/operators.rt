@@ -1,6 +1,6 @@
 // What operators give back, and which give only words.
 ghost use Rattle.std.specs.Prelude.{◌≡◌};
-ghost use Rattle.high_ranges.specs.Ranges.{is_commutative, is_neutral, is_word_neutral, operator_is_word};
+ghost use Rattle.high_folded.specs.Ranges.{is_commutative, is_neutral, is_word_neutral, operator_is_word};
 
 use high_ir::expression::BinaryOperator;
 

@@ -1,7 +1,7 @@
 // What the form of an expression tells of its values.
 ghost use Rattle.std.specs.Prelude.{◌≡◌};
 ghost use Rattle.high_ir.specs.View.{expr_of};
-ghost use Rattle.high_ranges.specs.Ranges.{below, bits, fits, gives_left, gives_right, is_divisor, is_divisor_within, is_idle, is_lost, is_mask, is_narrow, is_within, is_word, most, operator_fits, unary_fits, unary_is_word};
+ghost use Rattle.high_folded.specs.Ranges.{below, bits, fits, gives_left, gives_right, is_divisor, is_divisor_within, is_idle, is_lost, is_mask, is_narrow, is_within, is_word, most, operator_fits, unary_fits, unary_is_word};
 
 use super::operators::{is_commutative, is_neutral, is_word_neutral, operator_is_word};
 use high_ir::expression::{BinaryOperator, Expr, UnaryOperator};

@@ -7,7 +7,7 @@ use Rattle.high_ir.specs.declared.expression.BinaryOperator.{BinaryOperator}
 use Rattle.high_ir.specs.declared.expression.UnaryOperator.{UnaryOperator}
 use Rattle.high_ir.specs.Tree.{Expr, Constant, Variable, Element, Unary, Binary}
 use Rattle.high_ir.specs.Words.{binary_word, unary_word}
-use Rattle.high_ranges.specs.Ranges.{gives_left, gives_right, is_idle, is_lost}
+use Rattle.high_folded.specs.Ranges.{gives_left, gives_right, is_idle, is_lost}
 use Rattle.high_folded.specs.Done.{AreOpen}
 use Rattle.high_folded.specs.Folded.{binary_folded, constant_of, decided, folded_expr, stored_expr, unary_folded}
 

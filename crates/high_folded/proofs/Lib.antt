@@ -1,3 +1,9 @@
+pub mod Fitting
+pub mod Neutral
+pub mod Keeping
+pub mod Starting
+pub mod Forms
+pub mod Stores
 pub mod Cases
 pub mod Values
 pub mod Running

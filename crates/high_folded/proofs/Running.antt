@@ -6,10 +6,10 @@ use Rattle.high_ir.specs.declared.object.Kind.TheVariants.{Unsigned8}
 use Rattle.high_ir.specs.Meaning.{Bad, Calls, Goes, Labels, Leaves, Outcome, Returns, State, World, after_call, again, choose, keep, objects_of, out_of_block, pass, put, run, run_all, set_variables, set_world, then_do, turns, value_of, values_of, with_value, written}
 use Rattle.high_ir.specs.Runs.{calls, enter, frame, given, hrun, only_good, rank_or, run_of, start, takes}
 use Rattle.high_ir.specs.Tree.{Expr, Statement, Set, Put, Get, Keep, Mark, Seq, If, Loop, Block, Leave, Call, Return, Statements, End, Then, Function, Program}
-use Rattle.high_ranges.specs.Kept.{IsKept}
-use Rattle.high_ranges.proofs.Keeping.{CallsKeep, EndsKept, calls_keep, pass_kept, run_kept}
-use Rattle.high_ranges.proofs.Starting.{start_kept}
-use Rattle.high_ranges.proofs.Stores.{keep_converted, put_converted}
+use Rattle.high_folded.specs.Kept.{IsKept}
+use Rattle.high_folded.proofs.Keeping.{CallsKeep, EndsKept, calls_keep, pass_kept, run_kept}
+use Rattle.high_folded.proofs.Starting.{start_kept}
+use Rattle.high_folded.proofs.Stores.{keep_converted, put_converted}
 use Rattle.high_folded.specs.Folded.{constant_of, decided, folded, folded_all, folded_expr, folded_functions, folded_program, kept_loops, stored_expr}
 use Rattle.high_folded.proofs.Values.{constant_value, value-folded, value-stored, values-folded}
 

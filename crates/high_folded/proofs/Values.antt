@@ -10,9 +10,9 @@ use Rattle.high_ir.specs.declared.expression.UnaryOperator.TheVariants.{Negate, 
 use Rattle.high_ir.specs.Meaning.{Outcome, Variables, World, array_of, at_value, element, value_of, values_of, with_value}
 use Rattle.high_ir.specs.Tree.{Expr, Constant, Variable, Element, Unary, Binary}
 use Rattle.high_ir.specs.Words.{binary_word, converted, unary_word}
-use Rattle.high_ranges.specs.Kept.{IsKept}
-use Rattle.high_ranges.specs.Ranges.{bits, is_lost}
-use Rattle.high_ranges.proofs.Forms.{idle_value, left_value, right_value}
+use Rattle.high_folded.specs.Kept.{IsKept}
+use Rattle.high_folded.specs.Ranges.{bits, is_lost}
+use Rattle.high_folded.proofs.Forms.{idle_value, left_value, right_value}
 use Rattle.high_folded.specs.Folded.{constant_of, folded_expr, stored_expr}
 use Rattle.high_folded.proofs.Cases.{binary_cases, unary_cases}
 

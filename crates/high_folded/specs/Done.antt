@@ -3,7 +3,7 @@ use Rattle.std.specs.Prelude.{◌≡◌, ℕ, false, Option, Some, None, All}
 use Rattle.high_ir.specs.declared.expression.BinaryOperator.{BinaryOperator}
 use Rattle.high_ir.specs.Tree.{Expr, Constant, Variable, Element, Unary, Binary, Statement, Set, Put, Get, Keep, Mark, Seq, If, Loop, Block, Leave, Call, Return, Statements, End, Then, Program}
 use Rattle.high_pass.specs.Listing.{Listing}
-use Rattle.high_ranges.specs.Ranges.{gives_left, gives_right, is_idle}
+use Rattle.high_folded.specs.Ranges.{gives_left, gives_right, is_idle}
 use Rattle.high_folded.specs.Folded.{constant_of, folded_program}
 use Rattle.high_folded.specs.Listed.{folded_listing}
 

@@ -7,7 +7,7 @@ use Rattle.high_ir.specs.declared.expression.UnaryOperator.{UnaryOperator}
 use Rattle.high_ir.specs.declared.expression.BinaryOperator.{BinaryOperator}
 use Rattle.high_ir.specs.Tree.{Expr, Constant, Variable, Element, Unary, Binary, Statement, Set, Put, Get, Keep, Mark, Seq, If, Loop, Block, Leave, Call, Return, Statements, End, Then, Function, Program}
 use Rattle.high_ir.specs.Words.{unary_word, binary_word}
-use Rattle.high_ranges.specs.Ranges.{gives_left, gives_right, is_idle, is_lost}
+use Rattle.high_folded.specs.Ranges.{gives_left, gives_right, is_idle, is_lost}
 
 -- the word of a constant
 abbrev pub constant_of : Expr → Option ℕ

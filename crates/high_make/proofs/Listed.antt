@@ -3,7 +3,7 @@ use Rattle.std.proofs.Common.{◌≡◌, refl, ap, ◌∙◌, sym, ℕ, ◌+◌,
 use Rattle.std.proofs.lemmas.List.{map-append}
 use Rattle.facts_definitions.specs.declared.facts.Bounds.{Bounds}
 use Rattle.types_tree.specs.Tree as c
-use Rattle.plan_loops.specs.Loops.{Planned, declaration_loops, filling_loops, functions_loops, initial_loops, items_loops, objects_loops, start_loops, statement_loops}
+use Rattle.plan_carried.specs.Loops.{Planned, declaration_loops, filling_loops, functions_loops, initial_loops, items_loops, objects_loops, start_loops, statement_loops}
 use Rattle.plan_carried.specs.Sources.{loop_entry}
 use Rattle.plan_definition.specs.Statements.{loops_before}
 use Rattle.make_loops.specs.Numbers.{declaration_numbers, filling_numbers, functions_numbers, initial_numbers, items_numbers, objects_numbers, renumbered, start_numbers, statement_numbers}

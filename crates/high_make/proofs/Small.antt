@@ -7,8 +7,8 @@ use Rattle.facts_definitions.specs.declared.facts.Facts.{Facts}
 use Rattle.types_tree.specs.Tree.{Program}
 use Rattle.types_rules.specs.Typed.{IsTypedTree}
 use Rattle.make_statement.specs.Planned.{IsSmall}
-use Rattle.plan_bounds.specs.Small.{Small}
-use Rattle.plan_bounds.proofs.Bounds.{bounds_small}
+use Rattle.plan_formed.specs.Small.{Small}
+use Rattle.plan_formed.proofs.Bounds.{bounds_small}
 
 each_small : (bounds : List Bounds) → All Small bounds → All IsSmall bounds
 each_small [] h = All-nil IsSmall

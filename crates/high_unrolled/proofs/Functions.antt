@@ -11,7 +11,7 @@ use Rattle.high_ir.specs.Standing.{Bounded, blocks_needed, callees_of, loops_in,
 use Rattle.high_ir.specs.Tree.{Function}
 use Rattle.high_ir.specs.Weight.{body_reach, body_weight, reach_of}
 use Rattle.high_pass.specs.Law.{signature_of}
-use Rattle.high_serving.specs.Serving.{FunctionStands}
+use Rattle.high_unrolled.specs.Serving.{FunctionStands}
 use Rattle.high_unrolled.specs.Programs.{busy, function_spread, functions_spread, with_body}
 use Rattle.high_unrolled.specs.Unrolling.{Place, Became, after}
 use Rattle.high_unrolled.proofs.Alone.{AreNumbered, numbered_loops_back, numbered_loops_front, one_leaves}

@@ -11,9 +11,9 @@ use Rattle.high_ir.specs.Runs.{count_of}
 use Rattle.high_ir.proofs.Sizes.{sum_by-map}
 use Rattle.high_pass.specs.Listing.{HasEachBelow, Listing, listed_marks}
 use Rattle.high_pass.proofs.Counting.{sum_by-flat_map, sum_by-pointwise}
-use Rattle.high_serving.specs.Serving.{ServesLabel}
-use Rattle.high_serving.specs.Standing.{Grouped, IsGroup, hits}
-use Rattle.high_serving.proofs.Counting.{count-cons, hit, hit-turned}
+use Rattle.high_unrolled.specs.Serving.{ServesLabel}
+use Rattle.high_unrolled.specs.Standing.{Grouped, IsGroup, hits}
+use Rattle.high_unrolled.proofs.ServingCounting.{count-cons, hit, hit-turned}
 use Rattle.high_unrolled.specs.declared.made.Made.{Made}
 use Rattle.high_unrolled.specs.declared.made.Made.TheVariants.{CopyOf, Behind}
 use Rattle.high_unrolled.specs.Programs.{copies_from, copies_of, nevers_from}

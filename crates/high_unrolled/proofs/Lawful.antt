@@ -21,10 +21,10 @@ use Rattle.high_pass.specs.Law.{FactorsWithin, IsLawful, ReachWithin, WithinBudg
 use Rattle.high_pass.specs.Listing.{Listing, LoopEntry, mark_copies}
 use Rattle.high_pass.proofs.Counting.{sum_by-pointwise}
 use Rattle.high_pass.proofs.Elements.{All-flat_map, All-flat_map_back}
-use Rattle.high_serving.specs.Serving.{FunctionStands}
-use Rattle.high_serving.specs.Standing.{ProgramStands, hits}
-use Rattle.high_serving.proofs.Counting.{hit, hit-turned}
-use Rattle.high_serving.proofs.Running.{runs_alike}
+use Rattle.high_unrolled.specs.Serving.{FunctionStands}
+use Rattle.high_unrolled.specs.Standing.{ProgramStands, hits}
+use Rattle.high_unrolled.proofs.ServingCounting.{hit, hit-turned}
+use Rattle.high_unrolled.proofs.ServingRunning.{runs_alike}
 use Rattle.high_unrolled.specs.declared.made.Made.{Made}
 use Rattle.high_unrolled.specs.declared.made.Made.TheVariants.{CopyOf, Behind}
 use Rattle.high_unrolled.specs.Factor.{depth_by, growth}

@@ -1,3 +1,7 @@
+pub mod ServingOrders
+pub mod ServingFollowing
+pub mod ServingRunning
+pub mod ServingCounting
 pub mod Numbered
 pub mod Rising
 pub mod Rolling

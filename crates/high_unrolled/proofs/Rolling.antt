@@ -3,8 +3,8 @@ use Rattle.std.proofs.Common.{◌≡◌, ℕ, zero, suc, ◌+◌, ◌-◌, ◌*�
 use Rattle.high_ir.specs.Meaning.{Outcome, Goes, Leaves, Returns, Bad, State, then_do, again, turns}
 use Rattle.high_ir.specs.Splitting.{peeled, split}
 use Rattle.high_ir.specs.Standing.{Bounds}
-use Rattle.high_serving.specs.Serving.{Serves}
-use Rattle.high_serving.proofs.Orders.{serves_again, serves_met, serves_same, serves_through}
+use Rattle.high_unrolled.specs.Serving.{Serves}
+use Rattle.high_unrolled.proofs.ServingOrders.{serves_again, serves_met, serves_same, serves_through}
 
 -- a body so many times, one start after another
 abbrev pub times : ℕ → (State → Outcome) → State → Outcome

@@ -7,8 +7,8 @@ use Rattle.high_ir.specs.Splitting.{split}
 use Rattle.high_ir.specs.Standing.{marks_of, marks_of_all}
 use Rattle.high_ir.specs.Tree.{Statement, Set, Put, Get, Keep, Mark, Seq, If, Loop, Block, Leave, Call, Return, Statements, End, Then, Function}
 use Rattle.high_pass.proofs.Elements.{All-append_back, All-append_front}
-use Rattle.high_serving.specs.Serving.{CallsServe, FunctionStands, Serves, ServesLabel}
-use Rattle.high_serving.proofs.Orders.{serves_block, serves_call, serves_choose, serves_given, serves_good, serves_pass, serves_same, serves_then, serves_through, serves_turns, serves_value}
+use Rattle.high_unrolled.specs.Serving.{CallsServe, FunctionStands, Serves, ServesLabel}
+use Rattle.high_unrolled.proofs.ServingOrders.{serves_block, serves_call, serves_choose, serves_given, serves_good, serves_pass, serves_same, serves_then, serves_through, serves_turns, serves_value}
 use Rattle.high_unrolled.specs.declared.made.Made.{Made}
 use Rattle.high_unrolled.specs.declared.made.Made.TheVariants.{CopyOf, Behind}
 use Rattle.high_unrolled.specs.Factor.{Rolled, as_loop, ended, first_starts, grouped, is_short, is_taken, turned}

@@ -1,3 +1,5 @@
+pub mod Serving
+pub mod Standing
 pub mod Starts
 pub mod Factor
 pub mod Unrolling

@@ -10,6 +10,13 @@
 //! program keeps the law of passes, and it is in the high form. An innermost loop that is left as it was is one whose unrolling in
 //! the new program would pass a budget, and a factor of 1 changes nothing.
 //!
+//! `specs/Serving` says when an outcome, a call and a statement serve for another, whose marks it may have several times: wherever
+//! the first is good, the second is the same. The second has labels on its marks, which say of which marks of the first they are
+//! copies; a mark without a label is passed by no good run. Proved in `proofs/` (`ServingFollowing`, `ServingRunning`): what each
+//! construct makes of parts that serve serves, calls serve where functions do, and where each function of a program stands for the
+//! one with its number, each good run is a good run of it, with the same output and value, and each count is the sum of the counts
+//! of the copies.
+//!
 //! This crate has no code, and knows no other pass, no source language and no machine.
 #![tactic(auto)]
 

@@ -21,8 +21,8 @@ use Rattle.loop_flows.specs.Passes.{amount_at, spread, departed}
 use Rattle.loop_flows.specs.Flows.{Turning, only_at, together, turns_of, turn_counts, counts_of, backs_of}
 use Rattle.loop_flows.proofs.SpreadLemmas.{set_at, set_other, here, elsewhere}
 use Rattle.loop_flows.proofs.TotalLemmas.{only-long, only_there, only_elsewhere}
-use Rattle.loop_passes.specs.Turns.{is_way, in_range, is_turn, turning_of, with_way, with_back, turnings}
-use Rattle.loop_passes.proofs.TurnLemmas.{both_first, le_of}
+use Rattle.loop_flows.specs.Turns.{is_way, in_range, is_turn, turning_of, with_way, with_back, turnings}
+use Rattle.loop_flows.proofs.TurnLemmas.{both_first, le_of}
 use Rattle.loop_amounts.specs.declared.back.Back.{Back}
 use Rattle.loop_amounts.specs.Wraps.{wrapped, all_wrapped, SameCounts, AgreeIn}
 use Rattle.loop_amounts.specs.Made.{total, backs_by, bared, HasTurned, NotChosen}

@@ -3,7 +3,7 @@ ghost use Rattle.std.specs.Prelude.{◌≡◌, ◌-◌, ◌<◌, length, IfOk, O
 ghost use Rattle.loop_walks.specs.Levels.{level_of, ground};
 ghost use Rattle.loop_walks.specs.Rows.{AreSteps, AreLoops, HaveNone};
 ghost use Rattle.loop_flows.specs.Passes.{spread};
-ghost use Rattle.loop_passes.specs.Turns.{is_tight, turnings};
+ghost use Rattle.loop_flows.specs.Turns.{is_tight, turnings};
 ghost use Rattle.loop_worths.specs.Sizes.{StaysSmall};
 ghost use Rattle.loop_amounts.specs.Made.{HasTurned};
 

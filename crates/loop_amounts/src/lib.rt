@@ -5,7 +5,7 @@
 //! back. A pass of a loop looks at the steps of its range alone.
 //!
 //! Counts are modulo 2^128: which steps are made doesn't depend on counts, so that a count is right in the end where it
-//! fits. Proved: the counts are those of the definitions of `loop_flows`, along the steps that `loop_passes` chooses. That
+//! fits. Proved: the counts are those of the definitions of `loop_flows`, along the steps that it chooses. That
 //! worths fit is a condition, that of `loop_worths`.
 #![tactic(auto)]
 

@@ -2,7 +2,7 @@
 ghost use Rattle.std.specs.Prelude.{◌≡◌, true, length, IfOk, All};
 ghost use Rattle.loop_walks.specs.Levels.{level_of};
 ghost use Rattle.loop_flows.specs.Passes.{made, handed, spread};
-ghost use Rattle.loop_passes.specs.Turns.{is_tight};
+ghost use Rattle.loop_flows.specs.Turns.{is_tight};
 ghost use Rattle.loop_worths.specs.Rings.{IsWalkStep};
 ghost use Rattle.loop_worths.specs.Sizes.{IsSmall, AreSmall, HaveSmallPrices};
 ghost use Rattle.loop_amounts.specs.Wraps.{SameCounts};

@@ -2,7 +2,7 @@
 ghost use Rattle.std.specs.Prelude.{◌≡◌, ◌-◌, ◌≤◌, ◌<◌, take, drop, length, All};
 ghost use Rattle.loop_flows.specs.Passes.{spread};
 ghost use Rattle.loop_flows.specs.Flows.{only_at, together};
-ghost use Rattle.loop_passes.specs.Turns.{is_way, is_turn, further_turns};
+ghost use Rattle.loop_flows.specs.Turns.{is_way, is_turn, further_turns};
 ghost use Rattle.loop_walks.specs.Rows.{AreSteps, Each, IsLoopOf};
 ghost use Rattle.loop_walks.specs.Turns.{turn_ways};
 ghost use Rattle.loop_worths.specs.Rings.{IsWalkStep};

@@ -4,7 +4,7 @@ ghost use Rattle.std.specs.Option.{option_to_list};
 ghost use Rattle.loop_walks.specs.Levels.{weighed};
 ghost use Rattle.loop_walks.specs.Rows.{AreSteps, AreLoops, IsLoopOf, HaveNone};
 ghost use Rattle.loop_walks.specs.Turns.{way_at, turn_ways};
-ghost use Rattle.loop_passes.specs.Turns.{turning_of, with_way, with_back, turnings};
+ghost use Rattle.loop_flows.specs.Turns.{turning_of, with_way, with_back, turnings};
 ghost use Rattle.loop_worths.specs.Sizes.{HaveSmallPrices, IsSmallTurn, AreSmallTurns};
 ghost use Rattle.loop_amounts.specs.Made.{HasTurned, bared};
 

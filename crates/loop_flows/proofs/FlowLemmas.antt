@@ -6,7 +6,7 @@ use Rattle.loop_walks.specs.Rows.{IsStep, AreSteps, Each}
 use Rattle.loop_walks.proofs.EachLemmas.{steps_are}
 use Rattle.loop_flows.specs.Passes.{amount_at, made, handed, spread, remains, departed, arrived}
 use Rattle.loop_flows.specs.Hands.{AreOpen, StandsOpen}
-use Rattle.loop_flows.specs.Laws.{FlowsOn}
+use Rattle.loop_flows.specs.FlowLaws.{FlowsOn}
 use Rattle.loop_flows.specs.Flows.{Turning, only_at, together, turns_of, turn_counts, counts_of, backs_of, backs_from, backs_to, CanTurn, HeadersBehind, CanAllTurn, IsConservedAt, AreTurned}
 use Rattle.loop_flows.proofs.SpreadLemmas.{spread_conserves, remains_at_target, here, elsewhere}
 use Rattle.loop_flows.proofs.TotalLemmas.{only-long, only_there, only_elsewhere, all_at_target}

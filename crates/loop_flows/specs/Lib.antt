@@ -1,4 +1,11 @@
 pub mod Passes
 pub mod Hands
 pub mod Flows
-pub mod Laws
+pub mod FlowLaws
+pub mod Turns
+pub mod Opens
+pub mod PassLaws
+pub mod Counts
+pub mod CountLaws
+pub mod Slack
+pub mod SlackLaws

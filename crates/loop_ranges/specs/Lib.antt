@@ -1,3 +1,5 @@
 pub mod Near
 pub mod Loose
 pub mod Reach
+pub mod LooseWalk
+pub mod Beside

@@ -1,22 +1,19 @@
-//! How large the numbers of a search by loops get.
+//! How large the numbers of a search by loops get, beside those of its loose walk.
 //!
 //! Beside each worth of the walks stands a loose one: what is still to come at most, wherever a search may not go. A worth is
 //! open, and no larger in size than the loose one, or it is blocked, and at most the loose one less the price of a block.
-//! Sums and maxima of such worths are such worths, so that all walks keep to it; and each loop that is settled adds no
-//! more to the greatest worth than twice the greatest loose one, the price of a block and a number of starts.
+//! Sums and maxima of such worths are such worths, so that all walks keep to it ([`worths_stay_near`]); and each loop that is
+//! settled adds no more to the greatest worth than twice the greatest loose one, the price of a block and a number of starts
+//! ([`worths_reach`]).
 //!
-//! Both are laws, calls with an empty body. The crate knows nothing of systems, claims or flows: where loose worths come
-//! from is no matter here.
+//! The loose walk of a function is the walk with no place that may not be visited, with all turns that a loop may make and none
+//! that it has to make, at prices that aren't negative. Its worths and turns are the loose numbers of every search over the same
+//! code ([`loose_walk_pays`]).
+//!
+//! The crate has definitions and these laws, calls with an empty body. It knows nothing of systems, claims or flows; what
+//! it proves of any flows that steps and turns lead on stands in `proofs/FlowLemmas.antt`.
 #![tactic(auto)]
 
-ghost use Rattle.loop_ranges.specs.Reach.{WorthsStayNear, WorthsReach};
+mod laws;
 
-/// As long as no loop is settled, worths stay near the loose ones.
-pub fn worths_stay_near()
-    ensures { WorthsStayNear }
-{}
-
-/// How far worths reach when the loops are settled.
-pub fn worths_reach()
-    ensures { WorthsReach }
-{}
+pub use laws::{loose_walk_pays, worths_reach, worths_stay_near};

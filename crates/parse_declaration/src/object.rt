@@ -4,7 +4,7 @@ ghost use Rattle.parse_begun.specs.View.{Gives, Names, declarator_of, head_of, o
 ghost use Rattle.parse_begun.specs.declared.refusal.Refusal.TheVariants.{Memory};
 ghost use Rattle.parse_grammar.specs.Begun.{Heading, OfObject};
 ghost use Rattle.parse_grammar.specs.Machine.{declares, initial, listed, named, object_ends, shaped, sizing};
-ghost use Rattle.parse_lexeme.specs.Lexemes.{lexeme_of};
+ghost use Rattle.parse_words.specs.Lexemes.{lexeme_of};
 ghost use Rattle.parse_declaration.specs.Others.{IsOther};
 ghost use Rattle.c_tree.specs.Said.{Plain};
 ghost use Rattle.c_tree.specs.declared.token.TokenKind.TheVariants.{RightBracket};
@@ -22,11 +22,11 @@ use parse_begun::begun::{
 use parse_begun::list::{and_object, no_objects, no_parts};
 use parse_begun::part::{DeclarationPart, ObjectPart, ObjectParts, Parts, ShapePart};
 use parse_begun::refusal::Refusal;
-use parse_lexeme::{Lexeme, Word};
 use parse_nodes::declaration::{
     end_declaration, end_object, listed_object, object, object_declaration,
 };
 use parse_operand::operand::begin_operand;
+use parse_words::{Lexeme, Word};
 use std::alloc::Global;
 
 /// The shape of what has no size.

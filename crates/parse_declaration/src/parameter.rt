@@ -4,7 +4,7 @@ ghost use Rattle.parse_begun.specs.View.{Gives, Names, id_named, param_part_of, 
 ghost use Rattle.parse_begun.specs.declared.begun.Declarator.TheVariants.{OfParam};
 ghost use Rattle.parse_grammar.specs.Begun as begun;
 ghost use Rattle.parse_grammar.specs.Machine.{Goes, body, declared, param_begins, param_ends, param_named, param_specified, params_done, params_open, shaped, specifier_of};
-ghost use Rattle.parse_lexeme.specs.Lexemes.{lexeme_of};
+ghost use Rattle.parse_words.specs.Lexemes.{lexeme_of};
 ghost use Rattle.c_tree.specs.Named.{map_option};
 ghost use Rattle.c_tree.specs.Tree.{Prototype};
 
@@ -17,9 +17,9 @@ use parse_begun::begun::{
 use parse_begun::list::{and_param, and_specifier, no_items, no_params, one_specifier};
 use parse_begun::part::{ParamPart, ParamParts, ShapePart};
 use parse_begun::refusal::Refusal;
-use parse_lexeme::{Lexeme, Word};
 use parse_nodes::declaration::{end_declaration, parameter, prototype};
 use parse_operand::role::specifier_said;
+use parse_words::{Lexeme, Word};
 use std::alloc::Global;
 
 /// A parameter is whole, and a token ends it.

@@ -1,13 +1,13 @@
 ghost use Rattle.parse_begun.specs.View.{Gives, Names, head_of, scope_of};
 ghost use Rattle.parse_grammar.specs.Machine.{first_name, further, specified, specifier_of};
-ghost use Rattle.parse_lexeme.specs.Lexemes.{lexeme_of};
+ghost use Rattle.parse_words.specs.Lexemes.{lexeme_of};
 
 use c_tree::expression::Specifier;
 use parse_begun::begun::{AtDeclarator, AtProto, Declarator, Head, NameAt, Proto, Scope, State};
 use parse_begun::list::and_specifier;
 use parse_begun::refusal::Refusal;
-use parse_lexeme::{Lexeme, Word};
 use parse_operand::role::specifier_said;
+use parse_words::{Lexeme, Word};
 
 /// The first name of a declaration.
 fn begin_named(

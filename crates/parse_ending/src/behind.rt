@@ -7,7 +7,7 @@ ghost use Rattle.parse_begun.specs.Depths.{stack_depth};
 ghost use Rattle.parse_begun.specs.View.{Gives, Names, part_of, stack_of};
 ghost use Rattle.parse_begun.specs.declared.refusal.Refusal.TheVariants.{Memory};
 ghost use Rattle.parse_ending.specs.Words.{IsWord};
-ghost use Rattle.parse_lexeme.specs.Lexemes.{lexeme_of};
+ghost use Rattle.parse_words.specs.Lexemes.{lexeme_of};
 
 use super::leave::go_on_with;
 use c_tree::expression::Specifier;
@@ -16,10 +16,10 @@ use parse_begun::begun::{AtOperand, NameAt, Stack, State};
 use parse_begun::list::{and_specifier, no_parts, one_specifier};
 use parse_begun::part::Part;
 use parse_begun::refusal::Refusal;
-use parse_lexeme::{Lexeme, Word};
 use parse_nodes::expression::call_of_none;
 use parse_operand::operand::begin_operand;
 use parse_operand::role::{role_of, specifier_said};
+use parse_words::{Lexeme, Word};
 use std::alloc::Global;
 
 /// Behind an opening round bracket a type or an operand begins.

@@ -2,7 +2,7 @@ ghost use Rattle.std.specs.Prelude.{◌≤◌};
 ghost use Rattle.parse_grammar.specs.Begun.{AfterPrefix, Wants};
 ghost use Rattle.parse_grammar.specs.Machine.{Asks, Assigns, Goes, Joins, OpensBracket, OpensParen, Steps, begin, enter};
 ghost use Rattle.c_tree.specs.Said.{Plain};
-ghost use Rattle.parse_lexeme.specs.Lexemes.{lexeme_of};
+ghost use Rattle.parse_words.specs.Lexemes.{lexeme_of};
 ghost use Rattle.parse_operand.specs.Roles.{role_view};
 ghost use Rattle.parse_begun.specs.Depths.{stack_depth};
 ghost use Rattle.parse_begun.specs.View.{Gives, Names, part_of, stack_of};
@@ -13,8 +13,8 @@ use c_tree::token::TokenKind;
 use parse_begun::begun::{AtOperand, NameAt, Stack, State};
 use parse_begun::part::Part;
 use parse_begun::refusal::Refusal;
-use parse_lexeme::{Lexeme, Word};
 use parse_nodes::expression::{character, name, number, postfix};
+use parse_words::{Lexeme, Word};
 use std::alloc::Global;
 
 /// A prefix operator, and its operand must come.

@@ -4,12 +4,12 @@ ghost use Rattle.c_tree.specs.Formed.{level, level_of};
 ghost use Rattle.c_tree.specs.Said.{Plain};
 ghost use Rattle.c_tree.specs.View.{expr_of};
 ghost use Rattle.parse_begun.specs.View.{Names};
-ghost use Rattle.parse_lexeme.specs.Lexemes.{lexeme_of};
+ghost use Rattle.parse_words.specs.Lexemes.{lexeme_of};
 ghost use Rattle.parse_operand.specs.Roles.{role_view};
 
 use c_tree::expression::{AssignOperator, BinaryOperator, Expr, PostfixOperator, Specifier};
 use c_tree::token::TokenKind;
-use parse_lexeme::Lexeme;
+use parse_words::Lexeme;
 
 /// What a token does behind an operand.
 #[derive(Clone, Copy, Debug, PartialEq, Eq)]

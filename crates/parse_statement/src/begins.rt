@@ -2,7 +2,7 @@ ghost use Rattle.std.specs.Prelude.{◌≡◌, None};
 ghost use Rattle.c_tree.specs.Said as said;
 ghost use Rattle.c_tree.specs.Said.{Plain};
 ghost use Rattle.parse_grammar.specs.Machine.{begin_loop, begin_statement};
-ghost use Rattle.parse_lexeme.specs.Lexemes.{lexeme_of};
+ghost use Rattle.parse_words.specs.Lexemes.{lexeme_of};
 ghost use Rattle.parse_begun.specs.View.{Gives, Names, frames_of};
 
 use c_tree::pragma::Pragma;
@@ -11,9 +11,9 @@ use c_tree::token::TokenKind;
 use parse_begun::begun::{AtStatement, Braces, Frames, Loop, Purpose, Stack, State, Test};
 use parse_begun::list::no_items;
 use parse_begun::refusal::Refusal;
-use parse_lexeme::{Lexeme, Word};
 use parse_nodes::statement::leaf;
 use parse_operand::operand::begin_operand;
+use parse_words::{Lexeme, Word};
 use std::alloc::Global;
 use wcc_base::Text;
 

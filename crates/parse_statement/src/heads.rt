@@ -1,7 +1,7 @@
 ghost use Rattle.std.specs.Prelude.{◌≡◌, None};
 ghost use Rattle.parse_grammar.specs.Begun.{Base, LoopStarts, Stands, Tests, Wants};
 ghost use Rattle.parse_grammar.specs.Machine.{answers, loop_starts, loop_steps, loop_tests, paren, semicolon, specifier_of};
-ghost use Rattle.parse_lexeme.specs.Lexemes.{lexeme_of};
+ghost use Rattle.parse_words.specs.Lexemes.{lexeme_of};
 ghost use Rattle.parse_begun.specs.View.{Gives, Names, frames_of, maybe_of, start_part_of, statement_part_of, test_of};
 
 use super::said::says;
@@ -13,10 +13,10 @@ use parse_begun::begun::{
 use parse_begun::list::one_specifier;
 use parse_begun::part::{MaybePart, StartPart, StatementPart};
 use parse_begun::refusal::Refusal;
-use parse_lexeme::{Lexeme, Word};
 use parse_nodes::statement::{begin_for_body, leaf};
 use parse_operand::operand::begin_operand;
 use parse_operand::role::specifier_said;
+use parse_words::{Lexeme, Word};
 use std::alloc::Global;
 
 /// A semicolon ends a statement.

@@ -4,7 +4,7 @@ ghost use Rattle.c_tree.specs.Said.{Plain};
 ghost use Rattle.c_tree.specs.Tree.{AndLabel, Default, NoItem};
 ghost use Rattle.parse_grammar.specs.Begun.{Among, Base, Defaults, InItems, Labels, OfSwitch, Wants};
 ghost use Rattle.parse_grammar.specs.Machine.{Goes, among, begin_statement, brace, close, colon, file_item, item, label, specifier_of};
-ghost use Rattle.parse_lexeme.specs.Lexemes.{lexeme_of};
+ghost use Rattle.parse_words.specs.Lexemes.{lexeme_of};
 ghost use Rattle.parse_begun.specs.Depths.{braces_depth};
 ghost use Rattle.parse_begun.specs.View.{Gives, Names, braces_of, externals_of, frames_of, item_parts_of, part_of};
 
@@ -15,10 +15,10 @@ use parse_begun::begun::{AtOperand, AtStatement, Braces, Frames, Purpose, Scope,
 use parse_begun::list::{and_default, and_restricting, and_restriction, no_items, one_specifier};
 use parse_begun::part::{ExternalParts, ItemParts, Part};
 use parse_begun::refusal::Refusal;
-use parse_lexeme::{Lexeme, Word};
 use parse_nodes::function::and_function;
 use parse_nodes::statement::{block, switch};
 use parse_operand::role::specifier_said;
+use parse_words::{Lexeme, Word};
 use std::alloc::Global;
 
 /// The braces of a `switch` open.

@@ -2,7 +2,7 @@ ghost use Rattle.std.specs.Prelude.{◌≡◌, ◌≤◌, max};
 ghost use Rattle.c_tree.specs.Tree.{AndStatement};
 ghost use Rattle.parse_grammar.specs.Begun.{Begins, InDo, InElse};
 ghost use Rattle.parse_grammar.specs.Machine.{Goes, among, settle, specifier_of};
-ghost use Rattle.parse_lexeme.specs.Lexemes.{lexeme_of};
+ghost use Rattle.parse_words.specs.Lexemes.{lexeme_of};
 ghost use Rattle.parse_begun.specs.Depths.{braces_depth, frames_depth};
 ghost use Rattle.parse_begun.specs.View.{Gives, Names, braces_of, frames_of, item_parts_of, part_of, statement_part_of};
 
@@ -13,8 +13,8 @@ use parse_begun::begun::{AtStatement, Braces, Frames, Loop, State, Test};
 use parse_begun::list::and_statement;
 use parse_begun::part::{ItemParts, Part, StatementPart};
 use parse_begun::refusal::Refusal;
-use parse_lexeme::{Lexeme, Word};
 use parse_nodes::statement::{for_loop, if_else, if_then, while_loop};
+use parse_words::{Lexeme, Word};
 use std::alloc::Global;
 
 /// A refusal, for which what stands there is let go.

@@ -8,10 +8,10 @@ use Rattle.c_tree.specs.Said.{said, AreTokens, IsToken, TokenList}
 use Rattle.c_tree.specs.Spelling.{Spoken, spoken}
 use Rattle.c_tree.specs.Said as lexemes
 use Rattle.c_tree.proofs.Names.{names_among-append, tokens_named, with_names-append, with_names-extends}
-use Rattle.parse_lexeme.specs.declared.lexeme.Lexeme.{Lexeme}
-use Rattle.parse_lexeme.specs.declared.lexeme.Lexeme.TheVariants as variants
-use Rattle.parse_lexeme.specs.declared.lexeme.Word.{Word}
-use Rattle.parse_lexeme.specs.Lexemes.{lexeme_of, word_said}
+use Rattle.parse_words.specs.declared.lexeme.Lexeme.{Lexeme}
+use Rattle.parse_words.specs.declared.lexeme.Lexeme.TheVariants as variants
+use Rattle.parse_words.specs.declared.lexeme.Word.{Word}
+use Rattle.parse_words.specs.Lexemes.{lexeme_of, word_said}
 use Rattle.parse_words.specs.Words.{AreNumbered, IsNumbered, Tell}
 
 more_numbers : (n m : ℕ) → n ≤ m → (lexeme : Lexeme) → IsNumbered n lexeme → IsNumbered m lexeme

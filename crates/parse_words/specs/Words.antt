@@ -2,10 +2,10 @@
 use Rattle.std.specs.Prelude.{◌≡◌, ℕ, ◌<◌, List, [], ◌∷◌, ◌++◌, length, map}
 use Rattle.c_tree.specs.Names.{name_of, names_of_tokens}
 use Rattle.c_tree.specs.Spelling.{Spoken}
-use Rattle.parse_lexeme.specs.declared.lexeme.Lexeme.{Lexeme}
-use Rattle.parse_lexeme.specs.declared.lexeme.Lexeme.TheVariants as lexemes
-use Rattle.parse_lexeme.specs.declared.lexeme.Word.{Word}
-use Rattle.parse_lexeme.specs.Lexemes.{word_said}
+use Rattle.parse_words.specs.declared.lexeme.Lexeme.{Lexeme}
+use Rattle.parse_words.specs.declared.lexeme.Lexeme.TheVariants as lexemes
+use Rattle.parse_words.specs.declared.lexeme.Word.{Word}
+use Rattle.parse_words.specs.Lexemes.{word_said}
 
 -- a name has one of so many numbers
 abbrev pub IsNumbered : ℕ → Lexeme → Type 0

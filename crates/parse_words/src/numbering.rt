@@ -6,7 +6,7 @@ ghost use Rattle.c_tree.specs.Pragmas.{names_in, with_run};
 
 use c_tree::expression::NameId;
 use indexmap::IndexSet;
-use parse_pragma::behind_first_word;
+use parse_tokens::behind_first_word;
 use std::alloc::{AllocError, Global};
 use std::marker::Model;
 use wcc_base::Text;

@@ -5,15 +5,14 @@ ghost use Rattle.c_tree.specs.Pragmas.{names_in, pragma_text};
 ghost use Rattle.c_tree.specs.Said as lexemes;
 ghost use Rattle.c_tree.specs.Said.{said, IsToken};
 ghost use Rattle.c_tree.specs.Spelling.{spoken, Spoken};
-ghost use Rattle.parse_lexeme.specs.Lexemes.{lexeme_of, word_said};
+ghost use Rattle.parse_words.specs.Lexemes.{lexeme_of, word_said};
 ghost use Rattle.parse_words.specs.Words.{AreNumbered, IsNumbered, Tell};
 
+use crate::lexeme::{Lexeme, Word};
 use crate::numbering::{Numbering, number_text};
 use c_tree::token::{Token, TokenKind};
 use c_tree::tokens::Tokens;
-use parse_constant::{character, integer};
-use parse_lexeme::{Lexeme, Word};
-use parse_pragma::text;
+use parse_tokens::{character, integer, text};
 use std::alloc::{AllocError, Global};
 use wcc_base::Text;
 

@@ -9,10 +9,10 @@ use Rattle.loop_walks.specs.declared.step.Loop.{Loop}
 use Rattle.loop_walks.specs.Levels.{Level, ground}
 use Rattle.loop_flows.specs.Passes.{spread}
 use Rattle.loop_flows.specs.Flows.{counts_of, backs_of}
-use Rattle.loop_passes.specs.Turns.{is_tight, turnings}
+use Rattle.loop_flows.specs.Turns.{is_tight, turnings}
 use Rattle.path_places.specs.Places.{is_walked}
-use Rattle.path_places.specs.Laws.{function_steps}
-use Rattle.path_rows.specs.Driver.{Prices, blank, function_loops, function_level}
+use Rattle.path_places.specs.PlaceLaws.{function_steps}
+use Rattle.path_places.specs.Driver.{Prices, blank, function_loops, function_level}
 use Rattle.path_flows.specs.Flows.{Flowing, counted, turned_back, called, function_flow, flow_from, first_flow, amounts_of}
 use Rattle.path_values.proofs.SameLemmas.{steps_same, loops_by, level_same}
 

@@ -18,7 +18,7 @@ use Rattle.loop_walks.specs.Rows.{IsStep, Each, IsBack, AreLoops}
 use Rattle.loop_walks.proofs.EachLemmas.{each_both, steps_are}
 use Rattle.loop_flows.specs.Passes.{amount_at, spread}
 use Rattle.loop_flows.specs.Flows.{Turning}
-use Rattle.loop_passes.specs.Turns.{is_tight, turning_of, with_way, with_back, turnings}
+use Rattle.loop_flows.specs.Turns.{is_tight, turning_of, with_way, with_back, turnings}
 use Rattle.loop_amounts.specs.declared.back.Back.{Back}
 use Rattle.loop_amounts.specs.Wraps.{wrapped, all_wrapped, SameCounts, AgreeIn}
 use Rattle.loop_amounts.specs.Made.{backs_by, HasTurned}
@@ -26,9 +26,9 @@ use Rattle.loop_amounts.proofs.WrapLemmas.{at_wrapped, wrapped-long}
 use Rattle.loop_amounts.proofs.SpreadLemmas.{BeginsIn, spread_agrees, spread_same, counts_same, backs_same}
 use Rattle.loop_amounts.proofs.TurnLemmas.{turned_from}
 use Rattle.path_places.specs.Places.{place_of, is_walked}
-use Rattle.path_places.specs.Laws.{function_steps, IsReachedWhole}
-use Rattle.path_rows.specs.Driver.{Prices, blank, function_loops, function_level}
-use Rattle.path_duals.specs.Duals.{final_level}
+use Rattle.path_places.specs.PlaceLaws.{function_steps, IsReachedWhole}
+use Rattle.path_places.specs.Driver.{Prices, blank, function_loops, function_level}
+use Rattle.path_places.specs.Duals.{final_level}
 use Rattle.path_flows.specs.Flows.{Flowing, counted, called, function_ground, function_turnings, first_counts, function_counts, function_backs, function_flow, flow_from, first_flow, amounts_of, parts_of}
 use Rattle.path_walks.specs.Functions.{IsFunction}
 use Rattle.path_walks.specs.Sizes.{AllStaySmall}

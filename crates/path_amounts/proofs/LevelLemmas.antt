@@ -22,13 +22,13 @@ use Rattle.loop_walks.proofs.LevelLemmas.{Held, weighed-long}
 use Rattle.loop_walks.proofs.UntouchedLemmas.{Avoids, settled_untouched}
 use Rattle.path_places.specs.Reached.{in_span}
 use Rattle.path_places.specs.Places.{place_of, is_stop, is_walked, loop_of, loops_of}
-use Rattle.path_places.specs.Laws.{function_steps, IsReachedWhole}
+use Rattle.path_places.specs.PlaceLaws.{function_steps, IsReachedWhole}
 use Rattle.path_places.proofs.PlaceLemmas.{place_up, place_above, place_within}
 use Rattle.path_places.proofs.RankLemmas.{span_of}
 use Rattle.path_places.proofs.LoopLemmas.{steps_each, has_of}
 use Rattle.path_places.proofs.FunctionLemmas.{walked_in}
-use Rattle.path_rows.specs.Driver.{Prices, blank, function_loops, function_level, function_pairs, functions_level}
-use Rattle.path_rows.proofs.DriverLemmas.{fits_function, none_yet, function_holds, zero_at}
+use Rattle.path_places.specs.Driver.{Prices, blank, function_loops, function_level, function_pairs, functions_level}
+use Rattle.path_places.proofs.DriverLemmas.{fits_function, none_yet, function_holds, zero_at}
 use Rattle.path_flows.specs.Flows.{function_ground}
 use Rattle.path_walks.specs.Functions.{IsFunction}
 use Rattle.path_walks.specs.Sizes.{AllStaySmall}

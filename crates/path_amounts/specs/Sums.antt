@@ -11,7 +11,7 @@ use Rattle.loop_amounts.specs.declared.back.Back.{Back}
 use Rattle.loop_amounts.specs.Made.{backs_by}
 use Rattle.loop_amounts.specs.Wraps.{wrapped, SameCounts}
 use Rattle.path_flows.specs.Flows.{Flowing, call_starts, function_backs, function_counts, function_turnings}
-use Rattle.path_rows.specs.Driver.{Prices}
+use Rattle.path_places.specs.Driver.{Prices}
 use Rattle.path_walks.specs.Opens.{is_open}
 
 -- the same but for multiples of 2^128

@@ -2,10 +2,10 @@
 ghost use Rattle.std.specs.Prelude.{◌≡◌, ◌+◌, ◌<◌, ◌^◌, length, IfOk, OnOk, All};
 ghost use Rattle.loop_walks.specs.Levels.{level_of};
 ghost use Rattle.loop_amounts.specs.Wraps.{SameCounts};
-ghost use Rattle.path_duals.specs.Duals.{final_level};
+ghost use Rattle.path_places.specs.Duals.{final_level};
 ghost use Rattle.path_flows.specs.Flows.{first_flow, amounts_of, parts_of};
-ghost use Rattle.path_places.specs.Laws.{IsReachedWhole};
-ghost use Rattle.path_rows.specs.Driver.{blank};
+ghost use Rattle.path_places.specs.PlaceLaws.{IsReachedWhole};
+ghost use Rattle.path_places.specs.Driver.{blank};
 ghost use Rattle.path_walks.specs.Prices.{prices_of};
 ghost use Rattle.path_walks.specs.Sizes.{AllStaySmall};
 ghost use Rattle.path_amounts.specs.Sums.{flowing};

@@ -11,15 +11,15 @@ use Rattle.code_flow_system.specs.Flows.{price}
 use Rattle.loop_walks.specs.Walks.{worth_at}
 use Rattle.loop_walks.specs.Levels.{Level, level_of}
 use Rattle.path_places.specs.Places.{place_of}
-use Rattle.path_rows.specs.Driver.{blank}
-use Rattle.path_duals.specs.Duals.{final_level}
+use Rattle.path_places.specs.Driver.{blank}
+use Rattle.path_places.specs.Duals.{final_level}
 use Rattle.path_flows.specs.Flows.{amounts_of}
 use Rattle.path_walks.specs.Prices.{price_in}
 use Rattle.path_walks.specs.Sizes.{AllStaySmall}
 use Rattle.path_values.proofs.SameLemmas.{price_is}
-use Rattle.path_bound.specs.Laws.{IsBoundable}
-use Rattle.path_bound.specs.Priced.{AreUpToCosts, priced, PricedFlowsAreFlows}
-use Rattle.path_duals.proofs.PotentialLemmas.{all_of}
+use Rattle.path_cert.specs.BoundLaws.{IsBoundable}
+use Rattle.path_cert.specs.PricedFlows.{AreUpToCosts, priced, PricedFlowsAreFlows}
+use Rattle.path_places.proofs.PotentialLemmas.{all_of}
 use Rattle.path_cases.specs.Prices.{rest_of}
 
 rest_up : (n : ℕ) → (pos 0 ≤ℤ pos (n % 7)) × (pos (n % 7) ≤ℤ pos n)

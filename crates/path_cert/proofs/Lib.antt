@@ -1,2 +1,12 @@
 pub mod PartLemmas
 pub mod LongLemmas
+pub mod FunctionLemmas
+pub mod MoveLemmas
+pub mod CertLemmas
+pub mod BoundLemmas
+pub mod PricedFlowLemmas
+pub mod BestLemmas
+pub mod PricedLemmas
+pub mod RangeLemmas
+pub mod FactLemmas
+pub mod FlowLemmas

@@ -3,8 +3,8 @@ use Rattle.std.proofs.Common.{◌≡◌, ℕ, suc, ℤ, refl, ap, List, [], ◌�
 use Rattle.code_flow_system.specs.declared.claims.Never.{Never}
 use Rattle.code_flow_system.specs.declared.claims.LoopClaim.{LoopClaim}
 use Rattle.loop_walks.specs.declared.step.Pair.{Pair}
-use Rattle.path_duals.specs.Duals.{never_bounds, loop_bounds}
-use Rattle.path_duals.proofs.HoldLemmas.{Alongside}
+use Rattle.path_places.specs.Duals.{never_bounds, loop_bounds}
+use Rattle.path_places.proofs.HoldLemmas.{Alongside}
 
 pub nevers_long : (owe : ℕ → ℤ) (cs : List Never) → length (never_bounds owe cs) ≡ length cs
 nevers_long owe [] = refl

@@ -11,7 +11,7 @@ use Rattle.code_flow_system.specs.Systems.{ComesBefore, AreAscending}
 use Rattle.code_flow_system.specs.Certificates.{AddressesAscend, PartsAscend, IsPart, IsSmall, has_move}
 use Rattle.loop_walks.specs.Walks.{worth_at}
 use Rattle.path_places.specs.Places.{place_of}
-use Rattle.path_duals.specs.Duals.{potentials_of}
+use Rattle.path_places.specs.Duals.{potentials_of}
 use Rattle.path_flows.specs.Flows.{parts_of}
 
 -- ---- potentials

@@ -8,10 +8,10 @@ use Rattle.code_flow_system.specs.Flows.{IsFlow}
 use Rattle.code_flow_system.specs.Certificates.{listed}
 use Rattle.loop_walks.specs.Walks.{worth_at}
 use Rattle.path_places.specs.Places.{place_of}
-use Rattle.path_rows.specs.Driver.{Prices}
-use Rattle.path_duals.specs.Duals.{final_level}
+use Rattle.path_places.specs.Driver.{Prices}
+use Rattle.path_places.specs.Duals.{final_level}
 use Rattle.path_flows.specs.Flows.{amounts_of, parts_of}
-use Rattle.path_counts.specs.Free.{free}
+use Rattle.path_flows.specs.Free.{free}
 
 -- the worth of the entry, and the flow that the walks list
 abbrev pub best_worth : System → List LoopShape → List Span → Prices → ℤ

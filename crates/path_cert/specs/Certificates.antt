@@ -14,8 +14,8 @@ use Rattle.code_flow_system.specs.Flows.{price}
 use Rattle.code_flow_system.specs.Certificates.{whole_part}
 use Rattle.loop_walks.specs.Walks.{worth_at}
 use Rattle.path_places.specs.Places.{place_of}
-use Rattle.path_rows.specs.Driver.{Prices}
-use Rattle.path_duals.specs.Duals.{Values, values_of, potentials_of, never_multipliers, loop_multipliers}
+use Rattle.path_places.specs.Driver.{Prices}
+use Rattle.path_places.specs.Duals.{Values, values_of, potentials_of, never_multipliers, loop_multipliers}
 use Rattle.path_flows.specs.Flows.{amounts_of, parts_of}
 
 abbrev pub entry_worth : System → Values → ℤ

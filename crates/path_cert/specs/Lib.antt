@@ -2,3 +2,9 @@ pub mod Certificates
 pub mod Best
 pub mod Priced
 pub mod Ranges
+pub mod SlackLaws
+pub mod Accepted
+pub mod BoundLaws
+pub mod PricedFlows
+pub mod Facts
+pub mod BestLaws

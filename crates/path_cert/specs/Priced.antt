@@ -13,8 +13,8 @@ use Rattle.code_flow_system.specs.MoveCosts.{move_cost}
 use Rattle.code_flow_system.specs.Counts.{Amounts, count, total}
 use Rattle.code_flow_system.specs.Flows.{value}
 use Rattle.code_flow_system.specs.Certificates.{fact_limits, held, size_by, IsSigned, IsSmall, whole_part}
-use Rattle.path_rows.specs.Driver.{Prices}
-use Rattle.path_duals.specs.Duals.{values_of, potentials_of, never_multipliers, loop_multipliers}
+use Rattle.path_places.specs.Driver.{Prices}
+use Rattle.path_places.specs.Duals.{values_of, potentials_of, never_multipliers, loop_multipliers}
 use Rattle.path_cert.specs.Best.{best_worth}
 
 abbrev pub fact_price : Table → System → ℕ → List ℤ → Move → ℤ

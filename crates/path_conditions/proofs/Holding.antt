@@ -7,9 +7,9 @@ use Rattle.code_flow_system.specs.Systems.{System}
 use Rattle.code_flow_system.specs.Shapes.{AreShapesOf}
 use Rattle.path_fit.specs.Loops.{HeadsOwnLoop}
 use Rattle.path_places.proofs.HeaderLemmas.{back_of}
-use Rattle.path_counts.specs.Laws.{BacksAreFree, HasBounds}
-use Rattle.path_limits.specs.Limits.{IsLoopWithin}
-use Rattle.path_limits.specs.Narrow.{HasShortBounds}
+use Rattle.path_flows.specs.CountLaws.{BacksAreFree, HasBounds}
+use Rattle.path_ranges.specs.Limits.{IsLoopWithin}
+use Rattle.path_ranges.specs.Narrow.{HasShortBounds}
 
 pub within_all : (cs : List LoopClaim) → All HasBounds cs → All HasShortBounds cs → All IsLoopWithin cs
 within_all [] h k = All-nil IsLoopWithin

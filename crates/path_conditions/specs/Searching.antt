@@ -7,8 +7,8 @@ use Rattle.code_flow_system.specs.Systems.{System}
 use Rattle.code_flow_system.specs.Counts.{Amounts, count}
 use Rattle.code_flow_system.specs.Loose.{IsLoose}
 use Rattle.path_fit.specs.Fitting.{LoopsFit}
-use Rattle.path_counts.specs.Laws.{HasBounds}
-use Rattle.path_limits.specs.Limits.{LooseCountsAreFew, LooseValuesBelow}
+use Rattle.path_flows.specs.CountLaws.{HasBounds}
+use Rattle.path_ranges.specs.Limits.{LooseCountsAreFew, LooseValuesBelow}
 use Rattle.path_conditions.specs.Natural.{IsNaturalFact, both_totals}
 
 -- loops and functions fit the system; bounds of loops can be kept; every loose flow has a value below 2^60 and counts below 2^49; and there are at most 32 facts, whose numbers aren't negative and whose sides come to at most 2^66

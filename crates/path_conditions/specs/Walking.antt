@@ -6,9 +6,9 @@ use Rattle.code_flow_system.specs.declared.shapes.Span.{Span}
 use Rattle.code_flow_system.specs.Systems.{System}
 use Rattle.code_flow_system.specs.Counts.{Amounts, count}
 use Rattle.code_flow_system.specs.Loose.{IsLoose}
-use Rattle.path_counts.specs.Laws.{BacksAreFree}
-use Rattle.path_limits.specs.Limits.{IsLimited, LooseCountsAreFew}
-use Rattle.path_limits.specs.Narrow.{FetchesCost, HasShortBounds}
+use Rattle.path_flows.specs.CountLaws.{BacksAreFree}
+use Rattle.path_ranges.specs.Limits.{IsLimited, LooseCountsAreFew}
+use Rattle.path_ranges.specs.Narrow.{FetchesCost, HasShortBounds}
 use Rattle.path_conditions.specs.Natural.{IsNaturalFact, both_totals}
 
 pub record IsFactLimited (t : Table) (s : System) (ls : List LoopShape) (ps : List Span) : Type 0 where

@@ -8,7 +8,7 @@ use crate::words::shown;
 use code_flow_system::{LoopShape, Span, System};
 use dual_check::{Verdict, check};
 use path_answer::{Bounded, Column, Kind};
-use path_fact_search::bound;
+use path_enum::bound;
 use rv_core::Costs;
 use std::alloc::{AllocError, Global};
 use wcc_base::Memory;

@@ -19,21 +19,21 @@ use Rattle.code_flow_system.specs.Systems.{System}
 use Rattle.code_flow_system.specs.Certificates.{Limit, never_limits, loop_limits, fact_limits, limits, size_by, row_size, scaled_price, potential, whole_part, IsNarrow, IsSmall, IsPart}
 use Rattle.loop_walks.specs.declared.step.Pair.{Pair}
 use Rattle.loop_walks.specs.Levels.{Level, level_of}
-use Rattle.path_places.specs.Laws.{IsReachedWhole}
-use Rattle.path_duals.specs.Duals.{Values, values_of, potentials_of, both_of, final_level, final_pairs}
-use Rattle.path_duals.proofs.PotentialLemmas.{all_of}
-use Rattle.path_dual_ranges.specs.Ranges.{IsNarrowDual}
-use Rattle.path_dual_ranges.proofs.ClaimSizes.{size-append}
-use Rattle.path_dual_ranges.proofs.RowSizes.{sizes}
-use Rattle.path_dual_ranges.proofs.FineSizes.{loose_most, duals_narrow}
+use Rattle.path_places.specs.PlaceLaws.{IsReachedWhole}
+use Rattle.path_places.specs.Duals.{Values, values_of, potentials_of, both_of, final_level, final_pairs}
+use Rattle.path_places.proofs.PotentialLemmas.{all_of}
+use Rattle.path_sizes.specs.DualRanges.{IsNarrowDual}
+use Rattle.path_sizes.proofs.ClaimSizes.{size-append}
+use Rattle.path_sizes.proofs.RowSizes.{sizes}
+use Rattle.path_sizes.proofs.FineSizes.{loose_most, duals_narrow}
 use Rattle.path_cert.specs.Certificates.{entry_worth}
 use Rattle.path_cert.proofs.PartLemmas.{potentials_ascend}
 use Rattle.path_walks.specs.declared.walks.Settled.{Settled}
 use Rattle.path_values.specs.Laws.{AreNarrow as AreNarrowRows}
-use Rattle.path_duals.proofs.LongLemmas.{worths_long}
+use Rattle.path_places.proofs.LongLemmas.{worths_long}
 use Rattle.path_cert.specs.Priced.{fact_price, fact_size, fact_prices, fact_most, fact_low}
-use Rattle.path_best.specs.Facts.{fact_numbers}
-use Rattle.path_best.proofs.FactLemmas.{facts_bounded}
+use Rattle.path_cert.specs.Facts.{fact_numbers}
+use Rattle.path_cert.proofs.FactLemmas.{facts_bounded}
 use Rattle.path_fact_walks.specs.Plain.{values_in, plain_with, cert_by, AreAddable}
 use Rattle.path_fact_walks.specs.Sizes.{AreMultiplied}
 use Rattle.path_conditions.specs.Walking.{IsSearchable}

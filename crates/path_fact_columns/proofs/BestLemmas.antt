@@ -18,9 +18,9 @@ use Rattle.code_flow_system.specs.Loose.{IsLoose}
 use Rattle.code_flow_system.specs.Certificates.{fact_limits, IsSigned, IsSmall, IsInForm, Accepts}
 use Rattle.path_flows.specs.Flows.{amounts_of}
 use Rattle.path_cert.specs.Priced.{fact_prices, fact_certificate, fact_total, AreMultipliers, fact_low}
-use Rattle.path_best.specs.Facts.{IsFactFlow}
-use Rattle.path_best.proofs.PricedLemmas.{prices_pay}
-use Rattle.path_best.proofs.BestLemmas.{free_loose}
+use Rattle.path_cert.specs.Facts.{IsFactFlow}
+use Rattle.path_cert.proofs.PricedLemmas.{prices_pay}
+use Rattle.path_cert.proofs.BestLemmas.{free_loose}
 use Rattle.path_conditions.specs.Walking.{IsSearchable}
 use Rattle.path_fact_kinds.specs.Columns.{totals_of, multiplied}
 use Rattle.path_fact_columns.specs.Conditions.{AreNarrow}

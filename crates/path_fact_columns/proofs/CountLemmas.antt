@@ -18,7 +18,7 @@ use Rattle.code_flow_system.specs.Counts.{Amounts, amount, count, total}
 use Rattle.code_flow_system.specs.Flows.{price}
 use Rattle.code_flow_system.specs.Systems.{System}
 use Rattle.path_conditions.specs.Natural.{AreNatural, IsNaturalFact, both_totals}
-use Rattle.path_fact_mixes.specs.Laws.{total_of}
+use Rattle.path_fact_kinds.specs.MixLaws.{total_of}
 use Rattle.path_fact_kinds.specs.Columns.{totals_of}
 
 -- the moves at an address count it

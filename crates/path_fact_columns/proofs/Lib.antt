@@ -3,3 +3,12 @@ pub mod WalkLemmas
 pub mod PartLemmas
 pub mod AddableLemmas
 pub mod BestLemmas
+pub mod AddLemmas
+pub mod MixLemmas
+pub mod NumberLemmas
+pub mod ScaledLemmas
+pub mod WeightLemmas
+pub mod ListedLemmas
+pub mod NarrowLemmas
+pub mod SolvedLemmas
+pub mod FirstLemmas

@@ -13,14 +13,14 @@ use Rattle.code_flow_system.specs.Systems.{System}
 use Rattle.code_flow_system.specs.Certificates.{whole_part, IsInForm, Accepts}
 use Rattle.path_cert.specs.Ranges.{HasRanges}
 use Rattle.path_flows.specs.Flows.{amounts_of}
-use Rattle.path_rows.specs.Driver.{blank}
+use Rattle.path_places.specs.Driver.{blank}
 use Rattle.path_walks.specs.Sizes.{AllStaySmall}
 use Rattle.path_cert.specs.Priced.{fact_prices, fact_certificate, AreMultipliers, fact_most, fact_low}
-use Rattle.path_best.specs.Facts.{fact_numbers, IsFactFlow, HasFactFlow}
-use Rattle.path_best.proofs.PricedLemmas.{facts_accepted}
-use Rattle.path_best.proofs.RangeLemmas.{facts_ranged}
-use Rattle.path_best.proofs.FactLemmas.{facts_bounded, numbers_fit}
-use Rattle.path_best.proofs.FlowLemmas.{flows_best}
+use Rattle.path_cert.specs.Facts.{fact_numbers, IsFactFlow, HasFactFlow}
+use Rattle.path_cert.proofs.PricedLemmas.{facts_accepted}
+use Rattle.path_cert.proofs.RangeLemmas.{facts_ranged}
+use Rattle.path_cert.proofs.FactLemmas.{facts_bounded, numbers_fit}
+use Rattle.path_cert.proofs.FlowLemmas.{flows_best}
 use Rattle.path_conditions.specs.Walking.{IsSearchable}
 use Rattle.path_fact_columns.specs.Conditions.{AreNarrow}
 use Rattle.path_fact_columns.specs.Answers.{worth_at}

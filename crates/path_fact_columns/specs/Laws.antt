@@ -6,7 +6,7 @@ use Rattle.code_flow_system.specs.Systems.{System}
 use Rattle.code_flow_system.specs.Counts.{count}
 use Rattle.code_flow_system.specs.Flows.{IsFlow, value}
 use Rattle.code_flow_system.specs.Certificates.{listed, fact_limits, IsSigned, IsInForm, Accepts}
-use Rattle.path_counts.specs.Free.{free}
+use Rattle.path_flows.specs.Free.{free}
 use Rattle.path_conditions.specs.Natural.{both_totals}
 use Rattle.path_fact_columns.specs.declared.answering.Answer.{Answer}
 use Rattle.path_fact_kinds.specs.Columns.{column_of, IsBest}

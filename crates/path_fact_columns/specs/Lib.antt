@@ -1,3 +1,5 @@
 pub mod Conditions
 pub mod Answers
 pub mod Laws
+pub mod Adding
+pub mod OptimumLaws

@@ -4,7 +4,7 @@ ghost use Rattle.frac128.specs.Terms.{applied};
 ghost use Rattle.code_flow_system.specs.Counts.{amount, count};
 ghost use Rattle.code_flow_system.specs.Certificates.{listed};
 ghost use Rattle.path_conditions.specs.Natural.{AreNatural, IsNaturalFact, both_totals};
-ghost use Rattle.path_fact_mixes.specs.Laws.{total_of};
+ghost use Rattle.path_fact_kinds.specs.MixLaws.{total_of};
 ghost use Rattle.path_fact_columns.specs.Answers.{AreParts};
 
 use code_flow_lookup::{amount, moves_at};

@@ -7,7 +7,7 @@ use Rattle.code_flow_system.specs.declared.shapes.Span.{Span}
 use Rattle.code_flow_system.specs.Claims.{Claims, claim_count}
 use Rattle.code_flow_system.specs.Systems.{System, IsSystem}
 use Rattle.path_places.specs.Reached.{AreReached}
-use Rattle.path_limits.specs.Narrow.{FetchesCost, HasShortBounds}
+use Rattle.path_ranges.specs.Narrow.{FetchesCost, HasShortBounds}
 use Rattle.path_conditions.proofs.Holding.{backs_free, within_all}
 use Rattle.path_conditions.specs.Searching.{CanSearch}
 use Rattle.path_conditions.specs.Walking.{IsSearchable}

@@ -14,8 +14,8 @@ use Rattle.code_flow_system.specs.declared.shapes.Span.{Span}
 use Rattle.code_flow_system.specs.Systems.{System}
 use Rattle.code_flow_system.specs.Counts.{Amounts, amount, count}
 use Rattle.path_fit.specs.Fitting.{LoopsFit}
-use Rattle.path_counts.specs.Laws.{HasBounds}
-use Rattle.path_limits.specs.Limits.{LooseCountsAreFew, LooseValuesBelow}
+use Rattle.path_flows.specs.CountLaws.{HasBounds}
+use Rattle.path_ranges.specs.Limits.{LooseCountsAreFew, LooseValuesBelow}
 use Rattle.path_conditions.specs.Natural.{AreNatural, IsNaturalFact, both_totals}
 use Rattle.path_conditions.specs.Searching.{CanSearch}
 use Rattle.path_fact_fit.specs.Few.{IsFewTerm, IsFewFact}

@@ -1,7 +1,7 @@
 // The test.
 ghost use Rattle.std.specs.Prelude.{◌≡◌, ◌↔◌, true, IfOk, All};
 ghost use Rattle.rv_core.specs.Table.{table_of};
-ghost use Rattle.path_counts.specs.Laws.{HasBounds};
+ghost use Rattle.path_flows.specs.CountLaws.{HasBounds};
 ghost use Rattle.path_conditions.specs.Searching.{CanSearch};
 ghost use Rattle.path_fact_fit.specs.Few.{IsFewTerm, IsFewFact};
 

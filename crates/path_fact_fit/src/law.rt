@@ -2,7 +2,7 @@
 ghost use Rattle.std.specs.Prelude.{All};
 ghost use Rattle.rv_core.specs.Table.{table_of};
 ghost use Rattle.path_places.specs.Reached.{AreReached};
-ghost use Rattle.path_limits.specs.Narrow.{HasShortBounds};
+ghost use Rattle.path_ranges.specs.Narrow.{HasShortBounds};
 ghost use Rattle.path_conditions.specs.Searching.{CanSearch};
 ghost use Rattle.path_conditions.specs.Walking.{IsSearchable};
 

@@ -7,8 +7,8 @@ use Rattle.code_flow_system.specs.Systems.{System}
 use Rattle.code_flow_system.specs.Counts.{Amounts, count}
 use Rattle.code_flow_system.specs.Flows.{IsFlow, value}
 use Rattle.path_answer.specs.declared.bounded.Column.{Column}
-use Rattle.path_counts.specs.Free.{free}
-use Rattle.path_fact_mixes.specs.Laws.{total_of}
+use Rattle.path_flows.specs.Free.{free}
+use Rattle.path_fact_kinds.specs.MixLaws.{total_of}
 
 abbrev pub ops_of : List FactClaim → List Compare
 ops_of [] = []

@@ -10,7 +10,7 @@ use Rattle.path_answer.specs.declared.bounded.Column.{Column}
 use Rattle.path_answer.specs.declared.bounded.Kind.{Kind}
 use Rattle.path_answer.specs.declared.bounded.Kind.TheVariants.{Greatest, Empty, Wide, Spent}
 use Rattle.path_pivot_rounds.specs.Rounds.{IsColumnOf}
-use Rattle.path_pivot_laws.specs.Laws.{column_at}
+use Rattle.path_pivot_laws.specs.RoundLaws.{column_at}
 use Rattle.path_fact_kinds.specs.Searched.{AreSearched}
 use Rattle.path_fact_kinds.specs.Causes.{IsWide, IsSpent}
 

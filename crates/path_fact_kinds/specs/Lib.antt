@@ -1,3 +1,5 @@
+pub mod Mixes
+pub mod MixLaws
 pub mod Columns
 pub mod Searched
 pub mod Causes

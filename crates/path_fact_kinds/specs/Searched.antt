@@ -9,10 +9,10 @@ use Rattle.path_pivot_tables.specs.declared.running.Ending.TheVariants.{Second, 
 use Rattle.path_pivot_tables.specs.declared.running.Ended.{Ended}
 use Rattle.path_pivot_rounds.specs.Rounds.{round_over}
 use Rattle.path_pivot_tables.specs.Choices.{right}
-use Rattle.path_pivot_rows.specs.Rows.{entry}
+use Rattle.path_pivot_tables.specs.Rows.{entry}
 use Rattle.path_pivot_tables.specs.declared.table.Table.{Table as Rows}
-use Rattle.path_pivot_ends.specs.Multiplied.{duals, objective_place, scaled, tail_of, second_multipliers}
-use Rattle.path_pivot_laws.specs.Laws.{column_at}
+use Rattle.path_pivot_rounds.specs.Multiplied.{duals, objective_place, scaled, tail_of, second_multipliers}
+use Rattle.path_pivot_laws.specs.RoundLaws.{column_at}
 use Rattle.path_fact_kinds.specs.Columns.{IsBest, multiplied, ops_of}
 
 -- how many pivots are made before the round of that number, the first one being that over one column

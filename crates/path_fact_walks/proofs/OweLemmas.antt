@@ -19,9 +19,9 @@ use Rattle.code_flow_system.specs.Systems.{System, IsSystem}
 use Rattle.code_flow_system.specs.Certificates.{Limit, never_limits, loop_limits, fact_limits, limits, held, row_size, potential, scaled_price, whole_part, IsNarrow}
 use Rattle.loop_walks.specs.declared.step.Pair.{Pair}
 use Rattle.loop_walks.specs.Walks.{larger}
-use Rattle.path_duals.specs.Duals.{Values, owed, most_owed, both_of, potentials_of, owe_of, never_multipliers, loop_multipliers}
+use Rattle.path_places.specs.Duals.{Values, owed, most_owed, both_of, potentials_of, owe_of, never_multipliers, loop_multipliers}
 use Rattle.path_cert.specs.Certificates.{entry_worth}
-use Rattle.path_duals.proofs.PotentialLemmas.{potential_at}
+use Rattle.path_places.proofs.PotentialLemmas.{potential_at}
 use Rattle.path_values.specs.Owed.{owed_by, larger_of, most_by, owe_at, nevers_by, loops_by}
 use Rattle.path_values.specs.Laws.{AreNarrow}
 use Rattle.path_values.proofs.ValueLemmas.{nevers_are, loops_are}

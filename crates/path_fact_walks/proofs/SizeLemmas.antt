@@ -10,7 +10,7 @@ use Rattle.frac128.specs.Terms.{Terms, coefficient}
 use Rattle.frac128.proofs.TermsLemmas.{coefficient-append}
 use Rattle.code_flow_system.specs.declared.claims.FactClaim.{FactClaim}
 use Rattle.code_flow_system.specs.Certificates.{negated, fact_limits, held}
-use Rattle.path_dual_ranges.proofs.ClaimSizes.{size-add}
+use Rattle.path_sizes.proofs.ClaimSizes.{size-add}
 
 pub product_small : (a b : ℤ) → unsigned_abs a ≤ 2 ^ 44 → unsigned_abs b < 2 ^ 65 → unsigned_abs (a *ℤ b) ≤ 2 ^ 109
 product_small a b h k =

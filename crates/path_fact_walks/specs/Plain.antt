@@ -10,7 +10,7 @@ use Rattle.code_flow_system.specs.Claims.{Claims}
 use Rattle.code_flow_system.specs.Systems.{System, IsSystem}
 use Rattle.code_flow_system.specs.Certificates.{whole_part, IsInForm, IsSmall}
 use Rattle.loop_walks.specs.declared.step.Pair.{Pair}
-use Rattle.path_duals.specs.Duals.{Values, potentials_of, both_of, never_multipliers, loop_multipliers}
+use Rattle.path_places.specs.Duals.{Values, potentials_of, both_of, never_multipliers, loop_multipliers}
 use Rattle.path_cert.specs.Certificates.{entry_worth}
 use Rattle.path_walks.specs.declared.walks.Settled.{Settled}
 use Rattle.path_values.specs.Laws.{AreNarrow}

@@ -2,7 +2,7 @@
 ghost use Rattle.std.specs.Prelude.{◌≡◌, ◌<◌, ◌^◌, IfOk};
 ghost use Rattle.rv_core.specs.Table.{table_of};
 ghost use Rattle.code_flow_system.specs.Certificates.{whole_part};
-ghost use Rattle.path_duals.specs.Duals.{both_of};
+ghost use Rattle.path_places.specs.Duals.{both_of};
 ghost use Rattle.path_cert.specs.Priced.{fact_price};
 ghost use Rattle.path_fact_walks.specs.Plain.{plain_with, cert_by, values_in, AreAddable};
 

@@ -4,7 +4,7 @@
 //! With multipliers a fact is no restriction but a part of the prices: each move costs its cycles over a scale, less what
 //! the multiplied facts have at its address. [`settle_facts`] makes the walks at these prices, [`fact_cert`] the certificate
 //! of their potentials and multipliers, and [`fact_flow`] the moves of their flow. Proved: all three are exactly those that
-//! `path_cert` defines; the laws of `path_best` say that such a certificate is accepted, and such a flow a best one.
+//! `path_cert` defines; its laws say that such a certificate is accepted, and such a flow a best one.
 //!
 //! The crate knows nothing of where multipliers come from.
 #![tactic(auto)]

@@ -2,9 +2,9 @@
 ghost use Rattle.std.specs.Prelude.{◌≡◌, length, IfOk};
 ghost use Rattle.rv_core.specs.Table.{table_of};
 ghost use Rattle.loop_walks.specs.Levels.{level_of};
-ghost use Rattle.path_duals.specs.Duals.{final_level, final_pairs};
-ghost use Rattle.path_places.specs.Laws.{IsReachedWhole};
-ghost use Rattle.path_rows.specs.Driver.{blank};
+ghost use Rattle.path_places.specs.Duals.{final_level, final_pairs};
+ghost use Rattle.path_places.specs.PlaceLaws.{IsReachedWhole};
+ghost use Rattle.path_places.specs.Driver.{blank};
 ghost use Rattle.path_walks.specs.Sizes.{AllStaySmall};
 ghost use Rattle.path_cert.specs.Priced.{fact_prices};
 ghost use Rattle.path_fact_walks.specs.Sizes.{AreMultiplied};

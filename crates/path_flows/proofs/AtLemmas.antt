@@ -15,16 +15,16 @@ use Rattle.loop_walks.specs.declared.step.Step.{Step}
 use Rattle.loop_walks.specs.declared.step.Loop.{Loop}
 use Rattle.loop_walks.specs.Turns.{way_at, turn_ways}
 use Rattle.loop_walks.specs.Levels.{weighed}
-use Rattle.loop_passes.specs.Turns.{turning_of, with_way, with_back, turnings}
+use Rattle.loop_flows.specs.Turns.{turning_of, with_way, with_back, turnings}
 use Rattle.path_places.specs.Reached.{in_span}
 use Rattle.path_places.specs.Places.{place_of, on_place, is_stop, back_place, loop_of, loops_of}
-use Rattle.path_places.specs.Laws.{IsReachedWhole}
+use Rattle.path_places.specs.PlaceLaws.{IsReachedWhole}
 use Rattle.path_places.proofs.RankLemmas.{span_of}
 use Rattle.path_places.proofs.PlaceLemmas.{place_below, place_tells}
 use Rattle.path_places.proofs.LoopLemmas.{onward_arrives, first_or}
 use Rattle.path_places.proofs.FunctionLemmas.{move_of, back_inside}
-use Rattle.path_rows.specs.Driver.{Prices}
-use Rattle.path_rows.proofs.DriverLemmas.{closed}
+use Rattle.path_places.specs.Driver.{Prices}
+use Rattle.path_places.proofs.DriverLemmas.{closed}
 use Rattle.path_flows.proofs.SumLemmas.{is_first, goes_to, calls_by, calls_to, goes_place, calls_place_by, calls_place, At, EachTurn}
 
 -- ---- the move at the place of an address

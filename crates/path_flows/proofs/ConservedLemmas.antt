@@ -17,15 +17,15 @@ use Rattle.code_flow_system.specs.Certificates.{whole, listed}
 use Rattle.code_flow_system.specs.Shapes.{onward, IsInOne}
 use Rattle.loop_walks.specs.Walks.{worth_at}
 use Rattle.path_places.specs.Places.{place_of}
-use Rattle.path_places.specs.Laws.{IsReachedWhole}
+use Rattle.path_places.specs.PlaceLaws.{IsReachedWhole}
 use Rattle.path_places.proofs.PlaceLemmas.{place_below}
 use Rattle.path_places.proofs.LoopLemmas.{has_of, onward_arrives, first_or}
 use Rattle.path_places.proofs.FunctionLemmas.{move_of}
-use Rattle.path_rows.specs.Driver.{Prices, blank, functions_level}
-use Rattle.path_rows.proofs.DriverLemmas.{closed, numbered, zero_at}
+use Rattle.path_places.specs.Driver.{Prices, blank, functions_level}
+use Rattle.path_places.proofs.DriverLemmas.{closed, numbered, zero_at}
 use Rattle.path_flows.specs.Flows.{amounts_of, parts_of, first_flow, flow_from}
 use Rattle.path_flows.specs.Opens.{AreOpenFunctions}
-use Rattle.path_flows.specs.Laws.{FlowsAreConserved}
+use Rattle.path_flows.specs.FlowLaws.{FlowsAreConserved}
 use Rattle.path_flows.proofs.SumLemmas.{sum_if, begins_at, is_first, goes_to, calls_by, calls_to, AreAmounts, count_sum, arrivals_sum}
 use Rattle.path_flows.proofs.AtLemmas.{target_reached}
 use Rattle.path_flows.proofs.SystemLemmas.{IsGoing, flow_goes}

@@ -4,3 +4,6 @@ pub mod StartLemmas
 pub mod PassLemmas
 pub mod SystemLemmas
 pub mod ConservedLemmas
+pub mod ClaimLemmas
+pub mod KeepLemmas
+pub mod FreeLemmas

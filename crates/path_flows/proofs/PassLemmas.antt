@@ -17,20 +17,20 @@ use Rattle.loop_walks.proofs.WalkLemmas.{relaxed_other}
 use Rattle.loop_flows.specs.Passes.{amount_at, spread, departed, arrived}
 use Rattle.loop_flows.specs.Hands.{StandsOpen}
 use Rattle.loop_flows.specs.Flows.{counts_of, backs_of, backs_from, backs_to, AreTurned}
-use Rattle.loop_flows.specs.Laws.{FlowsOn}
+use Rattle.loop_flows.specs.FlowLaws.{FlowsOn}
 use Rattle.loop_flows.proofs.FlowLemmas.{flows_on}
-use Rattle.loop_passes.specs.Turns.{is_tight}
-use Rattle.loop_passes.proofs.TurnLemmas.{can_all_turn}
-use Rattle.loop_passes.specs.Opens.{EachMade}
-use Rattle.loop_passes.proofs.OpenLemmas.{ends_made, all_made}
-use Rattle.loop_passes.proofs.EndLemmas.{begins, begins_each, begins_not, begins_has, is_open_at, BeginsLow, is_open, ends_lead, spread_same, only_in, only_in-long, only_in_at}
+use Rattle.loop_flows.specs.Turns.{is_tight}
+use Rattle.loop_flows.proofs.TurnLemmas.{can_all_turn}
+use Rattle.loop_flows.specs.Opens.{EachMade}
+use Rattle.loop_flows.proofs.OpenLemmas.{ends_made, all_made}
+use Rattle.loop_flows.proofs.EndLemmas.{begins, begins_each, begins_not, begins_has, is_open_at, BeginsLow, is_open, ends_lead, spread_same, only_in, only_in-long, only_in_at}
 use Rattle.path_places.specs.Places.{place_of, on_place, is_stop, is_walked}
-use Rattle.path_places.specs.Laws.{function_steps, IsReachedWhole}
+use Rattle.path_places.specs.PlaceLaws.{function_steps, IsReachedWhole}
 use Rattle.path_places.proofs.PlaceLemmas.{place_below}
 use Rattle.path_places.proofs.LoopLemmas.{has_of, steps_each, onward_arrives, first_or}
 use Rattle.path_places.proofs.FunctionLemmas.{walked_in}
-use Rattle.path_rows.specs.Driver.{Prices, function_loops, function_level}
-use Rattle.path_rows.proofs.DriverLemmas.{fits_function, closed}
+use Rattle.path_places.specs.Driver.{Prices, function_loops, function_level}
+use Rattle.path_places.proofs.DriverLemmas.{fits_function, closed}
 use Rattle.path_flows.specs.Flows.{function_ground, function_turnings, first_counts, function_counts, function_backs}
 use Rattle.path_flows.specs.Opens.{CallsOpenly, IsOpenFunction}
 use Rattle.path_flows.proofs.AtLemmas.{same_place}

@@ -18,12 +18,12 @@ use Rattle.loop_walks.specs.Rows.{IsBack, IsLoopOf, AreLoops}
 use Rattle.loop_walks.proofs.EachLemmas.{each_map}
 use Rattle.loop_walks.proofs.WalkLemmas.{relaxed_other}
 use Rattle.path_places.specs.Places.{place_of, loop_of}
-use Rattle.path_places.specs.Laws.{function_steps, IsReachedWhole}
+use Rattle.path_places.specs.PlaceLaws.{function_steps, IsReachedWhole}
 use Rattle.path_places.proofs.RankLemmas.{rank_equal, rank_inside, in_one}
 use Rattle.path_places.proofs.PlaceLemmas.{place_up}
 use Rattle.path_places.proofs.HeaderLemmas.{decide_in}
-use Rattle.path_rows.specs.Driver.{Prices, function_loops, function_level}
-use Rattle.path_rows.proofs.DriverLemmas.{fits_function}
+use Rattle.path_places.specs.Driver.{Prices, function_loops, function_level}
+use Rattle.path_places.proofs.DriverLemmas.{fits_function}
 use Rattle.path_flows.specs.Flows.{function_ground}
 use Rattle.path_flows.proofs.AtLemmas.{EachLoop, loops_each}
 

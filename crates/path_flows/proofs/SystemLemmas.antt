@@ -18,16 +18,16 @@ use Rattle.loop_walks.proofs.LevelLemmas.{Held, weighed-long}
 use Rattle.loop_flows.specs.Passes.{amount_at, departed, arrived}
 use Rattle.loop_flows.specs.Flows.{Turning, only_at, backs_from, backs_to}
 use Rattle.loop_flows.proofs.TotalLemmas.{only-long, only_there, only_elsewhere}
-use Rattle.loop_passes.specs.Opens.{EachMade}
+use Rattle.loop_flows.specs.Opens.{EachMade}
 use Rattle.path_places.specs.Reached.{rank}
 use Rattle.path_places.specs.Places.{place_of, call_worth, step_of, is_stop, is_walked, steps_of}
-use Rattle.path_places.specs.Laws.{function_steps, IsReachedWhole}
+use Rattle.path_places.specs.PlaceLaws.{function_steps, IsReachedWhole}
 use Rattle.path_places.proofs.RankLemmas.{rank_earlier, apart_one}
 use Rattle.path_places.proofs.PlaceLemmas.{place_below, place_within}
 use Rattle.path_places.proofs.LoopLemmas.{has_of, first_or}
 use Rattle.path_places.proofs.FunctionLemmas.{walked_in}
-use Rattle.path_rows.specs.Driver.{Prices, function_loops, function_level, function_pairs, functions_level}
-use Rattle.path_rows.proofs.DriverLemmas.{function_leaves, functions_leave, function_holds, elsewhere_all, elsewhere_before, IsFresh, Numbered}
+use Rattle.path_places.specs.Driver.{Prices, function_loops, function_level, function_pairs, functions_level}
+use Rattle.path_places.proofs.DriverLemmas.{function_leaves, functions_leave, function_holds, elsewhere_all, elsewhere_before, IsFresh, Numbered}
 use Rattle.path_flows.specs.Flows.{Flowing, counted, function_ground, function_turnings, function_counts, function_backs, function_flow, flow_from, first_flow}
 use Rattle.path_flows.specs.Opens.{CallsOpenly, IsOpenFunction, AreOpenFunctions}
 use Rattle.path_flows.proofs.SumLemmas.{sum_if, walked_if, backs_if, begins_at, is_first, goes_to, calls_by, calls_to, begins_place, goes_place, calls_place_by, calls_place, counted-long, counted_sum, departed_walked, arrived_walked, walked_same, walked_no, At, EachTurn, turned_back-long, back_sum, backs_from-if, backs_to-if, backs_no, each_turn, called-long, called_at}

@@ -10,9 +10,9 @@ use Rattle.loop_walks.specs.Levels.{Level, ground}
 use Rattle.loop_flows.specs.Passes.{amount_at, spread}
 use Rattle.loop_flows.specs.Flows.{Turning, only_at, counts_of, backs_of}
 use Rattle.path_places.specs.Places.{place_of, is_walked}
-use Rattle.path_places.specs.Laws.{function_steps}
-use Rattle.path_rows.specs.Driver.{Prices, blank, function_loops, function_level}
-use Rattle.loop_passes.specs.Turns.{is_tight, turnings}
+use Rattle.path_places.specs.PlaceLaws.{function_steps}
+use Rattle.path_places.specs.Driver.{Prices, blank, function_loops, function_level}
+use Rattle.loop_flows.specs.Turns.{is_tight, turnings}
 
 -- what starts at each place, by the calls of functions that are done, and how often each move is made
 pub record Flowing : Type 0 where

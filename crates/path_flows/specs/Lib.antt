@@ -1,3 +1,5 @@
 pub mod Flows
 pub mod Opens
-pub mod Laws
+pub mod FlowLaws
+pub mod Free
+pub mod CountLaws

@@ -6,10 +6,10 @@ use Rattle.code_flow_system.specs.declared.shapes.Span.{Span}
 use Rattle.code_flow_system.specs.Systems.{System}
 use Rattle.loop_walks.specs.declared.step.Step.{Step}
 use Rattle.loop_walks.specs.Levels.{Level}
-use Rattle.loop_passes.specs.Opens.{IsOpenCode}
+use Rattle.loop_flows.specs.Opens.{IsOpenCode}
 use Rattle.path_places.specs.Places.{call_worth, step_of, is_walked}
-use Rattle.path_places.specs.Laws.{function_steps}
-use Rattle.path_rows.specs.Driver.{Prices, function_loops, function_level}
+use Rattle.path_places.specs.PlaceLaws.{function_steps}
+use Rattle.path_places.specs.Driver.{Prices, function_loops, function_level}
 use Rattle.path_flows.specs.Flows.{function_ground}
 
 -- what each move calls whose step it is, is open

@@ -13,8 +13,8 @@ use Rattle.code_flow_system.specs.Systems.{System, IsSystem}
 use Rattle.code_flow_system.specs.Certificates.{AddressesAscend}
 use Rattle.code_flow_system.specs.Flows.{price}
 use Rattle.loop_prices.specs.LoopPrices.{Worths, turns_at, starts, starts_from, IsPaid, BoundsLooseFlows}
-use Rattle.path_limits.specs.Limits.{LooseCountsAreFew, LooseValuesUnder}
-use Rattle.path_limits.specs.Narrow.{FetchesCost, LooseCountsBelow}
+use Rattle.path_ranges.specs.Limits.{LooseCountsAreFew, LooseValuesUnder}
+use Rattle.path_ranges.specs.Narrow.{FetchesCost, LooseCountsBelow}
 use Rattle.path_loose_fit.specs.Rows.{worths_of, brought, IsWorth}
 
 -- what arrives is what both ways bring

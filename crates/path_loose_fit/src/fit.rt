@@ -2,14 +2,14 @@
 ghost use Rattle.std.specs.Prelude.{◌≡◌, ◌↔◌, ◌<◌, ◌^◌, ◌+ℤ◌, ◌<ℤ◌, pos, true, unsigned_abs, length, IfOk};
 ghost use Rattle.rv_core.specs.Table.{table_of};
 ghost use Rattle.code_flow_system.specs.Certificates.{AddressesAscend};
-ghost use Rattle.path_limits.specs.Limits.{LooseCountsAreFew, LooseValuesBelow, LooseValuesUnder};
+ghost use Rattle.path_ranges.specs.Limits.{LooseCountsAreFew, LooseValuesBelow, LooseValuesUnder};
 
 use crate::claim::starts;
 use crate::line::walk_all;
 use crate::row::{are_paid, are_worths, worth_of};
 use code_flow_system::{Span, System};
 use loop_prices::loose_flows_are_bounded;
-use path_limits::loose_counts_are_below;
+use path_ranges::loose_counts_are_below;
 use path_values::potentials;
 use rv_core::Costs;
 use std::alloc::Global;

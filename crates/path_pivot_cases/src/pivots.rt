@@ -1,6 +1,6 @@
 // Rows, and what a pivot makes of one.
 use crate::numbers::{numbers_of, shown};
-use path_pivot_rows::{reduced, turned};
+use path_pivot_tables::{reduced, turned};
 use std::alloc::{AllocError, Global};
 
 pub fn reduced_answer(alloc: Global, text: &str) -> Result<String, AllocError> {

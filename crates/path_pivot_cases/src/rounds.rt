@@ -3,18 +3,17 @@ ghost use Rattle.std.specs.Prelude.{◌≡◌, ◌+◌, ◌<◌, ◌≤◌, ◌^
 ghost use Rattle.path_pivot_tables.specs.Runs.{most_pivots};
 ghost use Rattle.path_pivot_tables.specs.Shapes.{IsShaped, HasEnded, NoneNegative};
 ghost use Rattle.path_pivot_rounds.specs.Rounds.{IsColumnOf};
-ghost use Rattle.path_pivot_ends.specs.Multiplied.{side_count, width};
-ghost use Rattle.path_pivot_laws.specs.Laws.{EndsWell};
+ghost use Rattle.path_pivot_rounds.specs.Multiplied.{side_count, width};
+ghost use Rattle.path_pivot_laws.specs.RoundLaws.{EndsWell};
 
 use crate::columns::{columns_of, ops_of};
 use crate::numbers::{numbers_of, shown};
 use path_answer::Column;
-use path_pivot_ends::{
-    LIMIT, Multipliers, Weight, denominator, first_multipliers, numerator, round_value,
+use path_pivot_laws::rounds_end_well;
+use path_pivot_rounds::{
+    LIMIT, Multipliers, Weight, denominator, first_multipliers, numerator, round, round_value,
     second_multipliers, weights,
 };
-use path_pivot_laws::rounds_end_well;
-use path_pivot_rounds::round;
 use path_pivot_tables::{Ended, Ending, MOST_PIVOTS, Table};
 use std::alloc::{AllocError, Global};
 use wcc_base::Compare;

@@ -1,13 +1,13 @@
 // Rounds, and the tables that they end with.
 ghost use Rattle.std.specs.Prelude.{◌≡◌, ◌+◌, ◌<◌, ◌≤◌, ◌^◌, length, IfOk, All};
 ghost use Rattle.path_pivot_tables.specs.Runs.{most_pivots};
-ghost use Rattle.path_pivot_keeps.specs.Laws.{NoRowIsLeft, PivotsKeepTables};
+ghost use Rattle.path_pivot_laws.specs.TableLaws.{NoRowIsLeft, PivotsKeepTables};
 ghost use Rattle.path_pivot_rounds.specs.Rounds.{IsColumnOf, round_over};
 
 use crate::columns::{columns_of, ops_of};
 use crate::numbers::shown;
 use path_answer::Column;
-use path_pivot_keeps::{no_row_is_left, pivots_keep_tables};
+use path_pivot_laws::{no_row_is_left, pivots_keep_tables};
 use path_pivot_rounds::round;
 use path_pivot_tables::{Ended, Ending, MOST_PIVOTS, Table};
 use std::alloc::{AllocError, Global};

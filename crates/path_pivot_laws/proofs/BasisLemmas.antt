@@ -8,7 +8,7 @@ use Rattle.std.proofs.lemmas.Int.{ints}
 use Rattle.std.proofs.lemmas.Bool.Decides.{eqb_tells}
 use Rattle.frac128.specs.Terms.{Terms, coefficient, applied}
 use Rattle.frac128.proofs.TermsLemmas.{when_same-here, when_same-elsewhere, applied-same, applied-add, applied-coefficient}
-use Rattle.path_pivot_rows.specs.Rows.{Row, entry, dot_from, dot}
+use Rattle.path_pivot_tables.specs.Rows.{Row, entry, dot_from, dot}
 
 -- a row as numbers at its places
 abbrev pub numbered : ℕ → Row → Terms

@@ -14,15 +14,15 @@ use Rattle.frac128.proofs.SignedLemmas.{mul-add, mul_assoc as mul_assoc_z, le_of
 use Rattle.wcc_base.specs.declared.compare.Compare.{Compare}
 use Rattle.wcc_base.specs.declared.compare.Compare.TheVariants.{AtMost, AtLeast, Equal}
 use Rattle.path_answer.specs.declared.bounded.Column.{Column}
-use Rattle.path_pivot_rows.specs.Rows.{Row, entry, gcd}
-use Rattle.path_pivot_rows.proofs.RowLemmas.{gcd_is}
+use Rattle.path_pivot_tables.specs.Rows.{Row, entry, gcd}
+use Rattle.path_pivot_tables.proofs.RowLemmas.{gcd_is}
 use Rattle.path_pivot_rounds.specs.declared.starting.Side.{Side}
-use Rattle.path_pivot_ends.specs.declared.weighing.Weight.{Weight}
+use Rattle.path_pivot_rounds.specs.declared.weighing.Weight.{Weight}
 use Rattle.path_pivot_rounds.specs.Starts.{sides_from, sided}
 use Rattle.path_pivot_tables.specs.Choices.{right}
-use Rattle.path_pivot_ends.specs.Multiplied.{side_count, duals}
-use Rattle.path_pivot_ends.specs.Weighted.{lowest, holds_weight, weights_of, numerator}
-use Rattle.path_pivot_laws.specs.Laws.{column_at, over, KeepFacts, HaveSigns}
+use Rattle.path_pivot_rounds.specs.Multiplied.{side_count, duals}
+use Rattle.path_pivot_rounds.specs.Weighted.{lowest, holds_weight, weights_of, numerator}
+use Rattle.path_pivot_laws.specs.RoundLaws.{column_at, over, KeepFacts, HaveSigns}
 use Rattle.path_pivot_laws.proofs.BasisLemmas.{number_at, basis_from}
 
 swap : (x y z : ℤ) → (x *ℤ y) *ℤ z ≡ (x *ℤ z) *ℤ y

@@ -1,3 +1,6 @@
+pub mod QuotientLemmas
+pub mod PivotLemmas
+pub mod TableLemmas
 pub mod BasisLemmas
 pub mod StartLemmas
 pub mod EndLemmas

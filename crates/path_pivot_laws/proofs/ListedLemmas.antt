@@ -8,16 +8,16 @@ use Rattle.frac128.proofs.SignedLemmas.{neg-mul, sub-mul}
 use Rattle.wcc_base.specs.declared.compare.Compare.{Compare}
 use Rattle.wcc_base.specs.declared.compare.Compare.TheVariants.{AtMost, AtLeast, Equal}
 use Rattle.path_answer.specs.declared.bounded.Column.{Column}
-use Rattle.path_pivot_rows.specs.Rows.{Row, entry, dot}
+use Rattle.path_pivot_tables.specs.Rows.{Row, entry, dot}
 use Rattle.path_pivot_rounds.specs.declared.starting.Side.{Side}
 use Rattle.path_pivot_tables.specs.declared.table.Table.{Table}
 use Rattle.path_pivot_rounds.specs.Starts.{sides_from, sided, side_row, whole_row, first_row, own_slacks, started, variables}
 use Rattle.path_pivot_tables.specs.Choices.{in_first, right}
 use Rattle.path_pivot_tables.specs.Shapes.{NoneNegative}
-use Rattle.path_pivot_ends.specs.Multiplied.{duals}
-use Rattle.path_pivot_keeps.specs.Tables.{row_at, Solves, IsTable}
-use Rattle.path_pivot_laws.specs.Laws.{weighed, column_at}
-use Rattle.path_pivot_keeps.proofs.TableLemmas.{right_is}
+use Rattle.path_pivot_rounds.specs.Multiplied.{duals}
+use Rattle.path_pivot_laws.specs.Tables.{row_at, Solves, IsTable}
+use Rattle.path_pivot_laws.specs.RoundLaws.{weighed, column_at}
+use Rattle.path_pivot_laws.proofs.TableLemmas.{right_is}
 use Rattle.path_pivot_laws.proofs.BasisLemmas.{dot_at, number_at, basis_from, sum_none, sum_single}
 use Rattle.path_pivot_laws.proofs.StartLemmas.{no_side, own_slacks-long, own_slacks_at, side_at, whole_at, side_column, side_own, side_other, side_right, even_column, even_slack, even_right, each_row}
 

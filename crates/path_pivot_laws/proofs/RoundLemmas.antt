@@ -12,11 +12,11 @@ use Rattle.frac128.specs.Terms.{applied}
 use Rattle.frac128.proofs.SignedLemmas.{mul-le, mul_at_least, mul_positive, mul-neg, mul_assoc as mul_assoc_z, le_of_mul-le}
 use Rattle.wcc_base.specs.declared.compare.Compare.{Compare}
 use Rattle.path_answer.specs.declared.bounded.Column.{Column}
-use Rattle.path_pivot_rows.specs.Rows.{Row, entry, dot}
+use Rattle.path_pivot_tables.specs.Rows.{Row, entry, dot}
 use Rattle.path_pivot_rounds.specs.declared.starting.Side.{Side}
 use Rattle.path_pivot_tables.specs.declared.table.Table.{Table}
 use Rattle.path_pivot_tables.specs.declared.choosing.Choice.{Choice}
-use Rattle.path_pivot_ends.specs.declared.weighing.Weight.{Weight}
+use Rattle.path_pivot_rounds.specs.declared.weighing.Weight.{Weight}
 use Rattle.path_pivot_tables.specs.declared.running.Ending.TheVariants.{Second, First}
 use Rattle.path_pivot_rounds.specs.Starts.{sides_from, sided, started, variables, side_totals, side_row, whole_row, first_row, second_row}
 use Rattle.path_pivot_tables.specs.Choices.{in_first, objective, first_negative, entering, right, leaving}
@@ -24,15 +24,15 @@ use Rattle.path_pivot_tables.specs.Shapes.{NoneNegative, HasEnded}
 use Rattle.path_pivot_tables.specs.Pivots.{pivoted}
 use Rattle.path_pivot_tables.specs.Runs.{ends, by_table, by_row, by_variable, next, last_of, after, pivots}
 use Rattle.path_pivot_rounds.specs.Rounds.{IsColumnOf}
-use Rattle.path_pivot_ends.specs.Multiplied.{objective_place}
-use Rattle.path_pivot_ends.specs.Weighted.{weights_of, numerator}
+use Rattle.path_pivot_rounds.specs.Multiplied.{objective_place}
+use Rattle.path_pivot_rounds.specs.Weighted.{weights_of, numerator}
 use Rattle.path_pivot_tables.proofs.ShapeLemmas.{has_ended}
-use Rattle.path_pivot_ends.proofs.SideLemmas.{variables_are}
-use Rattle.path_pivot_keeps.specs.Tables.{row_at, Solves, HasFirst, IsTable}
-use Rattle.path_pivot_laws.specs.Laws.{no_column, column_at, over, IsCommon, IsOptimum, IsInfeasible, EndsWell, RoundsEndWell}
-use Rattle.path_pivot_keeps.proofs.PivotLemmas.{some_same}
-use Rattle.path_pivot_keeps.proofs.QuotientLemmas.{none_left}
-use Rattle.path_pivot_keeps.proofs.TableLemmas.{all_at, all_from, among_at, among_of, right_is, kept_next}
+use Rattle.path_pivot_rounds.proofs.SideLemmas.{variables_are}
+use Rattle.path_pivot_laws.specs.Tables.{row_at, Solves, HasFirst, IsTable}
+use Rattle.path_pivot_laws.specs.RoundLaws.{no_column, column_at, over, IsCommon, IsOptimum, IsInfeasible, EndsWell, RoundsEndWell}
+use Rattle.path_pivot_laws.proofs.PivotLemmas.{some_same}
+use Rattle.path_pivot_laws.proofs.QuotientLemmas.{none_left}
+use Rattle.path_pivot_laws.proofs.TableLemmas.{all_at, all_from, among_at, among_of, right_is, kept_next}
 use Rattle.path_pivot_laws.proofs.ListedLemmas.{none_improves}
 use Rattle.path_pivot_laws.proofs.BasisLemmas.{number_at, basis_from, sum_single, sum_split}
 use Rattle.path_pivot_laws.proofs.StartLemmas.{no_side, start_table, parts, part_one, part_two, many-long, many_at, totals-long, totals_at, count, side_at, whole_at, side_column, side_own, side_other, side_two, side_right, even_column, even_slack, even_one, even_two, even_right, value_column, value_slack, value_two, value_right}

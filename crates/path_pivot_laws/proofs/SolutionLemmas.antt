@@ -10,11 +10,11 @@ use Rattle.frac128.specs.Terms.{Terms, coefficient, applied}
 use Rattle.frac128.proofs.SignedLemmas.{mul_at_least, mul-neg, neg-mul, mul_assoc as mul_assoc_z}
 use Rattle.frac128.proofs.TermsLemmas.{applied-append}
 use Rattle.path_answer.specs.declared.bounded.Column.{Column}
-use Rattle.path_pivot_rows.specs.Rows.{Row, entry, dot}
+use Rattle.path_pivot_tables.specs.Rows.{Row, entry, dot}
 use Rattle.path_pivot_rounds.specs.declared.starting.Side.{Side}
 use Rattle.path_pivot_tables.specs.declared.table.Table.{Table}
 use Rattle.path_pivot_rounds.specs.Starts.{started, variables, side_row, whole_row}
-use Rattle.path_pivot_keeps.specs.Tables.{row_at, own_at, Solves, IsTable}
+use Rattle.path_pivot_laws.specs.Tables.{row_at, own_at, Solves, IsTable}
 use Rattle.path_pivot_laws.proofs.BasisLemmas.{dot_at, number_at, basis_from, sum_none, sum_single, sum_positive, part_of_sum, Common, common_of}
 use Rattle.path_pivot_laws.proofs.StartLemmas.{no_side, count, side_at, whole_at, side_own, side_other, even_column, even_slack}
 use Rattle.path_pivot_laws.proofs.EndLemmas.{size_of, Place, IsArtificial, IsColumn, IsSlack, place_of}

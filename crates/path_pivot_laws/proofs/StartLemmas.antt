@@ -5,12 +5,12 @@ use Rattle.std.proofs.lemmas.Int.{ints}
 use Rattle.std.proofs.lemmas.Bool.Decides.{eqb_tells}
 use Rattle.std.proofs.lemmas.List.{length-replicate}
 use Rattle.path_answer.specs.declared.bounded.Column.{Column}
-use Rattle.path_pivot_rows.specs.Rows.{Row, entry}
+use Rattle.path_pivot_tables.specs.Rows.{Row, entry}
 use Rattle.path_pivot_rounds.specs.declared.starting.Side.{Side}
 use Rattle.path_pivot_rounds.specs.Starts.{sided, side_totals, slacks, side_row, side_rows, whole_row, first_row, values_of, second_row, own_slacks, started, variables}
-use Rattle.path_pivot_keeps.specs.Tables.{row_at, own_at, HasFirst, IsTable}
-use Rattle.path_pivot_laws.specs.Laws.{column_at}
-use Rattle.path_pivot_keeps.proofs.TableLemmas.{all_from}
+use Rattle.path_pivot_laws.specs.Tables.{row_at, own_at, HasFirst, IsTable}
+use Rattle.path_pivot_laws.specs.RoundLaws.{column_at}
+use Rattle.path_pivot_laws.proofs.TableLemmas.{all_from}
 
 -- ---- numbers of lists that are put together
 

@@ -1,1 +1,3 @@
-pub mod Laws
+pub mod Tables
+pub mod TableLaws
+pub mod RoundLaws

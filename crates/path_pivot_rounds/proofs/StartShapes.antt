@@ -5,7 +5,7 @@ use Rattle.std.proofs.lemmas.List.Elements.{All-cons, All-nil, All-append, All-w
 use Rattle.wcc_base.specs.declared.compare.Compare.{Compare}
 use Rattle.wcc_base.specs.declared.compare.Compare.TheVariants.{AtMost, AtLeast, Equal}
 use Rattle.path_answer.specs.declared.bounded.Column.{Column}
-use Rattle.path_pivot_rows.specs.Rows.{Row}
+use Rattle.path_pivot_tables.specs.Rows.{Row}
 use Rattle.path_pivot_rounds.specs.declared.starting.Side.{Side}
 use Rattle.path_pivot_rounds.specs.Starts.{sides_from, side_totals, slacks, side_row, side_rows, whole_row, values_of, own_slacks, started, variables}
 use Rattle.path_pivot_tables.specs.Shapes.{IsShaped}

@@ -1,2 +1,5 @@
 pub mod Starts
 pub mod Rounds
+pub mod Limits
+pub mod Multiplied
+pub mod Weighted

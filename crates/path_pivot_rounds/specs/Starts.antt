@@ -3,7 +3,7 @@ use Rattle.std.specs.Prelude.{ℕ, ◌+◌, ◌==◌, ℤ, pos, neg_ℤ, List, [
 use Rattle.wcc_base.specs.declared.compare.Compare.{Compare}
 use Rattle.wcc_base.specs.declared.compare.Compare.TheVariants.{AtMost, AtLeast, Equal}
 use Rattle.path_answer.specs.declared.bounded.Column.{Column}
-use Rattle.path_pivot_rows.specs.Rows.{Row, entry}
+use Rattle.path_pivot_tables.specs.Rows.{Row, entry}
 use Rattle.path_pivot_rounds.specs.declared.starting.Side.{Side}
 use Rattle.path_pivot_tables.specs.declared.table.Table.{Table}
 

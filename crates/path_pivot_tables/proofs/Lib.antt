@@ -1,2 +1,4 @@
+pub mod RowLemmas
+mod StepLemmas
 mod Lists
 pub mod ShapeLemmas

@@ -3,7 +3,7 @@ use Rattle.std.proofs.Common.{◌≡◌, ℕ, zero, suc, ◌+◌, ◌-◌, ◌�
 use Rattle.std.specs.Int.RustNames.{int_lt}
 use Rattle.std.proofs.lemmas.Int.{ints}
 use Rattle.std.proofs.lemmas.Bool.Decides.{nat_tests}
-use Rattle.path_pivot_rows.specs.Rows.{Row, entry}
+use Rattle.path_pivot_tables.specs.Rows.{Row, entry}
 use Rattle.path_pivot_tables.specs.declared.table.Table.{Table}
 use Rattle.path_pivot_tables.specs.declared.running.Ending.{Ending}
 use Rattle.path_pivot_tables.specs.declared.running.Ending.TheVariants.{Second, First, TooWide}

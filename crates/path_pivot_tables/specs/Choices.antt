@@ -4,7 +4,7 @@ use Rattle.std.specs.Int.RustNames.{int_lt}
 use Rattle.std.specs.Ordering.{int_cmp}
 use Rattle.std.specs.declared.cmp.Ordering.{Ordering}
 use Rattle.std.specs.declared.cmp.Ordering.TheVariants.{Less, Equal, Greater}
-use Rattle.path_pivot_rows.specs.Rows.{Row, entry}
+use Rattle.path_pivot_tables.specs.Rows.{Row, entry}
 use Rattle.path_pivot_tables.specs.declared.table.Table.{Table}
 use Rattle.path_pivot_tables.specs.declared.choosing.Choice.{Choice}
 

@@ -1,3 +1,4 @@
+pub mod Rows
 pub mod Choices
 pub mod Shapes
 pub mod Pivots

@@ -1,6 +1,6 @@
 -- What a pivot makes of a table; none where one of its products is wide.
 use Rattle.std.specs.Prelude.{ℕ, ◌+◌, ◌==◌, List, [], ◌∷◌, slice_index_or, slice_set, Option, Some, None, Bool, true, false, not, if◌then◌else◌}
-use Rattle.path_pivot_rows.specs.Rows.{Row, turned, turns_wide}
+use Rattle.path_pivot_tables.specs.Rows.{Row, turned, turns_wide}
 use Rattle.path_pivot_tables.specs.declared.table.Table.{Table}
 use Rattle.path_pivot_tables.specs.Choices.{is_among}
 

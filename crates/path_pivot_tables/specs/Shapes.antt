@@ -1,6 +1,6 @@
 -- Tables whose rows are as long as each other.
 use Rattle.std.specs.Prelude.{◌≡◌, ℕ, ◌≤◌, ◌<◌, ◌≤ℤ◌, ◌<ℤ◌, pos, length, true, false, All}
-use Rattle.path_pivot_rows.specs.Rows.{Row, entry}
+use Rattle.path_pivot_tables.specs.Rows.{Row, entry}
 use Rattle.path_pivot_tables.specs.declared.table.Table.{Table}
 use Rattle.path_pivot_tables.specs.declared.choosing.Choice.{Choice}
 use Rattle.path_pivot_tables.specs.declared.running.Ending.{Ending}

@@ -1,6 +1,6 @@
 // Which variable is taken in, and which row is left.
 ghost use Rattle.std.specs.Prelude.{◌≡◌, ℕ, ◌+◌, ◌-◌, ◌<◌, ◌≤◌, ◌<ℤ◌, ◌*ℤ◌, pos, nat_lt, length, take, drop, IfSome};
-ghost use Rattle.path_pivot_rows.specs.Rows.{entry};
+ghost use Rattle.path_pivot_tables.specs.Rows.{entry};
 ghost use Rattle.path_pivot_tables.specs.Choices.{is_among, in_first, objective, first_negative, entering, right, goes_first, better, considered, leaving};
 ghost use Rattle.path_pivot_tables.specs.Shapes.{IsShaped, IsChoice};
 

@@ -5,8 +5,8 @@ ghost use Rattle.path_pivot_tables.specs.Pivots.{next_row, next_rows, pivoted_by
 ghost use Rattle.path_pivot_tables.specs.Shapes.{IsShaped};
 
 use crate::choosing::has_artificial;
+use crate::rows::turned;
 use crate::table::Table;
-use path_pivot_rows::turned;
 use std::alloc::{AllocError, Global};
 use wcc_base::Items;
 

@@ -16,7 +16,7 @@ use Rattle.loop_walks.specs.declared.step.Step.{Step}
 use Rattle.loop_walks.specs.Rows.{AreSteps, Each, IsBack, IsLoopOf, HeadersAbove, AreLoops}
 use Rattle.path_places.specs.Reached.{AreReached, AreFilled, in_span, rank}
 use Rattle.path_places.specs.Places.{place_of, is_stop, is_walked, steps_of, back_place, end_place, loop_of, loops_of}
-use Rattle.path_places.specs.Laws.{IsReachedWhole, FunctionsFit}
+use Rattle.path_places.specs.PlaceLaws.{IsReachedWhole, FunctionsFit}
 use Rattle.path_places.proofs.RankLemmas.{rank_equal, rank_stays, rank_inside, span_of}
 use Rattle.path_places.proofs.HeaderLemmas.{reached_behind}
 use Rattle.path_places.proofs.PlaceLemmas.{place_up, place_above, place_tells}

@@ -5,3 +5,12 @@ pub mod PlaceLemmas
 pub mod BeforeLemmas
 pub mod LoopLemmas
 pub mod FunctionLemmas
+pub mod DriverLemmas
+pub mod BlockedLemmas
+pub mod LongLemmas
+pub mod PlainLemmas
+pub mod PotentialLemmas
+pub mod HoldLemmas
+pub mod DealLemmas
+pub mod PriceLemmas
+pub mod RowLemmas

@@ -1,3 +1,7 @@
 pub mod Reached
 pub mod Places
-pub mod Laws
+pub mod PlaceLaws
+pub mod Driver
+pub mod RowLaws
+pub mod Duals
+pub mod DualLaws

@@ -22,17 +22,17 @@ use Rattle.loop_ranges.specs.Near.{IsUpTo, IsNear}
 use Rattle.loop_ranges.proofs.NearLemmas.{near_up, near_sum, near_larger}
 use Rattle.path_places.specs.Reached.{in_span}
 use Rattle.path_places.specs.Places.{place_of, call_worth, step_of, is_stop, is_shut, is_walked, steps_of, before, back_place, dearest_from, end_place, loop_of, loops_of}
-use Rattle.path_places.specs.Laws.{function_steps}
+use Rattle.path_places.specs.PlaceLaws.{function_steps}
 use Rattle.path_places.proofs.BeforeLemmas.{before_up, taken_before, dropped_before}
 use Rattle.path_places.proofs.LoopLemmas.{steps_each, has_of}
 use Rattle.path_places.proofs.FunctionLemmas.{walked_in}
-use Rattle.path_rows.specs.Driver.{Prices, function_loops}
-use Rattle.loop_loose.specs.Beside.{HasLoose, IsBesideLoop, AreBesideLoops}
-use Rattle.loop_loose.proofs.FarLemmas.{range_in}
-use Rattle.loop_loose.proofs.BesideLemmas.{each_contains}
-use Rattle.path_loose.specs.Loosened.{loose_claim, loose_loops, loose_claims}
-use Rattle.path_loose.specs.LooseDriver.{loose_steps, loose_loops_of}
-use Rattle.path_loose.proofs.SystemLemmas.{none_stop, place_same}
+use Rattle.path_places.specs.Driver.{Prices, function_loops}
+use Rattle.loop_ranges.specs.Beside.{HasLoose, IsBesideLoop, AreBesideLoops}
+use Rattle.loop_ranges.proofs.FarLemmas.{range_in}
+use Rattle.loop_ranges.proofs.BesideLemmas.{each_contains}
+use Rattle.path_ranges.specs.Loosened.{loose_claim, loose_loops, loose_claims}
+use Rattle.path_ranges.specs.LooseDriver.{loose_steps, loose_loops_of}
+use Rattle.path_ranges.proofs.SystemLemmas.{none_stop, place_same}
 use Rattle.path_ranges.specs.Bounded.{StartsBelow}
 
 -- ---- steps of a range

@@ -23,19 +23,19 @@ use Rattle.loop_ranges.proofs.NearLemmas.{near_most}
 use Rattle.loop_ranges.proofs.LevelsBelow.{stay_near}
 use Rattle.path_places.specs.Reached.{in_span}
 use Rattle.path_places.specs.Places.{place_of, on_place, call_worth, is_stop, is_walked, loop_of, loops_of}
-use Rattle.path_places.specs.Laws.{function_steps}
+use Rattle.path_places.specs.PlaceLaws.{function_steps}
 use Rattle.path_places.proofs.RankLemmas.{span_of, is_in_span}
 use Rattle.path_places.proofs.LoopLemmas.{steps_each, has_of, onward_arrives, first_or}
 use Rattle.path_places.proofs.FunctionLemmas.{move_of, walked_in}
-use Rattle.path_rows.specs.Driver.{Prices, function_loops}
-use Rattle.path_rows.proofs.DriverLemmas.{step_among, fits_function, none_yet, closed}
-use Rattle.loop_loose.specs.LooseWalk.{backed, loose_of, loose_turns, IsLooseWalk}
-use Rattle.loop_loose.proofs.LooseLemmas.{start_long, worths_positive, weights_positive}
-use Rattle.loop_loose.proofs.BesideLemmas.{walk_pays}
-use Rattle.path_loose.specs.Loosened.{loose_claims}
-use Rattle.path_loose.proofs.SystemLemmas.{none_stop}
-use Rattle.path_loose.proofs.DearestLemmas.{dearest_least}
-use Rattle.path_loose.specs.LooseDriver.{no_worths, loose_start, loose_steps, loose_loops_of, loose_function}
+use Rattle.path_places.specs.Driver.{Prices, function_loops}
+use Rattle.path_places.proofs.DriverLemmas.{step_among, fits_function, none_yet, closed}
+use Rattle.loop_ranges.specs.LooseWalk.{backed, loose_of, loose_turns, IsLooseWalk}
+use Rattle.loop_ranges.proofs.LooseLemmas.{start_long, worths_positive, weights_positive}
+use Rattle.loop_ranges.proofs.BesideLemmas.{walk_pays}
+use Rattle.path_ranges.specs.Loosened.{loose_claims}
+use Rattle.path_ranges.proofs.SystemLemmas.{none_stop}
+use Rattle.path_ranges.proofs.DearestLemmas.{dearest_least}
+use Rattle.path_ranges.specs.LooseDriver.{no_worths, loose_start, loose_steps, loose_loops_of, loose_function}
 use Rattle.path_ranges.specs.Bounded.{StartsBelow, IsBounded}
 use Rattle.path_ranges.specs.Ranges.{IsLooseFunction}
 use Rattle.path_ranges.proofs.BesideFunctions.{steps_beside, loops_beside, walked_loosely}

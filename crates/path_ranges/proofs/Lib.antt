@@ -1,6 +1,16 @@
+pub mod TotalLemmas
+pub mod PartLemmas
+pub mod SystemLemmas
+pub mod PlaceFlows
+pub mod DearestLemmas
+pub mod LoopFlows
+pub mod EntryFlows
+pub mod FunctionFlows
 pub mod BesideFunctions
 pub mod KeepLemmas
 pub mod FunctionRanges
 pub mod SystemRanges
 pub mod CountLemmas
 pub mod WorthRanges
+pub mod LimitLemmas
+pub mod NarrowLemmas

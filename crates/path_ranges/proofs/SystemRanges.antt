@@ -22,17 +22,17 @@ use Rattle.loop_ranges.specs.Near.{IsUpTo, IsNear}
 use Rattle.loop_ranges.proofs.NearLemmas.{near_up}
 use Rattle.path_places.specs.Reached.{in_span, rank}
 use Rattle.path_places.specs.Places.{place_of, loop_of, loops_of}
-use Rattle.path_places.specs.Laws.{function_steps}
+use Rattle.path_places.specs.PlaceLaws.{function_steps}
 use Rattle.path_places.proofs.RankLemmas.{span_of, apart_one, rank_inside}
 use Rattle.path_places.proofs.PlaceLemmas.{place_up, place_below}
 use Rattle.path_places.proofs.FunctionLemmas.{move_of}
-use Rattle.path_rows.specs.Driver.{Prices, blank, function_loops, function_level, function_pairs}
-use Rattle.path_rows.proofs.DriverLemmas.{fits_function, function_leaves, function_holds, Numbered, numbered, zero_at}
-use Rattle.loop_loose.proofs.LooseLemmas.{backed_grows, worths_grow}
-use Rattle.path_loose.specs.LooseDriver.{no_worths, loose_start, loose_steps, loose_loops_of, loose_function, AreLooseBelow}
-use Rattle.path_loose.proofs.SystemLemmas.{calls_before}
-use Rattle.path_loose.proofs.PlaceFlows.{IsFrom, target_there}
-use Rattle.path_loose.proofs.FunctionFlows.{loose_walk, function_flows, function_positive, function_long, start_flows, worths_below}
+use Rattle.path_places.specs.Driver.{Prices, blank, function_loops, function_level, function_pairs}
+use Rattle.path_places.proofs.DriverLemmas.{fits_function, function_leaves, function_holds, Numbered, numbered, zero_at}
+use Rattle.loop_ranges.proofs.LooseLemmas.{backed_grows, worths_grow}
+use Rattle.path_ranges.specs.LooseDriver.{no_worths, loose_start, loose_steps, loose_loops_of, loose_function, AreLooseBelow}
+use Rattle.path_ranges.proofs.SystemLemmas.{calls_before}
+use Rattle.path_ranges.proofs.PlaceFlows.{IsFrom, target_there}
+use Rattle.path_ranges.proofs.FunctionFlows.{loose_walk, function_flows, function_positive, function_long, start_flows, worths_below}
 use Rattle.path_ranges.specs.Bounded.{IsBounded}
 use Rattle.path_ranges.specs.Ranges.{IsLooseFunction, FunctionsAreLoose, WalksAreBounded}
 use Rattle.path_ranges.proofs.KeepLemmas.{NotBehind, keeps_settled, begins_least}

@@ -17,10 +17,10 @@ use Rattle.loop_ranges.specs.Reach.{AreBelow, reach}
 use Rattle.loop_ranges.proofs.NearLemmas.{near_most}
 use Rattle.loop_ranges.proofs.LevelsBelow.{worths_below}
 use Rattle.path_places.specs.Places.{place_of, is_stop, is_walked}
-use Rattle.path_places.specs.Laws.{function_steps}
+use Rattle.path_places.specs.PlaceLaws.{function_steps}
 use Rattle.path_places.proofs.LoopLemmas.{steps_each, has_of}
 use Rattle.path_places.proofs.FunctionLemmas.{walked_in}
-use Rattle.path_rows.specs.Driver.{Prices, blank, function_loops, function_level, functions_level}
+use Rattle.path_places.specs.Driver.{Prices, blank, function_loops, function_level, functions_level}
 use Rattle.path_ranges.specs.Ranges.{IsLooseFunction, FunctionsAreLoose, loop_step, WorthsAreBounded}
 use Rattle.path_ranges.proofs.FunctionRanges.{is_own_of, own_move, own_is}
 use Rattle.path_ranges.proofs.SystemRanges.{walks_bounded}

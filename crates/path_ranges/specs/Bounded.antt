@@ -6,9 +6,9 @@ use Rattle.code_flow_system.specs.declared.shapes.LoopShape.{LoopShape}
 use Rattle.code_flow_system.specs.declared.shapes.Span.{Span}
 use Rattle.code_flow_system.specs.Systems.{System}
 use Rattle.loop_ranges.specs.Near.{IsUpTo}
-use Rattle.path_places.specs.Laws.{IsReachedWhole}
-use Rattle.path_rows.specs.Driver.{Prices}
-use Rattle.path_loose.specs.Laws.{LooseTotalsBelow}
+use Rattle.path_places.specs.PlaceLaws.{IsReachedWhole}
+use Rattle.path_places.specs.Driver.{Prices}
+use Rattle.path_ranges.specs.LooseLaws.{LooseTotalsBelow}
 
 -- a loop has to turn no more often than it may, or may not be visited; and it has to start no more than so often
 abbrev pub StartsBelow : ℕ → LoopClaim → Type 0

@@ -1,2 +1,7 @@
+pub mod Loosened
+pub mod LooseDriver
+pub mod LooseLaws
 pub mod Bounded
 pub mod Ranges
+pub mod Limits
+pub mod Narrow

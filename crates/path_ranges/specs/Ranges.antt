@@ -12,8 +12,8 @@ use Rattle.loop_ranges.specs.Near.{IsNear}
 use Rattle.loop_ranges.specs.Loose.{Loose, Turn}
 use Rattle.loop_ranges.specs.Reach.{BacksAbove, IsLooseCode, reach}
 use Rattle.path_places.specs.Places.{place_of}
-use Rattle.path_places.specs.Laws.{function_steps}
-use Rattle.path_rows.specs.Driver.{Prices, blank, function_loops, function_level, functions_level}
+use Rattle.path_places.specs.PlaceLaws.{function_steps}
+use Rattle.path_places.specs.Driver.{Prices, blank, function_loops, function_level, functions_level}
 use Rattle.path_ranges.specs.Bounded.{IsBounded}
 
 -- a function that is next to be settled: its code has loose numbers, none of which is negative or above most, no price is less than a block and that, and as long as no loop is settled the worths of its places are near them

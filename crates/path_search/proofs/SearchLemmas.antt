@@ -28,19 +28,19 @@ use Rattle.code_flow_system.specs.Certificates.{Limit, never_limits, loop_limits
 use Rattle.loop_walks.specs.declared.step.Pair.{Pair}
 use Rattle.loop_walks.specs.Levels.{Level, level_of}
 use Rattle.path_places.specs.Reached.{AreReached}
-use Rattle.path_places.specs.Laws.{IsReachedWhole}
-use Rattle.path_duals.specs.Duals.{Values, values_of, potentials_of, both_of, never_multipliers, loop_multipliers, final_level, final_pairs}
-use Rattle.path_duals.proofs.LongLemmas.{worths_long}
-use Rattle.path_duals.proofs.PotentialLemmas.{potential_at}
+use Rattle.path_places.specs.PlaceLaws.{IsReachedWhole}
+use Rattle.path_places.specs.Duals.{Values, values_of, potentials_of, both_of, never_multipliers, loop_multipliers, final_level, final_pairs}
+use Rattle.path_places.proofs.LongLemmas.{worths_long}
+use Rattle.path_places.proofs.PotentialLemmas.{potential_at}
 use Rattle.path_flows.specs.Flows.{amounts_of, parts_of}
-use Rattle.path_limits.specs.Narrow.{FetchesCost, HasShortBounds}
-use Rattle.path_dual_ranges.proofs.ClaimSizes.{size-append}
-use Rattle.path_cost_ranges.specs.Ranges.{HasSmallValues}
-use Rattle.path_cost_ranges.proofs.RangeLemmas.{costs_ranged}
+use Rattle.path_ranges.specs.Narrow.{FetchesCost, HasShortBounds}
+use Rattle.path_sizes.proofs.ClaimSizes.{size-append}
+use Rattle.path_sizes.specs.CostRanges.{HasSmallValues}
+use Rattle.path_sizes.proofs.RangeLemmas.{costs_ranged}
 use Rattle.path_cert.specs.Certificates.{entry_worth, certificate_with, costs_of, certificate_of}
 use Rattle.path_cert.proofs.PartLemmas.{potentials_ascend}
-use Rattle.path_bound.specs.Laws.{IsBoundable}
-use Rattle.path_bound.proofs.BoundLemmas.{worth_below, flow_small}
+use Rattle.path_cert.specs.BoundLaws.{IsBoundable}
+use Rattle.path_cert.proofs.BoundLemmas.{worth_below, flow_small}
 use Rattle.path_walks.specs.declared.walks.Settled.{Settled}
 use Rattle.path_values.specs.Plain.{plain_of}
 use Rattle.path_values.specs.Owed.{owe_at, nevers_by, loops_by}

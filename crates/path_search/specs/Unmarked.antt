@@ -9,7 +9,7 @@ use Rattle.code_flow_system.specs.declared.cert.Mark.TheVariants.{Neither}
 use Rattle.code_flow_system.specs.declared.moves.Move.{Move}
 use Rattle.code_flow_system.specs.Systems.{System, IsSystem}
 use Rattle.code_flow_system.specs.Certificates.{IsInForm, IsSmall}
-use Rattle.path_duals.specs.Duals.{Values, potentials_of, never_multipliers, loop_multipliers}
+use Rattle.path_places.specs.Duals.{Values, potentials_of, never_multipliers, loop_multipliers}
 use Rattle.path_walks.specs.declared.walks.Settled.{Settled}
 use Rattle.path_values.specs.Laws.{plain_by, AreNarrow}
 

@@ -3,9 +3,9 @@ ghost use Rattle.std.specs.Prelude.{◌≡◌, ◌^◌, ◌≤ℤ◌, ◌<ℤ◌
 ghost use Rattle.rv_core.specs.Table.{table_of};
 ghost use Rattle.code_flow_system.specs.Certificates.{Accepts, IsInForm};
 ghost use Rattle.path_places.specs.Reached.{AreReached};
-ghost use Rattle.path_limits.specs.Narrow.{HasShortBounds};
+ghost use Rattle.path_ranges.specs.Narrow.{HasShortBounds};
 ghost use Rattle.path_cert.specs.Certificates.{certificate_of};
-ghost use Rattle.path_bound.specs.Laws.{IsBoundable};
+ghost use Rattle.path_cert.specs.BoundLaws.{IsBoundable};
 ghost use Rattle.path_conditions.specs.Bounding.{CanBound};
 ghost use Rattle.path_search.specs.Kinds.{IsMarked};
 ghost use Rattle.path_search.specs.Unmarked.{no_flow, one_flow};
@@ -101,7 +101,7 @@ fn are_short(loops: &[LoopClaim])
     }
 }
 
-/// A law: where a search can be made, its numbers keep to what `path_bound` asks.
+/// A law: where a search can be made, its numbers keep to what `path_cert` asks.
 pub fn is_boundable(system: &System, shapes: &[LoopShape], spans: &[Span], costs: &Costs)
     requires reached { AreReached system.now }
     requires can { CanBound (table_of costs.now) system.now shapes.now spans.now }

@@ -3,7 +3,7 @@ ghost use Rattle.std.specs.Prelude.{◌≡◌, ◌↔◌, true, IfOk, All};
 ghost use Rattle.rv_core.specs.Table.{table_of};
 ghost use Rattle.code_flow_system.specs.Shapes.{Fits};
 ghost use Rattle.path_places.specs.Reached.{AreReached};
-ghost use Rattle.path_counts.specs.Laws.{HasBounds};
+ghost use Rattle.path_flows.specs.CountLaws.{HasBounds};
 ghost use Rattle.path_conditions.specs.Bounding.{CanBound};
 ghost use Rattle.path_search.specs.Conditions.{SharedHeadersNeverTurn};
 

@@ -7,7 +7,7 @@
 //! greatest value of a flow, which it lists, or that there is none.
 //!
 //! [`can_bound`] tests what such a search rests on. A law, [`shared_headers_never_turn`], says what it costs that no jump
-//! back may be the header of another loop: no loop that can turn. Another, [`is_boundable`], gives what `path_bound` asks.
+//! back may be the header of another loop: no loop that can turn. Another, [`is_boundable`], gives what `path_cert` asks.
 //!
 //! The crate knows nothing of images, of files, and of how claims were found.
 #![tactic(auto)]

@@ -1,1 +1,9 @@
 pub mod SystemSizes
+pub mod OpenLemmas
+pub mod CodeOpens
+pub mod SystemOpens
+pub mod ClaimSizes
+pub mod DealSizes
+pub mod RowSizes
+pub mod FineSizes
+pub mod RangeLemmas

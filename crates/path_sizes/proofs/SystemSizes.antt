@@ -10,9 +10,9 @@ use Rattle.loop_walks.specs.Levels.{Level}
 use Rattle.loop_ranges.specs.Reach.{AreBelow, reach}
 use Rattle.loop_sizes.specs.Laws.{IsIn, IsSizedCode, IsSized}
 use Rattle.loop_sizes.proofs.LevelSizes.{stay_small}
-use Rattle.path_places.specs.Laws.{function_steps}
-use Rattle.path_rows.specs.Driver.{Prices, blank, function_loops, function_level}
-use Rattle.path_rows.proofs.DriverLemmas.{zero_at}
+use Rattle.path_places.specs.PlaceLaws.{function_steps}
+use Rattle.path_places.specs.Driver.{Prices, blank, function_loops, function_level}
+use Rattle.path_places.proofs.DriverLemmas.{zero_at}
 use Rattle.path_ranges.specs.Bounded.{IsBounded}
 use Rattle.path_ranges.specs.Ranges.{IsLooseFunction, FunctionsAreLoose, loop_step, IsEnough}
 use Rattle.path_ranges.proofs.CountLemmas.{kept, loops-kept, all_kept, all_kept_most, reach_least, reach-add, reach_grows}

@@ -7,8 +7,8 @@ use Rattle.code_flow_system.specs.Systems.{System}
 use Rattle.loop_walks.specs.Levels.{Level}
 use Rattle.loop_worths.specs.Sizes.{StaysSmall}
 use Rattle.loop_sizes.specs.Laws.{IsSized}
-use Rattle.path_places.specs.Laws.{function_steps}
-use Rattle.path_rows.specs.Driver.{Prices, blank, function_loops, function_level}
+use Rattle.path_places.specs.PlaceLaws.{function_steps}
+use Rattle.path_places.specs.Driver.{Prices, blank, function_loops, function_level}
 use Rattle.path_ranges.specs.Bounded.{IsBounded}
 use Rattle.path_ranges.specs.Ranges.{IsEnough}
 

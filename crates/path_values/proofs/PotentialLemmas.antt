@@ -9,7 +9,7 @@ use Rattle.code_flow_system.specs.Systems.{ComesBefore, AreAscending}
 use Rattle.frac128.specs.Terms.{Terms}
 use Rattle.loop_walks.specs.Walks.{worth_at}
 use Rattle.path_places.specs.Places.{place_of}
-use Rattle.path_duals.specs.Duals.{potentials_of}
+use Rattle.path_places.specs.Duals.{potentials_of}
 use Rattle.path_walks.proofs.PointLemmas.{place_is}
 
 comes : (ms : List Move) (k i : ℕ) (d e : Move) → AreAscending ms → k < i → i < length ms → ComesBefore (get_or ms k d) (get_or ms i e)

@@ -15,9 +15,9 @@ use Rattle.loop_walks.specs.Walks.{larger}
 use Rattle.loop_walks.specs.Levels.{Level, settled, settled_pairs}
 use Rattle.path_places.specs.Reached.{in_span}
 use Rattle.path_places.specs.Places.{place_of, step_of, is_walked, steps_of, before, back_place, dearest_from, end_place, loop_of, loops_of}
-use Rattle.path_places.specs.Laws.{function_steps}
-use Rattle.path_rows.specs.Driver.{Prices, blank, function_loops, function_level, function_pairs, functions_level}
-use Rattle.path_duals.specs.Duals.{dealt, no_pairs, pairs_from, final_level, final_pairs}
+use Rattle.path_places.specs.PlaceLaws.{function_steps}
+use Rattle.path_places.specs.Driver.{Prices, blank, function_loops, function_level, function_pairs, functions_level}
+use Rattle.path_places.specs.Duals.{dealt, no_pairs, pairs_from, final_level, final_pairs}
 use Rattle.loop_worths.specs.Sizes.{StaysSmall}
 use Rattle.path_walks.specs.Prices.{price_in}
 use Rattle.path_walks.specs.Sizes.{AllStaySmall}

@@ -19,7 +19,7 @@ use Rattle.code_flow_system.specs.Systems.{System}
 use Rattle.code_flow_system.specs.Certificates.{Limit, never_limits, loop_limits, fact_limits, limits, held, fall, row_size, potential, scaled_price, IsNarrow}
 use Rattle.loop_walks.specs.declared.step.Pair.{Pair}
 use Rattle.loop_walks.specs.Walks.{larger}
-use Rattle.path_duals.specs.Duals.{Values, owed, most_owed, both_of, potentials_of, owe_of, never_bounds, loop_bounds}
+use Rattle.path_places.specs.Duals.{Values, owed, most_owed, both_of, potentials_of, owe_of, never_bounds, loop_bounds}
 use Rattle.path_values.specs.Owed.{owed_by, larger_of, most_by, owe_at, cons_of, nevers_by, and_more, loops_by}
 use Rattle.path_values.specs.Plain.{plain_of}
 use Rattle.path_values.specs.Laws.{plain_by, MultipliersAre}

@@ -5,7 +5,7 @@ use Rattle.code_flow_system.specs.declared.cert.Cert.{Cert}
 use Rattle.code_flow_system.specs.Certificates.{limits, potential, row_size, scaled_price, IsNarrow}
 use Rattle.code_flow_system.specs.Flows.{price}
 use Rattle.code_flow_system.specs.Systems.{System}
-use Rattle.path_duals.specs.Duals.{Values, potentials_of, never_multipliers, loop_multipliers}
+use Rattle.path_places.specs.Duals.{Values, potentials_of, never_multipliers, loop_multipliers}
 use Rattle.path_values.specs.Owed.{owe_at, nevers_by, loops_by}
 use Rattle.path_values.specs.Plain.{plain_of}
 

@@ -10,7 +10,7 @@ use Rattle.code_flow_system.specs.Systems.{System}
 use Rattle.code_flow_system.specs.Certificates.{Limit, limits, potential, row_size, scaled_price}
 use Rattle.loop_walks.specs.declared.step.Pair.{Pair}
 use Rattle.loop_walks.specs.Walks.{larger}
-use Rattle.path_duals.specs.Duals.{owed}
+use Rattle.path_places.specs.Duals.{owed}
 
 -- such a sum is narrow
 abbrev pub IsNarrowNumber : ℤ → Type 0

@@ -6,7 +6,7 @@ use Rattle.code_flow_system.specs.declared.cert.Cert.{Cert}
 use Rattle.code_flow_system.specs.declared.cert.Mark.TheVariants.{Neither}
 use Rattle.code_flow_system.specs.Claims.{Claims}
 use Rattle.loop_walks.specs.declared.step.Pair.{Pair}
-use Rattle.path_duals.specs.Duals.{both_of}
+use Rattle.path_places.specs.Duals.{both_of}
 
 abbrev pub plain_of : Claims → Terms → List Pair → Cert
 plain_of claims ts ps = record {

@@ -1,6 +1,6 @@
 // A certificate with nothing for claims that forbid to visit an address.
 ghost use Rattle.std.specs.Prelude.{◌≡◌, ◌∷◌, ◌++◌, [], length, IfOk};
-ghost use Rattle.path_duals.specs.Duals.{both_of};
+ghost use Rattle.path_places.specs.Duals.{both_of};
 ghost use Rattle.path_values.specs.Plain.{plain_of};
 
 use code_flow_system::{Cert, Flow, Mark, System};

@@ -3,7 +3,7 @@
 //!
 //! [`settle_costs`] makes the walks at the costs of moves. The potential of an address is the worth of its place. Where a claim forbids to visit an address, its multiplier pays
 //! what is left of the prices there beside the loops' multipliers. Proved: they are those of the definitions of
-//! `path_duals`, and a sum that is too wide for a checker is found.
+//! `path_places`, and a sum that is too wide for a checker is found.
 //!
 //! The crate knows nothing of how worths are found, nor of flows.
 #![tactic(auto)]

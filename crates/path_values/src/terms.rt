@@ -1,7 +1,7 @@
 // Worths of places as potentials of addresses.
 ghost use Rattle.std.specs.Prelude.{◌≡◌, ◌==◌, ◌<◌, ◌++◌, ◌∷◌, [], length, IfOk, OnOk, if◌then◌else◌};
 ghost use Rattle.code_flow_system.specs.Systems.{AreAscending};
-ghost use Rattle.path_duals.specs.Duals.{potentials_of};
+ghost use Rattle.path_places.specs.Duals.{potentials_of};
 
 use code_flow_system::Move;
 use std::alloc::{AllocError, Global};

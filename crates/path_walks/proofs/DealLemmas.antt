@@ -11,7 +11,7 @@ use Rattle.code_flow_system.specs.declared.shapes.Span.{Span}
 use Rattle.code_flow_system.specs.Systems.{has_moves}
 use Rattle.loop_walks.specs.declared.step.Pair.{Pair}
 use Rattle.path_places.specs.Reached.{in_span}
-use Rattle.path_duals.specs.Duals.{dealt}
+use Rattle.path_places.specs.Duals.{dealt}
 use Rattle.path_walks.specs.Deals.{takes}
 
 next : (i : ℕ) → suc i ≡ i + 1

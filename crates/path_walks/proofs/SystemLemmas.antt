@@ -14,11 +14,11 @@ use Rattle.loop_walks.proofs.LevelLemmas.{Held, weighed-long}
 use Rattle.loop_walks.proofs.WalkLemmas.{relaxed-long}
 use Rattle.loop_worths.specs.Sizes.{StaysSmall}
 use Rattle.path_places.specs.Places.{place_of}
-use Rattle.path_places.specs.Laws.{function_steps, IsReachedWhole}
+use Rattle.path_places.specs.PlaceLaws.{function_steps, IsReachedWhole}
 use Rattle.path_places.proofs.RankLemmas.{apart_one}
-use Rattle.path_rows.specs.Driver.{Prices, blank, function_loops, function_level, function_pairs, functions_level}
-use Rattle.path_rows.proofs.DriverLemmas.{fits_function, function_leaves, none_yet, function_holds, zero_at}
-use Rattle.path_duals.specs.Duals.{dealt, no_pairs, pairs_from, final_level, final_pairs}
+use Rattle.path_places.specs.Driver.{Prices, blank, function_loops, function_level, function_pairs, functions_level}
+use Rattle.path_places.proofs.DriverLemmas.{fits_function, function_leaves, none_yet, function_holds, zero_at}
+use Rattle.path_places.specs.Duals.{dealt, no_pairs, pairs_from, final_level, final_pairs}
 use Rattle.path_walks.specs.Deals.{no_pair}
 use Rattle.path_walks.specs.Functions.{IsFunction, HasSettled}
 use Rattle.path_walks.specs.Sizes.{AllStaySmall}

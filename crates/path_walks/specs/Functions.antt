@@ -7,9 +7,9 @@ use Rattle.loop_walks.specs.declared.step.Pair.{Pair}
 use Rattle.loop_walks.specs.Levels.{Level}
 use Rattle.loop_walks.specs.Rows.{AreSteps, AreLoops, HaveNone}
 use Rattle.loop_worths.specs.Sizes.{StaysSmall}
-use Rattle.path_places.specs.Laws.{function_steps}
-use Rattle.path_rows.specs.Driver.{Prices, function_loops, function_level, function_pairs}
-use Rattle.path_duals.specs.Duals.{dealt}
+use Rattle.path_places.specs.PlaceLaws.{function_steps}
+use Rattle.path_places.specs.Driver.{Prices, function_loops, function_level, function_pairs}
+use Rattle.path_places.specs.Duals.{dealt}
 use Rattle.path_walks.specs.Opens.{HasLoops}
 
 -- its steps and loops fit, its headers have no weights, and its numbers stay small

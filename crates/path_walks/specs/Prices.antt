@@ -3,7 +3,7 @@ use Rattle.std.specs.Prelude.{◌==◌, ◌&&◌, ℤ, pos, List, [], ◌∷◌,
 use Rattle.code_flow_system.specs.declared.moves.Move.{Move}
 use Rattle.code_flow_system.specs.Systems.{System}
 use Rattle.loop_walks.specs.Walks.{larger}
-use Rattle.path_rows.specs.Driver.{Prices}
+use Rattle.path_places.specs.Driver.{Prices}
 
 abbrev pub price_in : List Move → List ℤ → Move → ℤ
 price_in [] zs m = pos 0

@@ -5,8 +5,8 @@ use Rattle.code_flow_system.specs.declared.shapes.Span.{Span}
 use Rattle.code_flow_system.specs.Systems.{System}
 use Rattle.loop_walks.specs.Levels.{Level}
 use Rattle.loop_worths.specs.Sizes.{StaysSmall}
-use Rattle.path_places.specs.Laws.{function_steps}
-use Rattle.path_rows.specs.Driver.{Prices, function_loops, function_level}
+use Rattle.path_places.specs.PlaceLaws.{function_steps}
+use Rattle.path_places.specs.Driver.{Prices, function_loops, function_level}
 
 abbrev pub AllStaySmall : System → List LoopShape → Prices → Level → List Span → Type 0
 AllStaySmall s ls q v [] = Unit {0}

@@ -1,7 +1,7 @@
 // The multipliers of all loops.
 ghost use Rattle.std.specs.Prelude.{◌≡◌, ◌<◌, ◌+◌, length, slice_set, slice_index_or, if◌then◌else◌};
 ghost use Rattle.code_flow_system.specs.Systems.{AreAscending};
-ghost use Rattle.path_duals.specs.Duals.{dealt};
+ghost use Rattle.path_places.specs.Duals.{dealt};
 ghost use Rattle.path_walks.specs.Opens.{AddressesRise};
 ghost use Rattle.path_walks.specs.Deals.{no_pair, takes};
 

@@ -3,7 +3,7 @@
 //!
 //! [`settle_all`] makes the steps and loops of each function over places, a called function before its callers, and
 //! settles them. Proved: what it answers are the worths, the weights and the multipliers of the definitions of
-//! `path_rows` and `path_duals`, at any prices. That all numbers fit is a condition, which `specs/Sizes` says. Places are
+//! `path_places`, at any prices. That all numbers fit is a condition, which `specs/Sizes` says. Places are
 //! found by halving, and each step is walked once for each loop around it.
 //!
 //! The crate knows nothing of certificates and flows, and of where prices come from.

@@ -4,7 +4,7 @@ ghost use Rattle.code_flow_system.specs.Systems.{AreAscending};
 ghost use Rattle.code_flow_system.specs.Shapes.{onward};
 ghost use Rattle.loop_worths.specs.Sizes.{IsSmall, HaveSmallPrices};
 ghost use Rattle.path_places.specs.Places.{on_place, call_worth, step_of};
-ghost use Rattle.path_places.specs.Laws.{function_steps};
+ghost use Rattle.path_places.specs.PlaceLaws.{function_steps};
 ghost use Rattle.path_walks.specs.Prices.{price_in};
 ghost use Rattle.path_walks.specs.Opens.{AddressesRise, GoesBack, is_open, HasLoops};
 

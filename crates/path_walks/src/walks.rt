@@ -1,9 +1,9 @@
 // The walks of a system, one function after the other.
 ghost use Rattle.std.specs.Prelude.{◌≡◌, length, IfOk, OnOk};
 ghost use Rattle.loop_walks.specs.Levels.{level_of};
-ghost use Rattle.path_duals.specs.Duals.{no_pairs, final_level, final_pairs};
-ghost use Rattle.path_places.specs.Laws.{IsReachedWhole};
-ghost use Rattle.path_rows.specs.Driver.{blank};
+ghost use Rattle.path_places.specs.Duals.{no_pairs, final_level, final_pairs};
+ghost use Rattle.path_places.specs.PlaceLaws.{IsReachedWhole};
+ghost use Rattle.path_places.specs.Driver.{blank};
 ghost use Rattle.path_walks.specs.Prices.{prices_of};
 ghost use Rattle.path_walks.specs.Functions.{IsFunction, HasSettled};
 ghost use Rattle.path_walks.specs.Sizes.{AllStaySmall};

@@ -8,7 +8,7 @@ use Rattle.facts_loops.specs.Loops.{SourceLoop, starts_of}
 use Rattle.high_ir.specs.Splitting.{by_factor, split}
 use Rattle.high_ir.specs.Standing.{Bounds}
 use Rattle.high_pass.specs.Carries.{AreBy, bounds_of}
-use Rattle.plan_loops.specs.Loops.{as_bounds, bounded}
+use Rattle.plan_carried.specs.Loops.{as_bounds, bounded}
 
 -- bounds as starts
 abbrev pub as_starts : Bounds → Starts

@@ -18,11 +18,11 @@ use Rattle.plan_definition.specs.Programs.{functions_planned, plan_of, program_p
 use Rattle.plan_definition.specs.Statements.{Plan}
 use Rattle.high_pass.specs.Carries.{AreBy, Behaviour, Carries, RunsAlike, StartsFewer, bounds_of}
 use Rattle.high_pass.specs.Listing.{HasEachBelow, LoopEntry, MarkEntry, listed_loops, listed_marks, mark_copies}
-use Rattle.plan_numbers.specs.Numbers.{FunctionsNumbered, functions_loops as loops_count}
-use Rattle.plan_loops.specs.Loops.{Planned, functions_loops, in_plan, in_source}
-use Rattle.plan_loops.proofs.Numbers.{functions_order, number_of}
-use Rattle.plan_loops.proofs.Programs.{functions_stand}
-use Rattle.plan_loops.proofs.Sources.{functions_are}
+use Rattle.plan_forms.specs.Numbers.{FunctionsNumbered, functions_loops as loops_count}
+use Rattle.plan_carried.specs.Loops.{Planned, functions_loops, in_plan, in_source}
+use Rattle.plan_carried.proofs.LoopNumbers.{functions_order, number_of}
+use Rattle.plan_carried.proofs.LoopPrograms.{functions_stand}
+use Rattle.plan_carried.proofs.LoopSources.{functions_are}
 use Rattle.plan_runs.specs.Kept.{same_mark, same_marks}
 use Rattle.plan_carried.specs.Sources.{loop_entry, planned_listing, source_behaviour, source_marks, source_shown}
 use Rattle.plan_carried.proofs.Numbers.{bounds_found, loop_number, range_has_each}

@@ -1,3 +1,8 @@
+pub mod LoopPieces
+pub mod LoopStatements
+pub mod LoopPrograms
+pub mod LoopNumbers
+pub mod LoopSources
 pub mod Numbers
 pub mod Meanings
 pub mod Carried

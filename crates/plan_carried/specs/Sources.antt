@@ -11,7 +11,7 @@ use Rattle.meaning_semantics.specs.declared.source_run.SourceRun.TheVariants.{Do
 use Rattle.types_tree.specs.Tree.{Program}
 use Rattle.high_pass.specs.Carries.{Behaviour, Shown}
 use Rattle.high_pass.specs.Listing.{Listing, LoopEntry}
-use Rattle.plan_loops.specs.Loops.{Planned, bounded, functions_loops}
+use Rattle.plan_carried.specs.Loops.{Planned, bounded, functions_loops}
 use Rattle.plan_runs.specs.Kept.{kept_run, same_marks}
 
 -- the marks of a source: its functions, and then its markers

@@ -1,3 +1,12 @@
+pub mod SourceExpressions
+pub mod SourceStatements
+pub mod Faults
+pub mod Standing
+pub mod SourceSites
+pub mod Calls
+pub mod Units
+pub mod FramedExpressions
+pub mod FramedStatements
 pub mod ReachedExpressions
 pub mod ReachedStatements
 pub mod ReachedPrograms
@@ -6,3 +15,12 @@ pub mod Main
 pub mod Operations
 pub mod Planned
 pub mod Weights
+pub mod Growing
+pub mod Sums
+pub mod Memory
+pub mod Texts
+pub mod BoundSites
+pub mod Bounds
+pub mod ElementWalk
+pub mod ElementSizes
+pub mod ElementPrograms

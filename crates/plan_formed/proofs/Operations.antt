@@ -10,8 +10,8 @@ use Rattle.types_rules.specs.Scope.{started}
 use Rattle.types_rules.specs.Sights.{outline_of}
 use Rattle.high_ir.specs.Size.{program_operations}
 use Rattle.plan_definition.specs.Programs.{plan_of, program_planned}
-use Rattle.plan_sizes.proofs.Programs.{functions_operations_most}
-use Rattle.plan_source.proofs.Units.{functions_few, functions_single}
+use Rattle.plan_forms.proofs.SizedPrograms.{functions_operations_most}
+use Rattle.plan_formed.proofs.Units.{functions_few, functions_single}
 use Rattle.plan_formed.specs.Checked.{IsChecked}
 use Rattle.plan_formed.proofs.Planned.{few_nodes}
 

@@ -32,17 +32,17 @@ use Rattle.plan_definition.specs.Programs.{between, end_of, functions_planned, p
 use Rattle.plan_definition.specs.Statements.{Plan}
 use Rattle.plan_forms.specs.Forms.{ItemsAllowed}
 use Rattle.plan_forms.specs.Programs.{BodiesAllowed, FunctionFormed, body_of, limits_in}
-use Rattle.plan_forms.proofs.Programs.{functions_form, length_planned}
-use Rattle.plan_levels.proofs.Statements.{body_below}
-use Rattle.plan_numbers.specs.Numbers.{FunctionsNumbered, functions_loops}
-use Rattle.plan_numbers.proofs.Programs.{functions_count}
-use Rattle.plan_sizes.specs.Programs.{functions_nodes}
-use Rattle.plan_sizes.proofs.Programs.{functions_nodes_most}
-use Rattle.plan_source.specs.Placed.{ItemsPlaced}
-use Rattle.plan_source.specs.Units.{FunctionsPlaced, FunctionsShallow}
-use Rattle.plan_source.proofs.Calls.{function_may, items_allowed}
-use Rattle.plan_source.proofs.Faults.{no_first, no_second, rest_of}
-use Rattle.plan_source.proofs.Units.{externals_bounds, externals_markers, functions_few, functions_numbered, functions_placed, functions_shallow, functions_single}
+use Rattle.plan_forms.proofs.FormedPrograms.{functions_form, length_planned}
+use Rattle.plan_forms.proofs.DeepStatements.{body_below}
+use Rattle.plan_forms.specs.Numbers.{FunctionsNumbered, functions_loops}
+use Rattle.plan_forms.proofs.NumberedPrograms.{functions_count}
+use Rattle.plan_forms.specs.ProgramCosts.{functions_nodes}
+use Rattle.plan_forms.proofs.SizedPrograms.{functions_nodes_most}
+use Rattle.plan_formed.specs.Placed.{ItemsPlaced}
+use Rattle.plan_formed.specs.Units.{FunctionsPlaced, FunctionsShallow}
+use Rattle.plan_formed.proofs.Calls.{function_may, items_allowed}
+use Rattle.plan_formed.proofs.Faults.{no_first, no_second, rest_of}
+use Rattle.plan_formed.proofs.Units.{externals_bounds, externals_markers, functions_few, functions_numbered, functions_placed, functions_shallow, functions_single}
 use Rattle.plan_formed.specs.Checked.{IsChecked}
 use Rattle.plan_formed.proofs.Facts.{Says, says}
 use Rattle.plan_formed.proofs.Main.{main_below, number_is}

@@ -10,10 +10,10 @@ use Rattle.types_rules.specs.Typed.{fault_of, typed_of}
 use Rattle.high_ir.specs.Runs.{rank_or}
 use Rattle.high_ir.specs.Weight.{reach, reaches, weight, weights}
 use Rattle.plan_definition.specs.Programs.{functions_planned, plan_of, program_planned}
-use Rattle.plan_forms.proofs.Programs.{rank_planned}
+use Rattle.plan_forms.proofs.FormedPrograms.{rank_planned}
 use Rattle.plan_formed.proofs.ReachedPrograms.{reaches_most}
-use Rattle.plan_sizes.proofs.Programs.{weights_most}
-use Rattle.plan_source.proofs.Units.{functions_single}
+use Rattle.plan_forms.proofs.SizedPrograms.{weights_most}
+use Rattle.plan_formed.proofs.Units.{functions_single}
 use Rattle.types_rules.specs.Scope.{started}
 use Rattle.types_rules.specs.Sights.{outline_of}
 use Rattle.plan_formed.specs.Checked.{IsChecked}

@@ -3,7 +3,7 @@ use Rattle.std.specs.Prelude.{◌≡◌, ℕ, suc, ◌+◌, ◌≤◌, ◌<◌, 
 use Rattle.types_tree.specs.declared.expression.Callee.{Callee}
 use Rattle.types_tree.specs.declared.expression.Callee.TheVariants.{Getchar, Putchar, Function as Own}
 use Rattle.types_tree.specs.Tree as c
-use Rattle.plan_trees.specs.Everywhere.{AllHold, Holds, InitialHolds, OptionHolds, PlaceHolds, plain_place}
+use Rattle.plan_forms.specs.Everywhere.{AllHold, Holds, InitialHolds, OptionHolds, PlaceHolds, plain_place}
 use Rattle.high_ir.specs.Tree.{Statement, Set, Put, Get, Keep, Mark, Seq, If, Loop, Block, Leave, Call, Return, Statements, End, Then}
 
 -- what may be called, the marks from which number on up to which, and whether there may be loops

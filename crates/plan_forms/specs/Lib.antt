@@ -1,2 +1,9 @@
+pub mod Everywhere
+pub mod Levels
+pub mod Conversions
 pub mod Forms
 pub mod Programs
+pub mod Numbers
+pub mod Costs
+pub mod Covers
+pub mod ProgramCosts

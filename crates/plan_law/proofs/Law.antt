@@ -21,21 +21,21 @@ use Rattle.plan_definition.specs.Programs.{program_planned}
 use Rattle.high_pass.specs.Carries.{Carries, RunsAlike}
 use Rattle.high_pass.specs.Law.{ReachWithin}
 use Rattle.high_pass.specs.Listing.{LoopEntry, MarkEntry}
-use Rattle.plan_numbers.specs.Numbers.{FunctionsNumbered}
-use Rattle.plan_source.proofs.Units.{functions_numbered}
-use Rattle.plan_bytes.proofs.Bytes.{bytes_most}
+use Rattle.plan_forms.specs.Numbers.{FunctionsNumbered}
+use Rattle.plan_formed.proofs.Units.{functions_numbered}
+use Rattle.plan_law.proofs.Bytes.{bytes_most}
 use Rattle.plan_formed.specs.Checked.{IsChecked}
 use Rattle.plan_formed.proofs.Operations.{operations_few}
 use Rattle.plan_formed.proofs.Planned.{planned_is_high}
 use Rattle.plan_formed.proofs.Weights.{reach_most, weight_most}
-use Rattle.plan_loops.specs.Loops.{Planned, functions_loops}
+use Rattle.plan_carried.specs.Loops.{Planned, functions_loops}
 use Rattle.plan_runs.specs.Kept.{same_mark}
 use Rattle.plan_runs.proofs.Main.{kept_runs}
-use Rattle.plan_layout.specs.Layouts.{layout_of, rest_of, signatures_of}
+use Rattle.plan_served.specs.Layouts.{layout_of, rest_of, signatures_of}
 use Rattle.types_seen.specs.Units.{HasTree}
-use Rattle.plan_layout.proofs.Trees.{is_layout}
+use Rattle.plan_served.proofs.Trees.{is_layout}
 use Rattle.plan_served.proofs.Programs.{serves}
-use Rattle.plan_begin.proofs.Begins.{begins}
+use Rattle.plan_served.proofs.Begins.{begins}
 use Rattle.plan_carried.specs.Sources.{loop_entry, planned_listing, source_behaviour, source_marks, source_shown}
 use Rattle.plan_carried.proofs.Carried.{carried}
 use Rattle.plan_law.specs.Plans.{KeepsSource}

@@ -1,1 +1,14 @@
+pub mod DerivedLists
+pub mod DerivedForms
+pub mod Unbounded
+pub mod Sources
+pub mod Framed
+pub mod Entry
+pub mod Bytes
+pub mod WholeExpressions
+pub mod WholeStatements
+pub mod Constants
+pub mod Objects
+pub mod Counting
+pub mod Whole
 pub mod Law

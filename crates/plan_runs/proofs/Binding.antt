@@ -13,14 +13,14 @@ use Rattle.high_ir.specs.Words.{converted}
 use Rattle.plan_definition.specs.declared.home.Home.{Home}
 use Rattle.plan_definition.specs.declared.home.Home.TheVariants.{Frame, Memory}
 use Rattle.plan_definition.specs.Homes.{array_at}
-use Rattle.plan_expressions.specs.Cells.{Cells, cell, size, put_cell}
-use Rattle.plan_expressions.specs.Claims.{Handed}
-use Rattle.plan_expressions.specs.Fits.{Formal, OfWord, OfArray}
-use Rattle.plan_expressions.specs.Meets.{Layout, IsLayout, home, kind_at, is_own, is_passed, is_passed_base, IsArray, MeetsWorld, Untouched}
-use Rattle.plan_expressions.proofs.Cells.{cell-put_same, cell-put_other, cell_put, size-put}
-use Rattle.plan_expressions.proofs.Holding.{untouched_same, untouched_then}
-use Rattle.plan_expressions.proofs.Steps.{write_cases}
-use Rattle.plan_expressions.proofs.Stores.{no_array, untouched_put}
+use Rattle.plan_runs.specs.Cells.{Cells, cell, size, put_cell}
+use Rattle.plan_runs.specs.Claims.{Handed}
+use Rattle.plan_runs.specs.ExpressionFits.{Formal, OfWord, OfArray}
+use Rattle.plan_runs.specs.Meets.{Layout, IsLayout, home, kind_at, is_own, is_passed, is_passed_base, IsArray, MeetsWorld, Untouched}
+use Rattle.plan_runs.proofs.Cells.{cell-put_same, cell-put_other, cell_put, size-put}
+use Rattle.plan_runs.proofs.Holding.{untouched_same, untouched_then}
+use Rattle.plan_runs.proofs.Steps.{write_cases}
+use Rattle.plan_runs.proofs.Stores.{no_array, untouched_put}
 use Rattle.plan_runs.specs.Serves.{AreParameters}
 
 below_itself : (n : ℕ) → n < n → ⊥

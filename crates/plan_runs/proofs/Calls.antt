@@ -18,14 +18,14 @@ use Rattle.high_ir.specs.Runs as runs
 use Rattle.high_ir.specs.Runs.{frame, given, only_good, takes}
 use Rattle.high_code.specs.Code.{alone}
 use Rattle.plan_definition.specs.Statements.{all_planned}
-use Rattle.plan_expressions.specs.Claims.{Setting, IsSetting, Handed, Answers, GivesBack, CallsMeet, MeetsIn}
-use Rattle.plan_expressions.specs.Fits.{Signatures}
-use Rattle.plan_expressions.specs.Meets.{Layout, IsLayout, MeetsWorld, Untouched}
-use Rattle.plan_expressions.proofs.Holding.{untouched_then}
-use Rattle.plan_statements.specs.Flows.{Rest, Comes, GivesUp, GoesBy, Does}
-use Rattle.plan_statements.proofs.Declaring.{zero_range}
-use Rattle.plan_statements.proofs.Following.{follows}
-use Rattle.plan_statements.proofs.Marks.{counted_world}
+use Rattle.plan_runs.specs.Claims.{Setting, IsSetting, Handed, Answers, GivesBack, CallsMeet, MeetsIn}
+use Rattle.plan_runs.specs.ExpressionFits.{Signatures}
+use Rattle.plan_runs.specs.Meets.{Layout, IsLayout, MeetsWorld, Untouched}
+use Rattle.plan_runs.proofs.Holding.{untouched_then}
+use Rattle.plan_runs.specs.Flows.{Rest, Comes, GivesUp, GoesBy, Does}
+use Rattle.plan_runs.proofs.Declaring.{zero_range}
+use Rattle.plan_runs.proofs.Following.{follows}
+use Rattle.plan_runs.proofs.Marks.{counted_world}
 use Rattle.plan_runs.specs.Serves.{AllServe, Serves, are_from, at_entry, out_of_body, plan_with, source_with, words_in}
 use Rattle.plan_runs.proofs.Binding.{Binds, Bound, binds}
 use Rattle.plan_runs.proofs.Parameters.{frame_holds, frame_length, from_parts, handed_arrays, handed_values, parameter_below, takes_is}

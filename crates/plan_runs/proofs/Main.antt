@@ -14,10 +14,10 @@ use Rattle.high_ir.specs.Meaning.{Given, World}
 use Rattle.high_ir.specs.Runs as runs
 use Rattle.high_ir.specs.Runs.{count_of, hrun, run_of}
 use Rattle.high_ir.specs.Tree as high
-use Rattle.plan_expressions.specs.Claims.{Answers, GivesBack, Handed}
-use Rattle.plan_expressions.specs.Fits.{Signatures}
-use Rattle.plan_expressions.specs.Meets.{Layout, IsLayout, MeetsWorld}
-use Rattle.plan_statements.specs.Flows.{Rest}
+use Rattle.plan_runs.specs.Claims.{Answers, GivesBack, Handed}
+use Rattle.plan_runs.specs.ExpressionFits.{Signatures}
+use Rattle.plan_runs.specs.Meets.{Layout, IsLayout, MeetsWorld}
+use Rattle.plan_runs.specs.Flows.{Rest}
 use Rattle.plan_runs.specs.Serves.{AllServe, source_with}
 use Rattle.plan_runs.proofs.Calls.{calls_meet}
 use Rattle.high_pass.specs.Carries.{RunsAlike}

@@ -8,10 +8,10 @@ use Rattle.high_ir.specs.Tree as high
 use Rattle.high_ir.specs.Runs.{frame, takes}
 use Rattle.plan_definition.specs.declared.home.Home.{Home}
 use Rattle.plan_definition.specs.declared.home.Home.TheVariants.{Frame, Memory}
-use Rattle.plan_expressions.specs.Claims.{Handed}
-use Rattle.plan_expressions.specs.Fits.{Formal, OfWord, OfArray}
-use Rattle.plan_expressions.specs.Meets.{Layout, home}
-use Rattle.plan_expressions.proofs.Stores.{no_array}
+use Rattle.plan_runs.specs.Claims.{Handed}
+use Rattle.plan_runs.specs.ExpressionFits.{Formal, OfWord, OfArray}
+use Rattle.plan_runs.specs.Meets.{Layout, home}
+use Rattle.plan_runs.proofs.Stores.{no_array}
 use Rattle.plan_runs.specs.Serves.{AreParameters, are_from, arrays_in, words_in}
 
 -- an object among others, by their numbers

@@ -8,9 +8,9 @@ use Rattle.meaning_semantics.specs.declared.outcome.Flow.{Flow}
 use Rattle.c_tree.specs.declared.expression.NameId.{NameId}
 use Rattle.high_ir.specs.Runs as runs
 use Rattle.high_ir.specs.Tree as high
-use Rattle.plan_expressions.specs.Fits.{Signatures}
-use Rattle.plan_expressions.specs.Meets.{Layout, MeetsWorld}
-use Rattle.plan_statements.specs.Flows.{Rest}
+use Rattle.plan_runs.specs.ExpressionFits.{Signatures}
+use Rattle.plan_runs.specs.Meets.{Layout, MeetsWorld}
+use Rattle.plan_runs.specs.Flows.{Rest}
 use Rattle.plan_runs.specs.Serves.{source_with}
 use Rattle.high_pass.specs.Carries.{Shown}
 use Rattle.high_pass.specs.Listing.{MarkEntry}

@@ -8,10 +8,10 @@ use Rattle.high_ir.specs.Tree as high
 use Rattle.high_code.specs.Code.{AllWithin}
 use Rattle.plan_definition.specs.declared.home.Home.TheVariants.{Frame, Memory}
 use Rattle.plan_definition.specs.Statements.{Exits, Plan, all_planned, body_planned}
-use Rattle.plan_expressions.specs.Fits.{Formal, OfWord, OfArray, Function, Signatures}
-use Rattle.plan_expressions.specs.Meets.{Layout, home, kind_at}
-use Rattle.plan_statements.specs.Fits.{FitItems, block_declares, with_live}
-use Rattle.plan_statements.specs.Flows.{Rest}
+use Rattle.plan_runs.specs.ExpressionFits.{Formal, OfWord, OfArray, Function, Signatures}
+use Rattle.plan_runs.specs.Meets.{Layout, home, kind_at}
+use Rattle.plan_runs.specs.StatementFits.{FitItems, block_declares, with_live}
+use Rattle.plan_runs.specs.Flows.{Rest}
 
 -- how many parameters are words, and how many arrays
 abbrev pub words_in : List Formal → ℕ

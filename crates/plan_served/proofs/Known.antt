@@ -25,16 +25,16 @@ use Rattle.types_rules.specs.declared.scope.ParamType.{ParamType}
 use Rattle.types_rules.specs.declared.scope.Routine.{Routine}
 use Rattle.high_ir.specs.declared.object.Kind.TheVariants.{Word}
 use Rattle.plan_definition.specs.Operators.{kind_of}
-use Rattle.plan_expressions.specs.Fits.{OfWord, OfArray, Signatures, Suits, call_kind, parameters_of}
+use Rattle.plan_runs.specs.ExpressionFits.{OfWord, OfArray, Signatures, Suits, call_kind, parameters_of}
 use Rattle.types_seen.specs.Growing.{Grows}
-use Rattle.plan_fit.specs.Seen.{IsKnownAs, Knows, formal, formals}
+use Rattle.plan_served.specs.Seen.{IsKnownAs, Knows, formal, formals}
 use Rattle.types_seen.proofs.Growing.{grows_routine, grows_same, grows_then}
 use Rattle.types_seen.proofs.Rules.{NoFault, faultless_first, faultless_second, no_rule, none_first, none_second, not_when, parts_keep}
 use Rattle.types_seen.proofs.Known.{OfName, head_faultless, known_by, no_nameless}
-use Rattle.plan_fit.proofs.Widths.{or_int-kind}
+use Rattle.plan_served.proofs.Widths.{or_int-kind}
 use Rattle.types_seen.specs.Fronts.{Definition, IsFront, begun_by, behind, ended_by, external_by, function_by, functions_of}
-use Rattle.plan_layout.specs.Layouts.{formal_of, formals_of, parameters_in, result_in, signatures_of}
-use Rattle.plan_layout.proofs.Fronts.{among}
+use Rattle.plan_served.specs.Layouts.{formal_of, formals_of, parameters_in, result_in, signatures_of}
+use Rattle.plan_served.proofs.Fronts.{among}
 use Rattle.types_seen.proofs.Fronts.{defined, front_grows, functions_then, inside_ended, part_faultless}
 
 -- parameters of a definition

@@ -18,12 +18,12 @@ use Rattle.plan_definition.specs.declared.home.Home.{Home}
 use Rattle.plan_definition.specs.Layouts.{Next, frame_scalars, home_by, is_frame, is_passed, next_by, passed_arrays}
 use Rattle.plan_definition.specs.Operators.{kind_of}
 use Rattle.plan_definition.specs.Programs.{named_params}
-use Rattle.plan_expressions.specs.Fits.{Formal, OfWord, OfArray}
-use Rattle.plan_expressions.specs.Meets.{Layout, home, kind_at}
+use Rattle.plan_runs.specs.ExpressionFits.{Formal, OfWord, OfArray}
+use Rattle.plan_runs.specs.Meets.{Layout, home, kind_at}
 use Rattle.plan_runs.specs.Serves.{AreParameters, arrays_in, words_in}
 use Rattle.types_seen.proofs.Growing.{in_same, inside_param, row_inside}
-use Rattle.plan_layout.specs.Layouts.{formal_of, formals_of}
-use Rattle.plan_layout.proofs.Homes.{plain_homes}
+use Rattle.plan_served.specs.Layouts.{formal_of, formals_of}
+use Rattle.plan_served.proofs.Homes.{plain_homes}
 use Rattle.plan_served.proofs.Known.{none_listed}
 
 -- the objects of parameters, one behind the other

@@ -8,7 +8,7 @@ use Rattle.types_calls.specs.Calls.{CallsDefined}
 use Rattle.types_tree.specs.Tree as typed
 use Rattle.plan_definition.specs.Programs.{program_planned}
 use Rattle.plan_runs.specs.Serves.{AllServe}
-use Rattle.plan_layout.specs.Layouts.{layout_of, rest_of, signatures_of}
+use Rattle.plan_served.specs.Layouts.{layout_of, rest_of, signatures_of}
 use Rattle.types_seen.specs.Units.{HasTree}
 use Rattle.types_seen.proofs.Units.{of_tree}
 use Rattle.plan_served.proofs.Served.{all_serve}

@@ -33,31 +33,31 @@ use Rattle.plan_definition.specs.Layouts.{Next, first_of, firsts_of, frame_scala
 use Rattle.plan_definition.specs.Operators.{kind_of}
 use Rattle.plan_definition.specs.Programs.{between, end_of, function_planned, functions_planned, named_params, plan_of, program_planned}
 use Rattle.plan_definition.specs.Statements.{Plan, all_planned, body_planned}
-use Rattle.plan_expressions.specs.Fits.{Formal, OfWord, OfArray, Function, Signatures}
-use Rattle.plan_expressions.specs.Meets.{Layout, home, type_in}
-use Rattle.plan_statements.specs.Fits.{FitItems, block_declares, with_live}
+use Rattle.plan_runs.specs.ExpressionFits.{Formal, OfWord, OfArray, Function, Signatures}
+use Rattle.plan_runs.specs.Meets.{Layout, home, type_in}
+use Rattle.plan_runs.specs.StatementFits.{FitItems, block_declares, with_live}
 use Rattle.plan_runs.specs.Serves.{AllServe, AreParameters, FunctionServed, IsServed, Serves, are_from, arrays_in, at_entry, out_of_body, words_in}
 use Rattle.types_seen.specs.Growing.{Grows, statics}
-use Rattle.plan_fit.specs.Places.{IsHome, IsPlan, IsStored}
-use Rattle.plan_fit.specs.Seen.{IsObjectSeen, Sees}
+use Rattle.plan_served.specs.Places.{IsHome, IsPlan, IsStored}
+use Rattle.plan_served.specs.Seen.{IsObjectSeen, Sees}
 use Rattle.types_seen.proofs.Growing.{grows_object, grows_same, grows_then, in_entered, in_same, inside_param, row_inside, slice_get-last}
-use Rattle.plan_fit.proofs.Names.{among-second}
-use Rattle.plan_fit.proofs.Objects.{At, laid_kind, lives_as}
-use Rattle.plan_fit.proofs.Seeing.{knows_before, sees_entered, sees_object, sees_routine, sees_same, sees_wider}
-use Rattle.plan_fit.proofs.Statements.{fit_items}
+use Rattle.plan_served.proofs.Names.{among-second}
+use Rattle.plan_served.proofs.Objects.{At, laid_kind, lives_as}
+use Rattle.plan_served.proofs.Seeing.{knows_before, sees_entered, sees_object, sees_routine, sees_same, sees_wider}
+use Rattle.plan_served.proofs.Statements.{fit_items}
 use Rattle.types_seen.specs.Fronts.{Definition, IsDefined, IsFront, begun_by, behind, ended_by, external_by, function_by, functions_of}
-use Rattle.plan_layout.specs.Layouts.{constant_by, constant_in, constant_of, first_in, formal_of, formals_of, is_constant_formal, layout_of, owner_of, parameters_in, rest_of, result_in, signatures_of}
+use Rattle.plan_served.specs.Layouts.{constant_by, constant_in, constant_of, first_in, formal_of, formals_of, is_constant_formal, layout_of, owner_of, parameters_in, rest_of, result_in, signatures_of}
 use Rattle.types_seen.specs.Units.{IsUnit}
-use Rattle.plan_layout.proofs.Fronts.{IsAmong, among}
+use Rattle.plan_served.proofs.Fronts.{IsAmong, among}
 use Rattle.types_seen.proofs.Fronts.{begun_block, defined, front_grows, front_less, items_behind, inside_begun, part_faultless}
-use Rattle.plan_layout.proofs.Homes.{AreOwn, frame_within, plain_homes}
+use Rattle.plan_served.proofs.Homes.{AreOwn, frame_within, plain_homes}
 use Rattle.plan_served.proofs.Known.{knows}
 use Rattle.types_seen.proofs.Known.{body_faultless}
 use Rattle.types_seen.proofs.Lists.{extended, slice_get-before, slice_get-behind}
 use Rattle.plan_served.proofs.Params.{AddList, Match, add_list, arrays_counted, match_length, named_count, parameters_stand, words_counted}
-use Rattle.plan_layout.proofs.Placed.{length-homes, own_at, owned_by, there_by}
+use Rattle.plan_served.proofs.Placed.{length-homes, own_at, owned_by, there_by}
 use Rattle.plan_served.proofs.Sites.{bounds_are, bounds_body}
-use Rattle.plan_layout.proofs.Statics.{HaveGivens, home_at, laid, sees_front}
+use Rattle.plan_served.proofs.Statics.{HaveGivens, home_at, laid, sees_front}
 use Rattle.types_seen.proofs.Objects.{added}
 
 -- what a call of a function hands over, from a parameter on

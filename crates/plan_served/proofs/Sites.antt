@@ -17,11 +17,11 @@ use Rattle.types_rules.specs.Scope.{Around, Outline, after_row, started}
 use Rattle.types_rules.specs.Sights.{after_external}
 use Rattle.types_rules.specs.Specifiers.{kind_spelled}
 use Rattle.types_rules.specs.Typing.{and_external, typed_external, typed_items, typed_row}
-use Rattle.plan_fit.specs.Places.{AreBounds}
-use Rattle.plan_fit.proofs.Loops.{bounds_first, bounds_second, loops_declaration, loops_items, loops_of}
+use Rattle.plan_served.specs.Places.{AreBounds}
+use Rattle.plan_served.proofs.Loops.{bounds_first, bounds_second, loops_declaration, loops_items, loops_of}
 use Rattle.types_seen.specs.Fronts.{Definition, IsFront, begun_by, behind, ended_by, external_by}
 use Rattle.types_seen.specs.Units.{IsUnit}
-use Rattle.plan_layout.proofs.Fronts.{function_at}
+use Rattle.plan_served.proofs.Fronts.{function_at}
 use Rattle.types_seen.proofs.Fronts.{front_itself, front_less, is_nothing}
 
 -- facts of a program have the bounds that its sites give

@@ -16,9 +16,9 @@ use Rattle.code_flow_system.specs.Claims.{AreSums}
 use Rattle.code_flow_system.specs.declared.claims.FactClaim.{FactClaim}
 use Rattle.code_flow_system.specs.Certificates.{IsSmall}
 use Rattle.report_words.specs.Words.{Word, address_word, term_word}
-use Rattle.report_scanner.specs.Numbers.{is_number, number_of, address_of, term_number, term_address, is_starred, is_term}
-use Rattle.report_scanner.proofs.NumberLemmas.{digits-decimal, is_number-decimal, number_of-decimal}
-use Rattle.report_scanner.proofs.WordLemmas.{is_address-address_word, address_of-address_word}
+use Rattle.report_words.specs.Numbers.{is_number, number_of, address_of, term_number, term_address, is_starred, is_term}
+use Rattle.report_words.proofs.NumberLemmas.{digits-decimal, is_number-decimal, number_of-decimal}
+use Rattle.report_words.proofs.WordLemmas.{is_address-address_word, address_of-address_word}
 use Rattle.report_text.specs.Forms.{IsTerm, IsFact}
 use Rattle.report_text.specs.Lines.{sum_words, more_terms, compare_word, fact_line}
 use Rattle.report_lines.specs.Sums.{is_byte, is_compare, address_in, is_term_in_range, are_more_terms, are_more_in_range, are_terms, are_terms_in_range}

@@ -8,8 +8,8 @@ use Rattle.path_answer.specs.declared.bounded.Kind.{Kind}
 use Rattle.path_answer.specs.declared.bounded.Kind.TheVariants.{Greatest, Empty, Wide, Spent}
 use Rattle.path_answer.specs.declared.bounded.Column.{Column}
 use Rattle.report_words.specs.Words.{address_word}
-use Rattle.report_scanner.specs.Numbers.{address_of}
-use Rattle.report_scanner.proofs.WordLemmas.{is_address-address_word, address_of-address_word}
+use Rattle.report_words.specs.Numbers.{address_of}
+use Rattle.report_words.proofs.WordLemmas.{is_address-address_word, address_of-address_word}
 use Rattle.report_text.specs.declared.entries.CopyLine.{CopyLine}
 use Rattle.report_text.specs.Forms.{Ascend, IsCopyLine, IsColumn}
 use Rattle.report_text.specs.Lines.{cycles_line, kind_line, copy_line, column_line, end_line}

@@ -11,3 +11,4 @@ pub mod GoneLemmas
 pub mod TextLaws
 pub mod SameLemmas
 pub mod OneReport
+pub mod Lengths

@@ -9,9 +9,9 @@ use Rattle.code_flow_system.specs.declared.claims.LoopClaim.{LoopClaim}
 use Rattle.code_flow_system.specs.declared.cert.Part.{Part}
 use Rattle.code_flow_system.specs.Certificates.{IsSmall, IsPart}
 use Rattle.report_words.specs.Words.{Word, address_word, is_name}
-use Rattle.report_scanner.specs.Shapes.{is_dash, are_letters}
-use Rattle.report_scanner.specs.Numbers.{number_of, address_of, is_address}
-use Rattle.report_scanner.proofs.WordLemmas.{is_address-address_word, address_of-address_word}
+use Rattle.report_words.specs.Shapes.{is_dash, are_letters}
+use Rattle.report_words.specs.Numbers.{number_of, address_of, is_address}
+use Rattle.report_words.proofs.WordLemmas.{is_address-address_word, address_of-address_word}
 use Rattle.report_text.specs.declared.entries.Share.{Share}
 use Rattle.report_text.specs.Forms.{NamesOne, IsShare}
 use Rattle.report_text.specs.Lines.{exit_line, never_line, letter, region_line, loop_line, scale_line, potential_line, unit_line, flow_line, share_name, share_line}

@@ -16,8 +16,8 @@ use Rattle.path_answer.specs.declared.bounded.Kind.{Kind}
 use Rattle.path_answer.specs.declared.bounded.Kind.TheVariants.{Greatest, Empty, Wide, Spent}
 use Rattle.path_answer.specs.declared.bounded.Column.{Column}
 use Rattle.report_words.specs.Words.{Word, Line, address_word, term_word, is_name}
-use Rattle.report_scanner.specs.Numbers.{number_of, signed_of, address_of, term_number}
-use Rattle.report_scanner.proofs.WordLemmas.{address_of-address_word}
+use Rattle.report_words.specs.Numbers.{number_of, signed_of, address_of, term_number}
+use Rattle.report_words.proofs.WordLemmas.{address_of-address_word}
 use Rattle.report_text.specs.declared.entries.CopyLine.{CopyLine}
 use Rattle.report_text.specs.declared.entries.Share.{Share}
 use Rattle.report_text.specs.Forms.{IsTerm, IsFact, IsColumn, IsShare}

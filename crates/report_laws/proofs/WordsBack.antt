@@ -4,11 +4,11 @@ use Rattle.std.proofs.lemmas.Int.{ints}
 use Rattle.std.specs.Fmt.{decimal, signed_decimal}
 use borrow.Author.Tests.{le-leb, lt-ltb}
 use Rattle.code_flow_system.specs.Certificates.{IsSmall}
-use Rattle.report_scanner.specs.declared.shapes.Shape.TheVariants.{Number, Amount}
-use Rattle.report_scanner.specs.Shapes.{is_in_range}
-use Rattle.report_scanner.specs.Numbers.{is_number, number_of, is_signed, signed_of}
-use Rattle.report_scanner.proofs.NumberLemmas.{is_number-decimal, number_of-decimal}
-use Rattle.report_scanner.proofs.WordLemmas.{is_signed-signed_decimal, signed_of-signed_decimal}
+use Rattle.report_words.specs.declared.shapes.Shape.TheVariants.{Number, Amount}
+use Rattle.report_words.specs.Shapes.{is_in_range}
+use Rattle.report_words.specs.Numbers.{is_number, number_of, is_signed, signed_of}
+use Rattle.report_words.proofs.NumberLemmas.{is_number-decimal, number_of-decimal}
+use Rattle.report_words.proofs.WordLemmas.{is_signed-signed_decimal, signed_of-signed_decimal}
 
 pub and_both : (a b : Bool) → a ≡ true → b ≡ true → (a && b) ≡ true
 and_both a b e f = (λ i. e i && f i)

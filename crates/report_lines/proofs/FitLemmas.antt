@@ -2,8 +2,8 @@
 use Rattle.std.proofs.Common.{◌≡◌, ◌&&◌, List, [], ◌∷◌, length, map, Bool, true, false, refl, arith}
 use Rattle.std.proofs.lemmas.Bool.{false≢true}
 use Rattle.report_words.specs.Words.{Word}
-use Rattle.report_scanner.specs.declared.shapes.Shape.{Shape}
-use Rattle.report_scanner.specs.Shapes.{has_form, fit}
+use Rattle.report_words.specs.declared.shapes.Shape.{Shape}
+use Rattle.report_words.specs.Shapes.{has_form, fit}
 use Rattle.report_lines.specs.LineShapes.{unit_shapes}
 
 and_second : (a b : Bool) → (a && b) ≡ true → b ≡ true

@@ -3,8 +3,8 @@ use Rattle.std.proofs.Common.{◌≡◌, ◌==◌, ◌&&◌, ◌||◌, [], ◌�
 use Rattle.std.proofs.lemmas.Bool.{false≢true}
 use borrow.Author.Tests.{eqb-true}
 use Rattle.report_words.specs.Words.{Word, is_name}
-use Rattle.report_scanner.specs.Numbers.{is_empty}
-use Rattle.report_scanner.specs.Shapes.{is_dash}
+use Rattle.report_words.specs.Numbers.{is_empty}
+use Rattle.report_words.specs.Shapes.{is_dash}
 
 dash_by : (t u : Bool) (b : Word) → (t && u) ≡ true → (t ≡ true) × (u ≡ true)
 dash_by true true b e = (refl, refl)

@@ -3,8 +3,8 @@ use Rattle.std.proofs.Common.{◌≡◌, ◌&&◌, ◌||◌, [], ◌∷◌, ◌+
 use Rattle.std.proofs.lemmas.Bool.{false≢true}
 use Rattle.std.proofs.lemmas.List.{append-nil}
 use Rattle.report_words.specs.Words.{Word}
-use Rattle.report_scanner.specs.Numbers.{is_empty}
-use Rattle.report_scanner.specs.Shapes.{is_ram, is_spm_on, are_letters}
+use Rattle.report_words.specs.Numbers.{is_empty}
+use Rattle.report_words.specs.Shapes.{is_ram, is_spm_on, are_letters}
 use Rattle.report_text.specs.Lines.{letter}
 use Rattle.report_lines.specs.LineShapes.{starts}
 

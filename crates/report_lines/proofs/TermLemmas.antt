@@ -13,9 +13,9 @@ use borrow.Author.Tests.{eqb-true, leb-true, ltb-true}
 use Rattle.frac128.specs.Terms.{Terms}
 use Rattle.frac128.specs.Sum.{address_at}
 use Rattle.report_words.specs.Words.{Word, address_word, term_word}
-use Rattle.report_scanner.specs.Numbers.{is_number, number_of, is_address, is_term, is_starred, term_number, term_address}
-use Rattle.report_scanner.proofs.NumberLemmas.{decimal-number_of}
-use Rattle.report_scanner.proofs.BackLemmas.{address_word-address_of}
+use Rattle.report_words.specs.Numbers.{is_number, number_of, is_address, is_term, is_starred, term_number, term_address}
+use Rattle.report_words.proofs.NumberLemmas.{decimal-number_of}
+use Rattle.report_words.proofs.BackLemmas.{address_word-address_of}
 use Rattle.report_text.specs.Forms.{IsTerm}
 use Rattle.report_text.specs.Lines.{sum_words, more_terms}
 use Rattle.report_lines.specs.Sums.{is_byte, address_in, term_in, is_term_in_range, are_more_terms, are_more_in_range, are_terms, are_terms_in_range, EndsBy, IsReadingSum, IsTestingSum}

@@ -3,9 +3,9 @@ use Rattle.std.proofs.Common.{◌≡◌, ℕ, ◌<◌, ◌^◌, ℤ, pos, unsign
 use Rattle.std.specs.Fmt.{decimal, signed_decimal}
 use Rattle.std.specs.Str.{all_ascii_digits}
 use Rattle.report_words.specs.Words.{Word, address_word}
-use Rattle.report_scanner.specs.Numbers.{is_number, number_of, is_signed, signed_of, is_address, address_of}
-use Rattle.report_scanner.proofs.NumberLemmas.{digits_of_number, decimal-number_of}
-use Rattle.report_scanner.proofs.BackLemmas.{address_word-address_of, signed_decimal-signed_of}
+use Rattle.report_words.specs.Numbers.{is_number, number_of, is_signed, signed_of, is_address, address_of}
+use Rattle.report_words.proofs.NumberLemmas.{digits_of_number, decimal-number_of}
+use Rattle.report_words.proofs.BackLemmas.{address_word-address_of, signed_decimal-signed_of}
 
 pub digits : (w : Word) → is_number w ≡ true → all_ascii_digits w ≡ true
 digits w form = digits_of_number w form

@@ -1,7 +1,7 @@
 -- What the words of a line have to be, where there may be any number of them.
 use Rattle.std.specs.Prelude.{◌^◌, ◌&&◌, List, [], ◌∷◌, Bool, true, nat_lt, unsigned_abs}
 use Rattle.report_words.specs.Words.{Word}
-use Rattle.report_scanner.specs.Numbers.{is_address, is_signed, signed_of}
+use Rattle.report_words.specs.Numbers.{is_address, is_signed, signed_of}
 
 abbrev pub are_addresses : List Word → Bool
 are_addresses [] = true

@@ -1,8 +1,8 @@
 -- What the words behind the first one have to be, for each kind of line that has a fixed number of them.
 use Rattle.std.specs.Prelude.{ℕ, ◌==◌, List, [], ◌∷◌, ◌++◌, Bool, true, false}
 use Rattle.report_words.specs.Words.{Word}
-use Rattle.report_scanner.specs.declared.shapes.Shape.{Shape}
-use Rattle.report_scanner.specs.declared.shapes.Shape.TheVariants.{Number, Amount, Signed, Address, Label, Letters}
+use Rattle.report_words.specs.declared.shapes.Shape.{Shape}
+use Rattle.report_words.specs.declared.shapes.Shape.TheVariants.{Number, Amount, Signed, Address, Label, Letters}
 
 -- a number below 2^32
 abbrev pub small : Shape

@@ -2,7 +2,7 @@
 use Rattle.std.specs.Prelude.{◌≡◌, ℕ, ℤ, List, ◌++◌, map, true}
 use Rattle.std.specs.Fmt.{signed_decimal}
 use Rattle.report_words.specs.Words.{Word, address_word}
-use Rattle.report_scanner.specs.Numbers.{address_of, signed_of}
+use Rattle.report_words.specs.Numbers.{address_of, signed_of}
 use Rattle.report_lines.specs.LineLists.{are_addresses, are_integers, are_small}
 
 -- the words of what was read, and those that are left, are all

@@ -3,7 +3,7 @@ use Rattle.std.specs.Prelude.{◌≡◌, ℕ, ◌<◌, ◌≤◌, ◌^◌, ◌==
 use Rattle.frac128.specs.Terms.{Terms}
 use Rattle.frac128.specs.Sum.{address_at}
 use Rattle.report_words.specs.Words.{Word}
-use Rattle.report_scanner.specs.Numbers.{is_empty, number_of, address_of, is_term, term_number, term_address}
+use Rattle.report_words.specs.Numbers.{is_empty, number_of, address_of, is_term, term_number, term_address}
 use Rattle.report_text.specs.Lines.{sum_words}
 use Rattle.report_text.specs.Forms.{IsTerm}
 

@@ -1,6 +1,6 @@
 // Whether the words of a line `fact` have its form and range.
 ghost use Rattle.std.specs.Prelude.{◌≡◌, ◌∷◌, ◌&&◌, true, false, map, nat_lt, MatchOption};
-ghost use Rattle.report_scanner.specs.Numbers.{is_term};
+ghost use Rattle.report_words.specs.Numbers.{is_term};
 ghost use Rattle.report_text.specs.Lines.{compare_word};
 ghost use Rattle.report_lines.specs.Sums.{is_byte, address_in, is_compare, are_more_terms, are_terms, are_more_in_range, are_terms_in_range};
 

@@ -2,7 +2,7 @@
 ghost use Rattle.std.specs.Prelude.{◌≡◌, [], ◌∷◌, true, false, length, map, codes, IfOk, MatchOption};
 ghost use Rattle.std.specs.Fmt.{decimal, signed_decimal};
 ghost use Rattle.report_words.specs.Words.{address_word, is_name};
-ghost use Rattle.report_scanner.specs.Shapes.{fit, are_in_range};
+ghost use Rattle.report_words.specs.Shapes.{fit, are_in_range};
 ghost use Rattle.report_lines.specs.LineShapes.{cycles_shapes, exit_shapes, never_shapes, bound_shapes, turn_shapes, loop_shapes, region_shapes, share_shapes, scale_shapes, potential_shapes, unit_shapes, flow_shapes};
 ghost use Rattle.report_text.specs.Lines.{cycles_line, exit_line, never_line, region_line, loop_line, share_line, scale_line, potential_line, unit_line, flow_line};
 

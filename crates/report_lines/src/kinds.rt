@@ -1,6 +1,6 @@
 // The lines `kind`.
 ghost use Rattle.std.specs.Prelude.{◌≡◌, ◌≢◌, ◌∷◌, ◌<◌, ◌^◌, [], true, codes, MatchOption};
-ghost use Rattle.report_scanner.specs.Numbers.{is_number, number_of};
+ghost use Rattle.report_words.specs.Numbers.{is_number, number_of};
 ghost use Rattle.report_text.specs.Lines.{kind_line};
 
 use crate::values::small;

@@ -1,7 +1,7 @@
 // Names and letters.
 ghost use Rattle.std.specs.Prelude.{◌≡◌, ◌++◌, ◌||◌, true, false, IfOk, MatchOption};
 ghost use Rattle.report_words.specs.Words.{is_name};
-ghost use Rattle.report_scanner.specs.Shapes.{is_dash, are_letters};
+ghost use Rattle.report_words.specs.Shapes.{is_dash, are_letters};
 ghost use Rattle.report_text.specs.Lines.{letter, share_name};
 ghost use Rattle.report_lines.specs.LineShapes.{starts};
 

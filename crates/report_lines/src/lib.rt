@@ -1,6 +1,6 @@
 //! What each line of a report says, read from its words.
 //!
-//! A line is judged before it is read: `fit` and `are_in_range` of `report_scanner` test its words
+//! A line is judged before it is read: `fit` and `are_in_range` of `report_words` test its words
 //! against the shapes of its kind (`specs/LineShapes.antt`, and `LineLists` and `Sums` where there
 //! may be any number of words), and its order among the lines is tested between the two. Each call
 //! here then answers what the words say.

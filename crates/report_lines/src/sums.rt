@@ -1,13 +1,13 @@
 // The sums of a line `fact`.
 ghost use Rattle.std.specs.Prelude.{◌≡◌, ◌≢◌, ◌++◌, ◌∷◌, [], ◌<◌, ◌≤◌, ◌-◌, ◌^◌, ℕ, pos, true, min, drop, length, map, OnOk, IfOk, All};
 ghost use Rattle.frac128.specs.Sum.{address_at};
-ghost use Rattle.report_scanner.specs.Numbers.{number_of, is_starred, is_term, term_number};
+ghost use Rattle.report_words.specs.Numbers.{number_of, is_starred, is_term, term_number};
 ghost use Rattle.report_text.specs.Forms.{IsTerm};
 ghost use Rattle.report_text.specs.Lines.{sum_words};
 ghost use Rattle.report_lines.specs.Sums.{is_byte, address_in, term_in, is_term_in_range, are_terms, are_terms_in_range};
 
 use frac128::{Sum, SumFault};
-use report_scanner::{address, is_address, is_number, number};
+use report_words::{address, is_address, is_number, number};
 use std::alloc::Global;
 use wcc_base::Memory;
 

@@ -2,9 +2,9 @@
 ghost use Rattle.std.specs.Prelude.{◌≡◌, ◌<◌, ◌^◌, true, unsigned_abs};
 ghost use Rattle.std.specs.Fmt.{decimal, signed_decimal};
 ghost use Rattle.report_words.specs.Words.{address_word};
-ghost use Rattle.report_scanner.specs.Numbers.{is_number, number_of, is_signed, signed_of, is_address, address_of};
+ghost use Rattle.report_words.specs.Numbers.{is_number, number_of, is_signed, signed_of, is_address, address_of};
 
-use report_scanner::{address, number, signed};
+use report_words::{address, number, signed};
 
 /// A number below 2^64.
 #[tactic(auto, using(crate::proofs::ValueLemmas::digits, crate::proofs::ValueLemmas::written))]

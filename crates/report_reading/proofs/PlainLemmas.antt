@@ -7,11 +7,11 @@ use Rattle.std.specs.Str.{all_ascii_digits}
 use Rattle.std.specs.Char.{is_ascii_digit}
 use borrow.Author.Tests.{ne_eqb, leb-true, eqb-true}
 use Rattle.report_words.specs.Words.{Word, address_word, term_word, is_letter, is_name_byte, are_name_bytes, is_name, spaced, line_text}
-use Rattle.report_scanner.specs.Splitting.{lacks, words_of}
-use Rattle.report_scanner.specs.Numbers.{is_hex_digit, are_hex_digits}
-use Rattle.report_scanner.proofs.NumberLemmas.{digits-decimal}
-use Rattle.report_scanner.proofs.WordLemmas.{is_address-address_word}
-use Rattle.report_scanner.proofs.ScanLemmas.{words_of-one, words_of-more}
+use Rattle.report_words.specs.Splitting.{lacks, words_of}
+use Rattle.report_words.specs.Numbers.{is_hex_digit, are_hex_digits}
+use Rattle.report_words.proofs.NumberLemmas.{digits-decimal}
+use Rattle.report_words.proofs.WordLemmas.{is_address-address_word}
+use Rattle.report_words.proofs.ScanLemmas.{words_of-one, words_of-more}
 use Rattle.report_reading.specs.Texts.{lines_of}
 use Rattle.report_reading.specs.Plain.{IsPlain, ArePlain}
 use Rattle.report_reading.proofs.TextLemmas.{pieces-more}

@@ -11,8 +11,8 @@ use Rattle.code_flow_system.specs.declared.claims.FactClaim.{FactClaim}
 use Rattle.code_flow_system.specs.declared.cert.Part.{Part}
 use Rattle.code_flow_system.specs.Certificates.{IsSmall, IsPart}
 use Rattle.report_words.specs.Words.{Word}
-use Rattle.report_scanner.specs.Numbers.{number_of}
-use Rattle.report_scanner.specs.Shapes.{fit}
+use Rattle.report_words.specs.Numbers.{number_of}
+use Rattle.report_words.specs.Shapes.{fit}
 use Rattle.report_text.specs.declared.entries.Share.{Share}
 use Rattle.report_text.specs.declared.entries.CopyLine.{CopyLine}
 use Rattle.path_answer.specs.declared.bounded.Column.{Column}

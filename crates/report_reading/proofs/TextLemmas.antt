@@ -4,7 +4,7 @@ use Rattle.std.proofs.lemmas.Bool.{false≢true}
 use borrow.Author.Tests.{eqb-true}
 use Rattle.std.proofs.lemmas.List.{append_assoc, length-append}
 use Rattle.report_words.specs.Words.{Word, Line, spaced, line_text, lines_text}
-use Rattle.report_scanner.specs.Splitting.{lacks, SplitsAt, lengthened, words_of}
+use Rattle.report_words.specs.Splitting.{lacks, SplitsAt, lengthened, words_of}
 use Rattle.report_rules.proofs.WordTestLemmas.{same_is}
 use Rattle.report_reading.specs.Texts.{pieces, lines_of, is_blank, is_finished}
 use Rattle.report_reading.specs.Sections.{has_tag, later_words, starts}

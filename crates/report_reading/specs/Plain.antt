@@ -1,7 +1,7 @@
 -- Words without blanks and line ends.
 use Rattle.std.specs.Prelude.{◌≡◌, [], ◌∷◌, true}
 use Rattle.report_words.specs.Words.{Word, Line}
-use Rattle.report_scanner.specs.Splitting.{lacks}
+use Rattle.report_words.specs.Splitting.{lacks}
 
 pub record IsPlain (w : Word) : Type 0 where
   pub unspaced : lacks 32 w ≡ true

@@ -1,7 +1,7 @@
 -- The lines of a text: what stands up to each 0A, and behind the last of them, each cut into its words.
 use Rattle.std.specs.Prelude.{ℕ, ◌==◌, List, [], ◌∷◌, Bool, true, false, map, if◌then◌else◌}
 use Rattle.report_words.specs.Words.{Line}
-use Rattle.report_scanner.specs.Splitting.{lengthened, words_of}
+use Rattle.report_words.specs.Splitting.{lengthened, words_of}
 
 -- the pieces between the line ends; the last one has none
 abbrev pub pieces : List ℕ → List (List ℕ)

@@ -6,7 +6,7 @@ ghost use Rattle.report_reading.specs.Reading.{at_of, IsNumbered, IsNext, fault_
 
 use crate::fault::ReportFault;
 use report_rules::{Flaw, is_word};
-use report_scanner::{read_words, split_line};
+use report_words::{read_words, split_line};
 use std::alloc::Global;
 use wcc_base::Memory;
 

@@ -10,7 +10,7 @@ use Rattle.wcc_base.specs.declared.compare.Compare.TheVariants.{AtMost, AtLeast,
 use Rattle.code_flow_system.specs.declared.claims.FactClaim.{FactClaim}
 use Rattle.code_flow_system.specs.Certificates.{IsSmall}
 use Rattle.report_words.specs.Words.{Word}
-use Rattle.report_scanner.specs.Numbers.{is_signed, signed_of}
+use Rattle.report_words.specs.Numbers.{is_signed, signed_of}
 use Rattle.report_text.specs.Lines.{sum_words, compare_word, fact_line}
 use Rattle.report_lines.specs.Sums.{is_compare}
 use Rattle.report_rules.specs.Rules.{IsLine, IsFlawAnywhere}

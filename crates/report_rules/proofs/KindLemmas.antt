@@ -5,9 +5,9 @@ use Rattle.std.specs.Fmt.{decimal}
 use Rattle.path_answer.specs.declared.bounded.Kind.{Kind}
 use Rattle.path_answer.specs.declared.bounded.Kind.TheVariants.{Greatest, Empty, Wide, Spent}
 use Rattle.report_words.specs.Words.{Word}
-use Rattle.report_scanner.specs.Numbers.{number_of}
-use Rattle.report_scanner.proofs.NumberLemmas.{decimal-number_of}
-use Rattle.report_scanner.specs.Shapes.{is_in_range, fit, are_in_range}
+use Rattle.report_words.specs.Numbers.{number_of}
+use Rattle.report_words.proofs.NumberLemmas.{decimal-number_of}
+use Rattle.report_words.specs.Shapes.{is_in_range, fit, are_in_range}
 use Rattle.report_text.specs.Lines.{kind_line}
 use Rattle.report_lines.specs.LineShapes.{small}
 use Rattle.report_rules.specs.declared.flaw.Flaw.{Flaw}

@@ -5,7 +5,7 @@ use Rattle.std.proofs.lemmas.List.Elements.{All-nil, All-cons, All-weaker}
 use borrow.Author.Tests.{eqb-true, leb-true, ltb-true}
 use Rattle.code_flow_system.specs.Certificates.{IsSmall}
 use Rattle.report_words.specs.Words.{Word, is_name}
-use Rattle.report_scanner.specs.Numbers.{address_of, is_signed, signed_of}
+use Rattle.report_words.specs.Numbers.{address_of, is_signed, signed_of}
 use Rattle.report_lines.specs.LineLists.{are_addresses, are_integers, are_small}
 use Rattle.path_answer.specs.declared.bounded.Column.{Column}
 use Rattle.report_text.specs.declared.entries.CopyLine.{CopyLine}

@@ -1,9 +1,9 @@
 -- Where the addresses stand in the lines of each kind.
 use Rattle.std.proofs.Common.{◌≡◌, List, true, arith}
 use Rattle.report_words.specs.Words.{Word}
-use Rattle.report_scanner.specs.declared.shapes.Shape.TheVariants.{Signed}
-use Rattle.report_scanner.specs.Shapes.{fit}
-use Rattle.report_scanner.specs.Numbers.{is_address, is_number}
+use Rattle.report_words.specs.declared.shapes.Shape.TheVariants.{Signed}
+use Rattle.report_words.specs.Shapes.{fit}
+use Rattle.report_words.specs.Numbers.{is_address, is_number}
 use Rattle.report_lines.specs.LineShapes.{exit_shapes, never_shapes, region_shapes, loop_shapes, potential_shapes, flow_shapes, share_shapes}
 use Rattle.report_rules.specs.WordTests.{word_at}
 use Rattle.report_rules.proofs.WordTestLemmas.{fit_at}

@@ -11,12 +11,12 @@ use Rattle.code_flow_system.specs.declared.claims.LoopClaim.{LoopClaim}
 use Rattle.code_flow_system.specs.declared.cert.Part.{Part}
 use Rattle.code_flow_system.specs.Certificates.{IsSmall, IsPart}
 use Rattle.report_words.specs.Words.{Word, address_word, is_name}
-use Rattle.report_scanner.specs.declared.shapes.Shape.{Shape}
-use Rattle.report_scanner.specs.declared.shapes.Shape.TheVariants.{Number, Amount, Signed, Address}
-use Rattle.report_scanner.specs.Shapes.{are_letters, fit, are_in_range}
-use Rattle.report_scanner.specs.Numbers.{is_number, number_of, signed_of, address_of}
-use Rattle.report_scanner.proofs.WordLemmas.{address_of-address_word, signed_of-signed_decimal, signed_of_number}
-use Rattle.report_scanner.proofs.NumberLemmas.{number_of-decimal}
+use Rattle.report_words.specs.declared.shapes.Shape.{Shape}
+use Rattle.report_words.specs.declared.shapes.Shape.TheVariants.{Number, Amount, Signed, Address}
+use Rattle.report_words.specs.Shapes.{are_letters, fit, are_in_range}
+use Rattle.report_words.specs.Numbers.{is_number, number_of, signed_of, address_of}
+use Rattle.report_words.proofs.WordLemmas.{address_of-address_word, signed_of-signed_decimal, signed_of_number}
+use Rattle.report_words.proofs.NumberLemmas.{number_of-decimal}
 use Rattle.report_lines.specs.LineShapes.{cycles_shapes, never_shapes, region_shapes, loop_shapes, scale_shapes, potential_shapes, unit_shapes, flow_shapes, share_shapes}
 use Rattle.report_text.specs.Lines.{cycles_line, exit_line, never_line, letter, region_line, loop_line, scale_line, potential_line, unit_line, flow_line, share_line}
 use Rattle.report_text.specs.Forms.{NamesOne, IsShare}

@@ -4,10 +4,10 @@ use Rattle.std.proofs.lemmas.Bool.{false≢true}
 use borrow.Author.Tests.{eq-eqb, eqb-true}
 use Rattle.std.specs.Str.{all_ascii_digits}
 use Rattle.report_words.specs.Words.{Word}
-use Rattle.report_scanner.specs.declared.shapes.Shape.{Shape}
-use Rattle.report_scanner.specs.Shapes.{has_form, is_in_range, fit, are_in_range}
-use Rattle.report_scanner.specs.Numbers.{is_address, is_number}
-use Rattle.report_scanner.proofs.NumberLemmas.{digits_of_number}
+use Rattle.report_words.specs.declared.shapes.Shape.{Shape}
+use Rattle.report_words.specs.Shapes.{has_form, is_in_range, fit, are_in_range}
+use Rattle.report_words.specs.Numbers.{is_address, is_number}
+use Rattle.report_words.proofs.NumberLemmas.{digits_of_number}
 use Rattle.report_rules.specs.WordTests.{word_at, same_word}
 
 and_first : (a b : Bool) → (a && b) ≡ true → a ≡ true

@@ -1,8 +1,8 @@
 -- The rules of the lines `scale`, `potential`, `unit`, `flow` and `share`.
 use Rattle.std.specs.Prelude.{◌≡◌, ℕ, suc, ◌<◌, ◌≤◌, ◌^◌, ◌==◌, ◌&&◌, ◌||◌, List, Bool, true, false, codes, nat_le, nat_lt}
 use Rattle.report_words.specs.Words.{Word}
-use Rattle.report_scanner.specs.Numbers.{number_of}
-use Rattle.report_scanner.specs.Shapes.{fit, are_in_range}
+use Rattle.report_words.specs.Numbers.{number_of}
+use Rattle.report_words.specs.Shapes.{fit, are_in_range}
 use Rattle.report_lines.specs.LineShapes.{scale_shapes, potential_shapes, unit_shapes, flow_shapes, share_shapes}
 use Rattle.report_rules.specs.Rules.{Rule}
 use Rattle.report_rules.specs.WordTests.{word_at, place_at}

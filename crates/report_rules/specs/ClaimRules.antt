@@ -1,7 +1,7 @@
 -- The rules of the lines `exit`, `never`, `region` and `loop`: each ascends by an address. The state is the least address that may follow.
 use Rattle.std.specs.Prelude.{ℕ, suc, ◌&&◌, ◌||◌, List, Bool, true, codes, nat_le, if◌then◌else◌}
 use Rattle.report_words.specs.Words.{Word}
-use Rattle.report_scanner.specs.Shapes.{fit, are_in_range}
+use Rattle.report_words.specs.Shapes.{fit, are_in_range}
 use Rattle.report_lines.specs.LineShapes.{exit_shapes, never_shapes, region_shapes, loop_shapes}
 use Rattle.report_rules.specs.Rules.{Rule}
 use Rattle.report_rules.specs.WordTests.{place_at}

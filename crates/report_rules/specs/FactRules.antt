@@ -1,7 +1,7 @@
 -- The rule of the lines `fact`: a multiplier, a sum, a sign, and another sum.
 use Rattle.std.specs.Prelude.{ℕ, suc, ◌^◌, ◌&&◌, ◌||◌, List, [], ◌∷◌, Bool, true, false, codes, nat_lt, unsigned_abs, if◌then◌else◌}
 use Rattle.report_words.specs.Words.{Word}
-use Rattle.report_scanner.specs.Numbers.{is_signed, signed_of}
+use Rattle.report_words.specs.Numbers.{is_signed, signed_of}
 use Rattle.report_lines.specs.Sums.{is_compare, are_terms, are_terms_in_range}
 use Rattle.report_rules.specs.Rules.{Rule}
 use Rattle.report_rules.specs.WordTests.{same_word, are_none}

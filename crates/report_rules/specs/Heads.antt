@@ -1,7 +1,7 @@
 -- The rules of the lines `version`, `cycles`, `kind`, `copy` and `column`.
 use Rattle.std.specs.Prelude.{ℕ, ◌==◌, ◌&&◌, List, [], ◌∷◌, Bool, true, false, codes, length, if◌then◌else◌}
 use Rattle.report_words.specs.Words.{Word, is_name}
-use Rattle.report_scanner.specs.Shapes.{fit, are_in_range}
+use Rattle.report_words.specs.Shapes.{fit, are_in_range}
 use Rattle.report_lines.specs.LineShapes.{small, cycles_shapes}
 use Rattle.report_lines.specs.LineLists.{are_addresses, are_integers, are_small}
 use Rattle.path_answer.specs.declared.bounded.Kind.{Kind}

@@ -3,8 +3,8 @@ use Rattle.std.specs.Prelude.{◌≡◌, List, ◌∷◌, [], Bool, true, false,
 use Rattle.path_answer.specs.declared.bounded.Kind.{Kind}
 use Rattle.path_answer.specs.declared.bounded.Kind.TheVariants.{Greatest, Empty, Wide, Spent}
 use Rattle.report_words.specs.Words.{Word}
-use Rattle.report_scanner.specs.declared.shapes.Shape.{Shape}
-use Rattle.report_scanner.specs.Shapes.{fit, are_in_range}
+use Rattle.report_words.specs.declared.shapes.Shape.{Shape}
+use Rattle.report_words.specs.Shapes.{fit, are_in_range}
 use Rattle.report_text.specs.Lines.{kind_line}
 use Rattle.report_lines.specs.LineShapes.{small}
 use Rattle.report_rules.specs.declared.flaw.Flaw.{Flaw}

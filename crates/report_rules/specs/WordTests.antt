@@ -1,7 +1,7 @@
 -- Tests of words that several rules share.
 use Rattle.std.specs.Prelude.{◌≡◌, ℕ, zero, suc, ◌==◌, ◌&&◌, List, [], ◌∷◌, Bool, true, false, nat_le}
 use Rattle.report_words.specs.Words.{Word}
-use Rattle.report_scanner.specs.Numbers.{address_of}
+use Rattle.report_words.specs.Numbers.{address_of}
 use Rattle.report_lines.specs.LineLists.{are_addresses}
 
 -- the word at a place from 0 on, and an empty one where there is none

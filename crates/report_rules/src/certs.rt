@@ -1,7 +1,7 @@
 // The lines `scale`, `potential`, `unit`, `flow` and `share`.
 ghost use Rattle.std.specs.Prelude.{◌≡◌, ◌<◌, ◌≤◌, ◌^◌, map, IfOk, IfErr};
 ghost use Rattle.code_flow_system.specs.Certificates.{IsSmall, IsPart};
-ghost use Rattle.report_scanner.specs.Numbers.{number_of};
+ghost use Rattle.report_words.specs.Numbers.{number_of};
 ghost use Rattle.report_text.specs.Forms.{IsShare};
 ghost use Rattle.report_text.specs.Lines.{scale_line, potential_line, unit_line, flow_line, share_line};
 ghost use Rattle.report_rules.specs.Rules.{IsLine, IsFlaw};
@@ -12,8 +12,8 @@ use crate::flaw::Flaw;
 use crate::shapes::{FLOW, POTENTIAL, SCALE, SHARE, unit_shapes};
 use crate::words::{numeral, place};
 use code_flow_system::Part;
-use report_scanner::{are_in_range, fit};
 use report_text::Share;
+use report_words::{are_in_range, fit};
 use std::alloc::Global;
 
 /// The number of a line `scale`.

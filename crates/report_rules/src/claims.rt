@@ -11,7 +11,7 @@ use crate::flaw::Flaw;
 use crate::shapes::{EXIT, LOOP, NEVER, REGION};
 use crate::words::place;
 use code_flow_system::{LoopClaim, Never, Within};
-use report_scanner::{are_in_range, fit};
+use report_words::{are_in_range, fit};
 
 #[tactic(auto, using(crate::proofs::PlaceLemmas::exit_place))]
 fn exit_stands(least: u64, words: &[&[u8]]) -> bool

@@ -3,7 +3,7 @@ ghost use Rattle.std.specs.Prelude.{◌≡◌, ◌^◌, ◌∷◌, ◌++◌, ◌
 ghost use Rattle.code_flow_system.specs.Certificates.{IsSmall};
 ghost use Rattle.report_text.specs.Forms.{IsTerm, IsFact};
 ghost use Rattle.report_text.specs.Lines.{sum_words, compare_word, fact_line};
-ghost use Rattle.report_scanner.specs.Numbers.{is_signed, signed_of};
+ghost use Rattle.report_words.specs.Numbers.{is_signed, signed_of};
 ghost use Rattle.report_rules.specs.declared.flaw.Flaw.TheVariants as flaws;
 ghost use Rattle.report_rules.specs.Rules.{IsLineAnywhere, IsFlawAnywhere};
 ghost use Rattle.report_rules.specs.FactRules.{is_zero, is_sum, is_sum_in_range, has_sign, fact_rule};
@@ -14,7 +14,7 @@ use crate::words::is_word;
 use code_flow_system::FactClaim;
 use frac128::Sum;
 use report_lines::{are_small, are_terms, are_terms_in_range, compare, integer};
-use report_scanner::is_signed;
+use report_words::is_signed;
 use std::alloc::Global;
 use wcc_base::{Compare, Memory};
 

@@ -14,7 +14,7 @@ use crate::shapes::{CYCLES, SMALL};
 use crate::words::is_word;
 use path_answer::Kind;
 use report_lines::{spent_kind, wide_kind};
-use report_scanner::{are_in_range, fit};
+use report_words::{are_in_range, fit};
 
 fn are_two(words: &[&[u8]]) -> bool
     ensures { result ≡ are_two (map (λ w. w.now) words.now) }

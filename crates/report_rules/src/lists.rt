@@ -12,8 +12,8 @@ use crate::flaw::Flaw;
 use crate::words::places_ascend;
 use path_answer::Column;
 use report_lines::{are_addresses, are_integers, are_small};
-use report_scanner::{Shape, are_in_range, is_name, is_signed};
 use report_text::CopyLine;
+use report_words::{Shape, are_in_range, is_name, is_signed};
 use std::alloc::Global;
 
 // Whether a name and places may stand behind `copy`.

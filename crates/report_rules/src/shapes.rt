@@ -3,7 +3,7 @@
 ghost use Rattle.std.specs.Prelude.{◌≡◌};
 ghost use Rattle.report_lines.specs.LineShapes.{unit_shapes};
 
-use report_scanner::Shape;
+use report_words::Shape;
 
 /// A number below 2^32.
 pub const SMALL: Shape = Shape::Number {

@@ -1,10 +1,10 @@
 // Tests of words that several rules share.
 ghost use Rattle.std.specs.Prelude.{◌≡◌, ◌^◌, true, map, min};
-ghost use Rattle.report_scanner.specs.Numbers.{is_address, is_number, number_of};
+ghost use Rattle.report_words.specs.Numbers.{is_address, is_number, number_of};
 ghost use Rattle.report_lines.specs.LineLists.{are_addresses};
 ghost use Rattle.report_rules.specs.WordTests.{same_word, word_at, place_at, places_ascend};
 
-use report_scanner::{address, number};
+use report_words::{address, number};
 
 /// Whether a word is the other.
 #[tactic(auto, using(crate::proofs::WordTestLemmas::same_word_same, crate::proofs::WordTestLemmas::same_word_other))]

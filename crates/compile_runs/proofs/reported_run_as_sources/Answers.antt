@@ -1,4 +1,4 @@
-use Rattle.facts_restrictions.proofs.Limited.{are_limited}
+use Rattle.facts_limits.proofs.Limited.{are_limited}
 use Rattle.compile_runs.proofs.Runs.{runs_as_source}
 use Rattle.compile_runs.proofs.reported_run_as_sources.Goals as goal
 

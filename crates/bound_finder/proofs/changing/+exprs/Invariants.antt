@@ -1,6 +1,6 @@
 use Rattle.std.proofs.Common.{◌≡◌, drop}
 use Rattle.types_tree.specs.View.{exprs_of}
-use Rattle.facts_counting.specs.Changes.{exprs_changes}
+use Rattle.facts_loops.specs.Changes.{exprs_changes}
 use Rattle.bound_finder.proofs.changing.+exprs.Given as goal
 
 abbrev pub invariant-exprs_changes-loop-expr : goal.invariant-exprs_changes-loop-expr

@@ -1,6 +1,6 @@
 use Rattle.std.proofs.Common.{◌≡◌, drop, map}
 use Rattle.types_tree.specs.View.{object_of}
-use Rattle.facts_counting.specs.Changes.{objects_changes}
+use Rattle.facts_loops.specs.Changes.{objects_changes}
 use Rattle.bound_finder.proofs.changing.objects_changes.Given as goal
 
 abbrev pub invariant-loop-declared : goal.invariant-loop-declared

@@ -1,6 +1,6 @@
 use Rattle.std.proofs.Common.{◌^◌, ap, sym, Bool, Some}
 use Rattle.std.proofs.lemmas.Bool.{lt-ltb}
-use Rattle.facts_counting.specs.Counting.{only_if}
+use Rattle.facts_loops.specs.Counting.{only_if}
 use Rattle.bound_finder.proofs.counting.fitted.Goals as goal
 
 pub returns : goal.returns

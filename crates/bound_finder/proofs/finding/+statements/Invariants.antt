@@ -1,6 +1,6 @@
 use Rattle.std.proofs.Common.{◌≡◌, ◌++◌, drop}
 use Rattle.types_tree.specs.View.{items_of}
-use Rattle.facts_counting.specs.Loops.{items_loops}
+use Rattle.facts_loops.specs.CountingLoops.{items_loops}
 use Rattle.bound_finder.proofs.finding.+statements.Given as goal
 
 abbrev pub invariant-push_items-loop-item : goal.invariant-push_items-loop-item

@@ -1,5 +1,5 @@
 use Rattle.std.proofs.Common.{◌≡◌, ◌++◌, drop}
-use Rattle.facts_counting.specs.Loops.{derived_among}
+use Rattle.facts_loops.specs.CountingLoops.{derived_among}
 use Rattle.bound_finder.proofs.finding.derived_among.Given as goal
 
 abbrev pub invariant-loop-form : goal.invariant-loop-form

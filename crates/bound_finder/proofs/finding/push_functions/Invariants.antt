@@ -1,6 +1,6 @@
 use Rattle.std.proofs.Common.{◌≡◌, ◌++◌, drop, map}
 use Rattle.types_tree.specs.View.{function_of}
-use Rattle.facts_counting.specs.Loops.{functions_loops}
+use Rattle.facts_loops.specs.CountingLoops.{functions_loops}
 use Rattle.bound_finder.proofs.finding.push_functions.Given as goal
 
 abbrev pub invariant-loop-function : goal.invariant-loop-function

@@ -1,7 +1,7 @@
 use Rattle.std.proofs.Common.{refl}
 use Rattle.parse_begun.specs.View.{state_of}
 use Rattle.parse_depth.proofs.Knowns.{nameless, known_next}
-use Rattle.parse_lexeme.specs.Lexemes.{word_said}
+use Rattle.parse_words.specs.Lexemes.{word_said}
 use Rattle.c_parser.proofs.Giving.{deeper}
 use Rattle.c_parser.proofs.read.advance.Goals as goal
 

@@ -1,7 +1,7 @@
 use Rattle.std.proofs.Common.{◌++◌, ◌≤◌, ap, map, arith, subst, sym, ◌∙◌}
 use Rattle.parse_begun.proofs.SameDepths.{state_same}
 use Rattle.parse_begun.specs.View.{state_of}
-use Rattle.parse_lexeme.specs.Lexemes.{word_said}
+use Rattle.parse_words.specs.Lexemes.{word_said}
 use Rattle.c_parser.proofs.Words.{append_push, halted, led_push, length_push, passed_on}
 use Rattle.c_parser.specs.Refused.{Stops}
 use Rattle.c_parser.proofs.read.read.Goals as goal

@@ -3,7 +3,7 @@ use Rattle.parse_begun.specs.Depths.{state_depth}
 use Rattle.parse_begun.specs.View.{Names, state_of}
 use Rattle.parse_grammar.specs.Law.{run}
 use Rattle.parse_grammar.specs.Machine.{Goes}
-use Rattle.parse_lexeme.specs.Lexemes.{word_said}
+use Rattle.parse_words.specs.Lexemes.{word_said}
 use Rattle.c_parser.proofs.read.read.Given as goal
 
 abbrev pub invariant-loop-word : goal.invariant-loop-word

@@ -1,5 +1,5 @@
 use Rattle.std.proofs.Common.{ap, ◌∙◌}
-use Rattle.response_tasks.specs.Entries.{is_file}
+use Rattle.response_time.specs.Entries.{is_file}
 use Rattle.command_perform.proofs.TaskRuns.{file_is_text}
 use Rattle.command_perform.proofs.respond.name_of.Goals as goal
 

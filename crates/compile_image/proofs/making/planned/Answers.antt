@@ -2,7 +2,7 @@ use Rattle.std.proofs.Common.{◌≡◌}
 use Rattle.facts_definitions.specs.FlowFacts.{main_of}
 use Rattle.types_tree.specs.View.{program_of as source_of}
 use Rattle.plan_carried.specs.Sources.{planned_listing}
-use Rattle.plan_checked.proofs.Sources.{checked}
+use Rattle.plan_law.proofs.Sources.{checked}
 use Rattle.plan_definition.specs.Programs.{program_planned}
 use Rattle.high_ir.specs.Programs.{program_of}
 use Rattle.high_ir.specs.declared.copies.Carried.{Carried}

@@ -8,7 +8,7 @@ use Rattle.loop_walks.specs.Levels.{Level, level_of, ground, weighed}
 use Rattle.loop_walks.specs.Rows.{AreSteps, AreLoops, HaveNone}
 use Rattle.loop_flows.specs.Passes.{spread}
 use Rattle.loop_flows.proofs.FlowLemmas.{spread-long}
-use Rattle.loop_passes.specs.Turns.{is_tight, turnings}
+use Rattle.loop_flows.specs.Turns.{is_tight, turnings}
 use Rattle.loop_worths.specs.Sizes.{IsSmall, AreSmallTurns}
 use Rattle.loop_worths.proofs.CodeLemmas.{walk_steps}
 use Rattle.loop_amounts.specs.Wraps.{SameCounts}

@@ -1,7 +1,7 @@
 use Rattle.std.proofs.Common.{pos}
 use Rattle.loop_walks.specs.Levels.{level_of}
 use Rattle.loop_flows.specs.Passes.{spread}
-use Rattle.loop_passes.specs.Turns.{is_tight}
+use Rattle.loop_flows.specs.Turns.{is_tight}
 use Rattle.loop_amounts.proofs.PassLemmas.{pass_next}
 use Rattle.loop_amounts.proofs.pass.end_pass.Goals as goal
 

@@ -4,7 +4,7 @@ use Rattle.std.proofs.lemmas.Int.{to_z-of_z}
 use Rattle.loop_walks.specs.Rows.{Each}
 use Rattle.loop_flows.specs.Passes.{spread}
 use Rattle.loop_flows.specs.Flows.{together}
-use Rattle.loop_passes.specs.Turns.{is_turn}
+use Rattle.loop_flows.specs.Turns.{is_turn}
 use Rattle.loop_amounts.specs.Made.{NotChosen}
 use Rattle.loop_amounts.proofs.PassLemmas.{turn_start, turn_next, turn_end}
 use Rattle.loop_amounts.proofs.turn.pass.Goals as goal

@@ -1,7 +1,7 @@
 use Rattle.std.proofs.Common.{◌≤◌, ◌++◌, take, drop}
 use Rattle.loop_flows.specs.Passes.{spread}
 use Rattle.loop_flows.specs.Flows.{together}
-use Rattle.loop_passes.specs.Turns.{is_turn}
+use Rattle.loop_flows.specs.Turns.{is_turn}
 use Rattle.loop_amounts.specs.Wraps.{SameCounts}
 use Rattle.loop_amounts.proofs.turn.pass.Given as goal
 

@@ -2,7 +2,7 @@ use Rattle.std.proofs.Common.{arith, ◌-◌, sym, subst, ℤ, List, Option, len
 use Rattle.loop_walks.specs.Rows.{Each}
 use Rattle.loop_flows.specs.Passes.{spread}
 use Rattle.loop_flows.specs.Flows.{together, only_at}
-use Rattle.loop_passes.specs.Turns.{is_turn}
+use Rattle.loop_flows.specs.Turns.{is_turn}
 use Rattle.loop_worths.proofs.CodeLemmas.{walk_steps}
 use Rattle.loop_amounts.specs.Wraps.{SameCounts, AgreeIn}
 use Rattle.loop_amounts.specs.Made.{NotChosen}

@@ -7,7 +7,7 @@ use Rattle.std.proofs.Math.ListN.{length-set}
 use Rattle.std.proofs.lemmas.Int.{to_z-of_z}
 use Rattle.loop_walks.specs.Levels.{weighed}
 use Rattle.loop_walks.specs.Rows.{AreSteps, IsLoopOf}
-use Rattle.loop_passes.specs.Turns.{with_back, turnings}
+use Rattle.loop_flows.specs.Turns.{with_back, turnings}
 use Rattle.loop_worths.specs.Sizes.{AreSmallTurns}
 use Rattle.loop_worths.proofs.CodeLemmas.{no_loop}
 use Rattle.loop_amounts.specs.Made.{HasTurned, bared}

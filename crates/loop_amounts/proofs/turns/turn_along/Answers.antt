@@ -5,7 +5,7 @@ use Rattle.std.proofs.lemmas.Int.{to_z-of_z}
 use Rattle.loop_walks.specs.Turns.{way_at, turn_ways, gain}
 use Rattle.loop_flows.specs.Passes.{spread}
 use Rattle.loop_flows.specs.Flows.{together, only_at}
-use Rattle.loop_passes.specs.Turns.{is_turn, further_turns, turning_of}
+use Rattle.loop_flows.specs.Turns.{is_turn, further_turns, turning_of}
 use Rattle.loop_worths.specs.Sizes.{IsSmall}
 use Rattle.loop_worths.proofs.CodeLemmas.{gain_from, small_way}
 use Rattle.loop_amounts.specs.Wraps.{wrapped, SameCounts}

@@ -1,7 +1,7 @@
 use Rattle.std.proofs.Common.{◌∙◌, ap, subst}
 use Rattle.parse_begun.specs.declared.begun.Declarator.{Declarator}
 use Rattle.parse_begun.specs.View.{Gives, declarator_of}
-use Rattle.parse_lexeme.specs.Lexemes.{lexeme_of}
+use Rattle.parse_words.specs.Lexemes.{lexeme_of}
 use Rattle.parse_grammar.specs.Begun.{Base, Sizes}
 use Rattle.parse_grammar.specs.Machine.{begin}
 use Rattle.parse_declaration.proofs.Begins.{size_begins}

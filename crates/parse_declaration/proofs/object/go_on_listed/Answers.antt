@@ -1,7 +1,7 @@
 use Rattle.std.proofs.Common.{◌∙◌, ap, rules, subst}
 use Rattle.parse_begun.specs.declared.begun.Receiver.{Receiver}
 use Rattle.parse_begun.specs.View.{Gives, head_of, parts_of, shape_part_of}
-use Rattle.parse_lexeme.specs.Lexemes.{lexeme_of}
+use Rattle.parse_words.specs.Lexemes.{lexeme_of}
 use Rattle.parse_grammar.specs.Begun.{Base, Lists}
 use Rattle.parse_grammar.specs.Machine.{begin}
 use Rattle.parse_declaration.proofs.Begins.{next_begins}

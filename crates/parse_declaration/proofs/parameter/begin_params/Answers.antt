@@ -1,6 +1,6 @@
 use Rattle.std.proofs.Common.{rules, subst}
 use Rattle.parse_begun.specs.View.{Gives, proto_of}
-use Rattle.parse_lexeme.specs.Lexemes.{lexeme_of}
+use Rattle.parse_words.specs.Lexemes.{lexeme_of}
 use Rattle.c_tree.specs.Named.{map_row, named_param}
 use Rattle.parse_grammar.specs.Machine.{param_begins, specifier_of}
 use Rattle.parse_declaration.proofs.Begins.{param_opens}

@@ -7,7 +7,7 @@ use Rattle.c_tree.specs.View.{id_of}
 use Rattle.parse_begun.specs.View.{Gives, Names, id_named, params_of, proto_of, shape_part_of}
 use Rattle.parse_grammar.specs.Begun.{Bytes}
 use Rattle.parse_grammar.specs.Machine.{param_ends}
-use Rattle.parse_lexeme.specs.Lexemes.{lexeme_of}
+use Rattle.parse_words.specs.Lexemes.{lexeme_of}
 use Rattle.parse_declaration.proofs.parameter.end_shaped_param.Goals as goal
 
 name_same : (f : Names) (name : Option NameId) → map_option f (map_option id_of name) ≡ map_option (id_named f) name

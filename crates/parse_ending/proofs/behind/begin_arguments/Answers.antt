@@ -2,7 +2,7 @@ use Rattle.std.proofs.Common.{◌∙◌, ap, rules, subst}
 use Rattle.parse_begun.specs.View.{Gives}
 use Rattle.parse_ending.proofs.Arguments.{argument_begins}
 use Rattle.parse_grammar.specs.Machine.{begin}
-use Rattle.parse_lexeme.specs.Lexemes.{lexeme_of}
+use Rattle.parse_words.specs.Lexemes.{lexeme_of}
 use Rattle.parse_ending.proofs.behind.begin_arguments.Goals as goal
 
 pub returns-in_ok-under-in_default : goal.returns-in_ok-under-in_default

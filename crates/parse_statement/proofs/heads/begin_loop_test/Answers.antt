@@ -1,7 +1,7 @@
 use Rattle.std.proofs.Common.{◌∙◌, ap, subst, sym}
 use Rattle.parse_begun.specs.declared.begun.StartedFor.{StartedFor}
 use Rattle.parse_begun.specs.View.{Gives, frames_of, start_part_of}
-use Rattle.parse_lexeme.specs.Lexemes.{lexeme_of}
+use Rattle.parse_words.specs.Lexemes.{lexeme_of}
 use Rattle.parse_grammar.specs.Begun.{Base, Guards}
 use Rattle.parse_grammar.specs.Machine.{begin}
 use Rattle.parse_statement.proofs.Others.{tests_other, not_said}

@@ -3,7 +3,7 @@ use denote.Enum.Bare.{same_true, true_same}
 use Rattle.c_tree.specs.contracts.token.TokenKind.{the_type}
 use Rattle.c_tree.specs.declared.token.TokenKind.{TokenKind}
 use Rattle.c_tree.specs.Said.{Plain}
-use Rattle.parse_lexeme.specs.Lexemes.{lexeme_of}
+use Rattle.parse_words.specs.Lexemes.{lexeme_of}
 use Rattle.parse_statement.proofs.said.says.Goals as goal
 
 plain_one : (a b : TokenKind) → Plain a ≡ Plain b → a ≡ b

@@ -5,7 +5,7 @@ use Rattle.c_tree.specs.Named.{named_statement}
 use Rattle.c_tree.specs.Tree.{If, Statement}
 use Rattle.parse_grammar.specs.Begun.{Bytes, Frames, InThen}
 use Rattle.parse_grammar.specs.Machine.{settle}
-use Rattle.parse_lexeme.specs.Lexemes.{lexeme_of}
+use Rattle.parse_words.specs.Lexemes.{lexeme_of}
 use Rattle.parse_begun.specs.View.{Gives, frames_of, part_of, statement_part_of}
 use Rattle.parse_statement.proofs.Others.{not_said, then_gives}
 use Rattle.parse_statement.proofs.settle.+settling.Goals as goal

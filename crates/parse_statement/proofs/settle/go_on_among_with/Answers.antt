@@ -1,7 +1,7 @@
 use Rattle.std.proofs.Common.{ap, subst}
 use Rattle.c_tree.specs.Named.{named_items}
 use Rattle.parse_grammar.specs.Machine.{among, specifier_of}
-use Rattle.parse_lexeme.specs.Lexemes.{lexeme_of}
+use Rattle.parse_words.specs.Lexemes.{lexeme_of}
 use Rattle.parse_begun.specs.View.{Gives, braces_of}
 use Rattle.parse_statement.proofs.settle.go_on_among_with.Goals as goal
 

@@ -8,12 +8,12 @@ use Rattle.loop_walks.specs.declared.step.Step.{Step}
 use Rattle.loop_walks.specs.declared.step.Loop.{Loop}
 use Rattle.loop_walks.specs.Levels.{level_of, ground}
 use Rattle.loop_flows.specs.Passes.{spread}
-use Rattle.loop_passes.specs.Turns.{is_tight, turnings}
+use Rattle.loop_flows.specs.Turns.{is_tight, turnings}
 use Rattle.loop_amounts.specs.Wraps.{wrapped}
 use Rattle.loop_amounts.specs.Made.{HasTurned}
 use Rattle.path_places.specs.Places.{place_of, loops_of}
-use Rattle.path_places.specs.Laws.{function_steps}
-use Rattle.path_rows.specs.Driver.{function_loops}
+use Rattle.path_places.specs.PlaceLaws.{function_steps}
+use Rattle.path_places.specs.Driver.{function_loops}
 use Rattle.path_walks.specs.Prices.{prices_of}
 use Rattle.path_walks.proofs.PointLemmas.{steps_rise}
 use Rattle.path_amounts.proofs.FlowLemmas.{counts_by}

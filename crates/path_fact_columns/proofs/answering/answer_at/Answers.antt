@@ -3,7 +3,7 @@ use mir.Val.{to_z, of_z}
 use Rattle.std.specs.Int.{w128}
 use Rattle.std.proofs.lemmas.Int.{to_z-of_z}
 use Rattle.rv_core.specs.Table.{table_of}
-use Rattle.path_duals.specs.Duals.{final_level, final_pairs}
+use Rattle.path_places.specs.Duals.{final_level, final_pairs}
 use Rattle.path_flows.specs.Flows.{amounts_of, parts_of}
 use Rattle.path_cert.specs.Priced.{fact_prices}
 use Rattle.path_fact_columns.specs.Laws.{IsAnswer}

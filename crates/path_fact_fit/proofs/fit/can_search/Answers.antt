@@ -4,8 +4,8 @@ use Rattle.rv_core.specs.Table.{table_of}
 use Rattle.code_flow_system.specs.declared.claims.FactClaim.{FactClaim}
 use Rattle.code_flow_system.specs.Claims.{Claims}
 use Rattle.path_fit.specs.Fitting.{LoopsFit}
-use Rattle.path_counts.specs.Laws.{HasBounds}
-use Rattle.path_limits.specs.Limits.{LooseCountsAreFew, LooseValuesBelow}
+use Rattle.path_flows.specs.CountLaws.{HasBounds}
+use Rattle.path_ranges.specs.Limits.{LooseCountsAreFew, LooseValuesBelow}
 use Rattle.path_conditions.specs.Searching.{CanSearch}
 use Rattle.path_fact_fit.specs.Few.{IsFewFact}
 use Rattle.path_fact_fit.proofs.FewLemmas.{searched}

@@ -1,5 +1,5 @@
 use Rattle.std.specs.List.{AllWithin}
-use Rattle.path_counts.specs.Laws.{HasBounds}
+use Rattle.path_flows.specs.CountLaws.{HasBounds}
 use Rattle.path_fact_fit.proofs.fit.have_bounds.Given as goal
 
 abbrev pub invariant-loop-i : goal.invariant-loop-i

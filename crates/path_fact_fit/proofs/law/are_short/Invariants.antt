@@ -1,5 +1,5 @@
 use Rattle.std.specs.List.{AllWithin}
-use Rattle.path_limits.specs.Narrow.{HasShortBounds}
+use Rattle.path_ranges.specs.Narrow.{HasShortBounds}
 use Rattle.path_fact_fit.proofs.law.are_short.Given as goal
 
 abbrev pub invariant-loop-i : goal.invariant-loop-i

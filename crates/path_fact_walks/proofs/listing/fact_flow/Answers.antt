@@ -5,9 +5,9 @@ use Rattle.std.proofs.lemmas.Int.{to_z-of_z}
 use Rattle.std.proofs.lemmas.Result.{IfOk-weaker}
 use Rattle.rv_core.specs.Table.{table_of}
 use Rattle.code_flow_system.specs.declared.cert.Part.{Part}
-use Rattle.path_duals.specs.Duals.{final_level}
+use Rattle.path_places.specs.Duals.{final_level}
 use Rattle.path_flows.specs.Flows.{amounts_of, parts_of}
-use Rattle.path_rows.specs.Driver.{blank}
+use Rattle.path_places.specs.Driver.{blank}
 use Rattle.path_walks.specs.Prices.{price_in, prices_of}
 use Rattle.path_walks.specs.Sizes.{AllStaySmall}
 use Rattle.path_cert.specs.Priced.{fact_price, fact_prices}

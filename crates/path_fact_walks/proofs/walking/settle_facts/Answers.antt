@@ -5,8 +5,8 @@ use Rattle.std.proofs.lemmas.Int.{to_z-of_z}
 use Rattle.std.proofs.lemmas.Result.{IfOk-weaker}
 use Rattle.rv_core.specs.Table.{table_of}
 use Rattle.loop_walks.specs.Levels.{level_of}
-use Rattle.path_duals.specs.Duals.{final_level, final_pairs}
-use Rattle.path_rows.specs.Driver.{blank}
+use Rattle.path_places.specs.Duals.{final_level, final_pairs}
+use Rattle.path_places.specs.Driver.{blank}
 use Rattle.path_walks.specs.declared.walks.Settled.{Settled}
 use Rattle.path_walks.specs.Prices.{price_in, prices_of}
 use Rattle.path_walks.specs.Sizes.{AllStaySmall}

@@ -1,7 +1,7 @@
 use Rattle.std.proofs.Common.{◌≡◌, ◌^◌, true}
 use Rattle.std.proofs.lemmas.Result.{IfOk-weaker}
 use Rattle.rv_core.specs.Table.{table_of}
-use Rattle.path_limits.specs.Limits.{LooseCountsAreFew, LooseValuesUnder}
+use Rattle.path_ranges.specs.Limits.{LooseCountsAreFew, LooseValuesUnder}
 use Rattle.path_loose_fit.proofs.FitLemmas.{counts_few}
 use Rattle.path_loose_fit.proofs.fit.counts_fit.Goals as goal
 

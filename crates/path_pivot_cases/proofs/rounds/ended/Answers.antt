@@ -3,8 +3,8 @@ use Rattle.std.proofs.lemmas.Result.{IfOk-weaker}
 use Rattle.path_pivot_tables.specs.declared.running.Ended.{Ended}
 use Rattle.path_pivot_tables.specs.Shapes.{HasEnded}
 use Rattle.path_pivot_rounds.specs.Rounds.{round_over}
-use Rattle.path_pivot_ends.proofs.SideLemmas.{variables_are}
-use Rattle.path_pivot_laws.specs.Laws.{EndsWell}
+use Rattle.path_pivot_rounds.proofs.SideLemmas.{variables_are}
+use Rattle.path_pivot_laws.specs.RoundLaws.{EndsWell}
 use Rattle.path_pivot_cases.proofs.rounds.ended.Goals as goal
 
 pub returns-clause-ended : goal.returns-clause-ended

@@ -1,6 +1,6 @@
 use Rattle.std.proofs.Common.{◌≡◌, ◌∙◌, ap, subst, length, IfSome}
-use Rattle.path_pivot_rows.specs.Rows.{turned}
-use Rattle.path_pivot_rows.proofs.RowLemmas.{turned-long}
+use Rattle.path_pivot_tables.specs.Rows.{turned}
+use Rattle.path_pivot_tables.proofs.RowLemmas.{turned-long}
 use Rattle.path_pivot_tables.proofs.pivoting.next_row.Goals as goal
 
 pub returns-in-Some-clause-long : goal.returns-in-Some-clause-long

@@ -2,7 +2,7 @@ use Rattle.std.proofs.Common.{sym, subst}
 use Rattle.rv_core.specs.Table.{table_of}
 use Rattle.code_flow_system.specs.declared.cert.Cert.{Cert}
 use Rattle.code_flow_system.specs.Certificates.{Accepts, IsInForm}
-use Rattle.path_bound.proofs.BoundLemmas.{all_greatest}
+use Rattle.path_cert.proofs.BoundLemmas.{all_greatest}
 use Rattle.path_search.specs.Kinds.{SaysOne}
 use Rattle.path_search.proofs.SearchLemmas.{says_one}
 use Rattle.path_search.proofs.bounding.bound.Goals as goal

@@ -2,7 +2,7 @@ use Rattle.std.proofs.Common.{rules, ◌∙◌, sym, ap, subst}
 use Rattle.std.specs.Int.{w128}
 use Rattle.std.proofs.lemmas.Int.{to_z-of_z}
 use Rattle.rv_core.specs.Table.{table_of}
-use Rattle.path_cost_ranges.proofs.RangeLemmas.{costs_ranged}
+use Rattle.path_sizes.proofs.RangeLemmas.{costs_ranged}
 use Rattle.code_flow_system.specs.declared.cert.Flow.{Flow}
 use Rattle.code_flow_system.specs.declared.cert.Mark.TheVariants.{Greatest, Empty}
 use Rattle.code_flow_system.specs.Certificates.{AddressesAscend}

@@ -4,7 +4,7 @@ use Rattle.std.specs.Int.{w128}
 use Rattle.std.proofs.lemmas.Int.{to_z-of_z}
 use Rattle.rv_core.specs.Table.{table_of}
 use Rattle.code_flow_system.specs.Certificates.{limits, held, fall, row_size, potential, scaled_price}
-use Rattle.path_duals.specs.Duals.{owed}
+use Rattle.path_places.specs.Duals.{owed}
 use Rattle.path_values.specs.Owed.{IsNarrowNumber}
 use Rattle.path_values.proofs.OwedLemmas.{wide_none, narrow_some, owed_is}
 use Rattle.path_values.proofs.owed.owed.Goals as goal

@@ -4,7 +4,7 @@ use mir.Val.{to_z, of_z}
 use Rattle.std.proofs.lemmas.Int.{to_z-of_z}
 use Rattle.std.proofs.lemmas.List.{drop_all}
 use Rattle.frac128.specs.Terms.{Terms}
-use Rattle.path_duals.specs.Duals.{potentials_of}
+use Rattle.path_places.specs.Duals.{potentials_of}
 use Rattle.path_values.proofs.PotentialLemmas.{potential_added}
 use Rattle.path_values.proofs.terms.potentials.Goals as goal
 

@@ -1,5 +1,5 @@
 use Rattle.std.proofs.Common.{◌≡◌, ◌++◌, drop}
-use Rattle.path_duals.specs.Duals.{potentials_of}
+use Rattle.path_places.specs.Duals.{potentials_of}
 use Rattle.path_values.proofs.terms.potentials.Given as goal
 
 abbrev pub invariant-loop-i : goal.invariant-loop-i

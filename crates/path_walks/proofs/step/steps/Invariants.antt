@@ -1,6 +1,6 @@
 use Rattle.std.proofs.Common.{drop}
 use Rattle.path_places.specs.Places.{is_walked, steps_of}
-use Rattle.path_places.specs.Laws.{function_steps}
+use Rattle.path_places.specs.PlaceLaws.{function_steps}
 use Rattle.path_walks.specs.Prices.{price_in}
 use Rattle.path_walks.proofs.ListLemmas.{Adds}
 use Rattle.path_walks.proofs.step.steps.Given as goal

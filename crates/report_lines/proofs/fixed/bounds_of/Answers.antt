@@ -1,4 +1,4 @@
-use Rattle.report_scanner.specs.Numbers.{is_number}
+use Rattle.report_words.specs.Numbers.{is_number}
 use Rattle.report_lines.proofs.FitLemmas.{third_of_four, last_of_four}
 use Rattle.report_lines.proofs.fixed.bounds_of.Goals as goal
 

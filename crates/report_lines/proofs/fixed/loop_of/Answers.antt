@@ -1,7 +1,7 @@
 use Rattle.std.proofs.Common.{◌&&◌, true}
-use Rattle.report_scanner.specs.Numbers.{is_number, is_signed, is_address}
-use Rattle.report_scanner.specs.declared.shapes.Shape.TheVariants.{Address, Signed}
-use Rattle.report_scanner.specs.Shapes.{is_in_range}
+use Rattle.report_words.specs.Numbers.{is_number, is_signed, is_address}
+use Rattle.report_words.specs.declared.shapes.Shape.TheVariants.{Address, Signed}
+use Rattle.report_words.specs.Shapes.{is_in_range}
 use Rattle.report_lines.specs.LineShapes.{small}
 use Rattle.report_lines.proofs.FitLemmas.{front_of_eight, back_of_eight}
 use Rattle.report_lines.proofs.fixed.loop_of.Goals as goal

@@ -1,7 +1,7 @@
 use Rattle.std.proofs.Common.{◌||◌}
 use Rattle.report_words.specs.Words.{is_name}
-use Rattle.report_scanner.specs.Numbers.{is_number, is_address}
-use Rattle.report_scanner.specs.Shapes.{is_dash}
+use Rattle.report_words.specs.Numbers.{is_number, is_address}
+use Rattle.report_words.specs.Shapes.{is_dash}
 use Rattle.report_lines.proofs.FitLemmas.{third_of_four, last_of_four}
 use Rattle.report_lines.proofs.fixed.share_of.Goals as goal
 

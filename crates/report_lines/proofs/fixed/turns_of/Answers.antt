@@ -1,4 +1,4 @@
-use Rattle.report_scanner.specs.Numbers.{is_address, is_signed}
+use Rattle.report_words.specs.Numbers.{is_address, is_signed}
 use Rattle.report_lines.proofs.FitLemmas.{last_of_four}
 use Rattle.report_lines.proofs.fixed.turns_of.Goals as goal
 

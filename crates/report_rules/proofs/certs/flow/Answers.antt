@@ -1,6 +1,6 @@
 use Rattle.std.proofs.Common.{◌≡◌, map, true, rules, FitsSigned}
 use Rattle.std.specs.Int.{w128}
-use Rattle.report_scanner.specs.Shapes.{fit, are_in_range}
+use Rattle.report_words.specs.Shapes.{fit, are_in_range}
 use Rattle.report_lines.specs.LineShapes.{flow_shapes}
 use Rattle.report_rules.proofs.ValueLemmas.{flow_part}
 use Rattle.report_rules.proofs.certs.flow.Goals as goal

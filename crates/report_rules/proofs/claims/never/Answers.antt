@@ -1,6 +1,6 @@
 use Rattle.std.proofs.Common.{map, rules, FitsSigned, nat_le, sym, ◌∙◌}
 use Rattle.std.specs.Int.{w128}
-use Rattle.report_scanner.specs.Shapes.{fit}
+use Rattle.report_words.specs.Shapes.{fit}
 use Rattle.report_rules.specs.WordTests.{place_at}
 use Rattle.report_lines.specs.LineShapes.{never_shapes}
 use Rattle.report_rules.proofs.ValueLemmas.{first_of_two, never_small}

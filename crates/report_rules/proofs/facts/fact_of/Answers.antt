@@ -3,7 +3,7 @@ use Rattle.std.specs.Int.{w128}
 use Rattle.std.proofs.lemmas.Int.{to_z-of_z}
 use Rattle.report_text.specs.Lines.{fact_line}
 use Rattle.report_rules.specs.Rules.{IsLine}
-use Rattle.report_scanner.specs.Numbers.{is_signed, signed_of}
+use Rattle.report_words.specs.Numbers.{is_signed, signed_of}
 use Rattle.report_rules.specs.FactRules.{is_sum, is_sum_in_range, fact_rule}
 use Rattle.report_rules.proofs.FactLemmas.{first_of_three, second_of_three, third_of_three, fact_written}
 use Rattle.report_rules.proofs.facts.fact_of.Goals as goal

@@ -1,5 +1,5 @@
 use Rattle.std.proofs.Common.{◌≡◌, map, true, rules}
-use Rattle.report_scanner.specs.Shapes.{fit, are_in_range}
+use Rattle.report_words.specs.Shapes.{fit, are_in_range}
 use Rattle.report_lines.specs.LineShapes.{cycles_shapes}
 use Rattle.report_rules.proofs.ValueLemmas.{cycles_range}
 use Rattle.report_rules.proofs.heads.cycles.Goals as goal

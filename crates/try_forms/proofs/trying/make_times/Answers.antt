@@ -1,5 +1,5 @@
 use Rattle.types_tree.specs.View.{program_of}
-use Rattle.plan_checked.proofs.Sources.{checked}
+use Rattle.plan_law.proofs.Sources.{checked}
 use Rattle.try_forms.proofs.trying.make_times.Goals as goal
 
 pub make_again-made-requires : goal.make_again-made-requires

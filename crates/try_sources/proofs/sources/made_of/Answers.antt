@@ -1,5 +1,5 @@
 use Rattle.types_tree.specs.View.{program_of}
-use Rattle.plan_checked.proofs.Sources.{checked}
+use Rattle.plan_law.proofs.Sources.{checked}
 use Rattle.try_sources.proofs.sources.made_of.Goals as goal
 
 pub make-made-requires : goal.make-made-requires

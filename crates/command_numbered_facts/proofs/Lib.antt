@@ -1,4 +1,0 @@
-pub mod Ranks
-pub mod Sites
-pub mod Whole
-pub mod Flows

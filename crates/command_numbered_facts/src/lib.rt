@@ -1,2 +1,0 @@
-//! The call ranks and flow facts of numbered sources.
-#![tactic(auto)]

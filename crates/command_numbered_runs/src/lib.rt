@@ -1,2 +1,0 @@
-//! The runs of numbered sources on the empty input.
-#![tactic(auto)]

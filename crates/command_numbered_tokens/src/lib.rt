@@ -1,2 +1,0 @@
-//! The tokens of numbered sources.
-#![tactic(auto)]

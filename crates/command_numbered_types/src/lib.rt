@@ -1,2 +1,0 @@
-//! The trees of numbered sources.
-#![tactic(auto)]

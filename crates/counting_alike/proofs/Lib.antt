@@ -1,9 +1,0 @@
-pub mod Alike
-pub mod Objects
-pub mod Settings
-pub mod Steps
-pub mod Expressions
-pub mod Entering
-pub mod Declaring
-pub mod Looping
-pub mod Quiet

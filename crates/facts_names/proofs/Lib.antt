@@ -1,2 +1,0 @@
-pub mod Pragmas
-pub mod Sources

@@ -1,5 +1,0 @@
-pub mod Written
-pub mod Counts
-pub mod Named
-pub mod Facts
-pub mod Limited

@@ -1,5 +1,0 @@
-use Rattle.facts_restrictions.proofs.Limited.{are_limited}
-use Rattle.facts_restrictions.proofs.restrictions_are_limited.Goals as goal
-
-pub returns : goal.returns
-returns c = λ source names program facts is. are_limited source names program facts is

@@ -1,4 +1,0 @@
-pub mod Orders
-pub mod Following
-pub mod Running
-pub mod Counting

@@ -1,4 +1,0 @@
-pub mod LooseLemmas
-pub mod FarLemmas
-pub mod BesideLemmas
-pub mod FlowLemmas

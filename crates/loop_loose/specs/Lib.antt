@@ -1,2 +1,0 @@
-pub mod LooseWalk
-pub mod Beside

@@ -1,5 +1,0 @@
-use Rattle.loop_ranges.proofs.LevelsBelow.{stay_near}
-use Rattle.loop_ranges.proofs.worths_stay_near.Goals as goal
-
-pub returns : goal.returns
-returns c = stay_near

@@ -1,2 +1,0 @@
-//! The pieces of a text that is put together of them.
-#![tactic(auto)]

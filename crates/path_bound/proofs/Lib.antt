@@ -1,3 +1,0 @@
-pub mod CertLemmas
-pub mod BoundLemmas
-pub mod PricedLemmas

@@ -1,6 +1,0 @@
-use Rattle.path_cost_ranges.proofs.RangeLemmas.{costs_ranged}
-use Rattle.path_cost_ranges.proofs.costs_have_ranges.Goals as goal
-use Rattle.rv_core.specs.Table.{table_of}
-
-pub returns : goal.returns
-returns c = costs_ranged (table_of c.args.costs.now) c.args.system.now c.args.shapes.now c.args.spans.now

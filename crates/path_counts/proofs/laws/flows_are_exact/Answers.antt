@@ -1,5 +1,0 @@
-use Rattle.path_counts.proofs.KeepLemmas.{all_exact}
-use Rattle.path_counts.proofs.laws.flows_are_exact.Goals as goal
-
-pub returns : goal.returns
-returns c q least is = all_exact _ _ _ c.requires q least is

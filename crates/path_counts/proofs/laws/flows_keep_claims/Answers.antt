@@ -1,5 +1,0 @@
-use Rattle.path_counts.proofs.KeepLemmas.{all_keep}
-use Rattle.path_counts.proofs.laws.flows_keep_claims.Goals as goal
-
-pub returns : goal.returns
-returns c q least is = all_keep _ _ _ c.requires q least is

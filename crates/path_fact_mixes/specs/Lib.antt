@@ -1,2 +1,0 @@
-pub mod Mixes
-pub mod Laws

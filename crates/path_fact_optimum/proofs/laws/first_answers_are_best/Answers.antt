@@ -1,6 +1,0 @@
-use Rattle.rv_core.specs.Table.{table_of}
-use Rattle.path_fact_optimum.proofs.FirstLemmas.{all_best}
-use Rattle.path_fact_optimum.proofs.laws.first_answers_are_best.Goals as goal
-
-pub returns : goal.returns
-returns c = all_best (table_of c.args.costs.now) c.args.system.now c.args.shapes.now c.args.spans.now

@@ -1,6 +1,0 @@
-use Rattle.rv_core.specs.Table.{table_of}
-use Rattle.path_fact_optimum.proofs.SolvedLemmas.{all_greatest}
-use Rattle.path_fact_optimum.proofs.laws.solved_are_greatest.Goals as goal
-
-pub returns : goal.returns
-returns c = all_greatest (table_of c.args.costs.now) c.args.system.now c.args.shapes.now c.args.spans.now

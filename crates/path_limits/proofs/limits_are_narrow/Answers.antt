@@ -1,5 +1,0 @@
-use Rattle.path_limits.proofs.NarrowLemmas.{narrow_limits}
-use Rattle.path_limits.proofs.limits_are_narrow.Goals as goal
-
-pub returns : goal.returns
-returns c = narrow_limits c.args.system.now.claims

@@ -1,3 +1,0 @@
-pub mod Loosened
-pub mod LooseDriver
-pub mod Laws

@@ -1,5 +1,0 @@
-use Rattle.path_opens.proofs.SystemOpens.{all_open}
-use Rattle.path_opens.proofs.functions_are_open.Goals as goal
-
-pub returns : goal.returns
-returns c = all_open c.args.system.now c.args.shapes.now c.args.spans.now

@@ -1,4 +1,0 @@
-pub mod Multiples
-pub mod NarrowLemmas
-pub mod SideLemmas
-pub mod StepLemmas

@@ -1,3 +1,0 @@
-pub mod Limits
-pub mod Multiplied
-pub mod Weighted

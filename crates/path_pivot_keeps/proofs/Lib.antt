@@ -1,3 +1,0 @@
-pub mod QuotientLemmas
-pub mod PivotLemmas
-pub mod TableLemmas

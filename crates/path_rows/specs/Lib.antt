@@ -1,2 +1,0 @@
-pub mod Driver
-pub mod Laws

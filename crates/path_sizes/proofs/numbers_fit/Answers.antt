@@ -1,5 +1,0 @@
-use Rattle.path_sizes.proofs.SystemSizes.{all_fit}
-use Rattle.path_sizes.proofs.numbers_fit.Goals as goal
-
-pub returns : goal.returns
-returns c = all_fit c.args.system.now c.args.shapes.now c.args.spans.now

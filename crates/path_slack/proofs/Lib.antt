@@ -1,2 +1,0 @@
-pub mod FunctionLemmas
-pub mod MoveLemmas

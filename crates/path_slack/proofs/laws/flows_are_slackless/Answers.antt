@@ -1,5 +1,0 @@
-use Rattle.path_slack.proofs.MoveLemmas.{all_slackless}
-use Rattle.path_slack.proofs.laws.flows_are_slackless.Goals as goal
-
-pub returns : goal.returns
-returns c q least is = all_slackless _ _ _ c.requires q least is

@@ -1,5 +1,0 @@
-use Rattle.plan_elements.proofs.Programs.{plan_some}
-use Rattle.plan_elements.proofs.laws.plans_have_elements.Goals as goal
-
-pub returns : goal.returns
-returns c = λ names program facts h. plan_some names program facts h

@@ -1,4 +1,0 @@
-pub mod Cells
-pub mod Meets
-pub mod Fits
-pub mod Claims

@@ -1,4 +1,0 @@
-pub mod Free
-pub mod Ids
-pub mod Statements
-pub mod Programs

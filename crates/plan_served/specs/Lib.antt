@@ -1,0 +1,4 @@
+pub mod Seen
+pub mod Places
+pub mod Layouts
+pub mod Rows

@@ -1,6 +1,0 @@
-use Rattle.std.proofs.Common.{◌≡◌, map, drop}
-use Rattle.report_scanner.specs.Shapes.{fit}
-use Rattle.report_scanner.proofs.shapes.fit.Given as goal
-
-abbrev pub invariant-loop-i : goal.invariant-loop-i
-invariant-loop-i l = fit (drop l.i l.shapes) (map (λ w. w.now) (drop l.i l.words)) ≡ fit l.shapes (map (λ w. w.now) l.words)

@@ -1,5 +1,0 @@
-pub mod Numbers
-pub mod Splitting
-pub mod Scanning
-pub mod Shapes
-pub mod Testing
