@@ -1,5 +1,6 @@
 // Which machine registers are good for a register, and how much it is used. Nothing is proved of it: any choice is right.
 use super::order::Lasting;
+use super::results::in_result;
 use super::scan::place_at;
 use low_ir::instruction::{Base, End, Instr, Operand};
 use low_ir::{Block, Function, Loop, Place, Placing};
@@ -46,6 +47,8 @@ pub struct Tastes {
     calls: Vec<u32>,
     /// The machine registers that calls may change.
     changed: u32,
+    /// Whether it is best in the result register.
+    results: Vec<bool>,
 }
 
 fn bit(machine: u8) -> u32 {
@@ -112,6 +115,16 @@ fn depths(alloc: Global, loops: &[Loop], blocks: usize) -> Result<Vec<u32>, Memo
         depth = depth.wrapping_sub(number_at(&closed, block));
     }
     Ok(depths)
+}
+
+/// By block, how much a use counts there.
+pub fn worths(alloc: Global, function: &Function) -> Result<Vec<u64>, Memory> {
+    let depths = depths(alloc, &function.loops, function.blocks.len())?;
+    let mut worths = Vec::new(alloc);
+    for depth in &depths {
+        worths.push(worth_at(*depth))?;
+    }
+    Ok(worths)
 }
 
 /// By register, its interval.
@@ -335,6 +348,7 @@ impl Tastes {
             passed: vec![in alloc; false; registers]?,
             calls: vec![in alloc; 0u32; 1]?,
             changed: known.changed_by(&function.blocks),
+            results: Vec::new(alloc),
         };
         for register in &function.parameters {
             tastes.pass_in(*register);
@@ -343,7 +357,23 @@ impl Tastes {
         for (number, block) in function.blocks.iter().enumerate() {
             tastes.read_block(known, block, worth_at(number_at(&depths, number)))?;
         }
+        let results = in_result(alloc, function, order, &tastes)?;
+        tastes.results = results;
         Ok(tastes)
+    }
+
+    /// No machine register is better for it than others.
+    pub fn is_plain(&self, register: u32) -> bool {
+        number_at(&self.wished, register as usize) == 0
+            && number_or_none(&self.sources, register) == NO_REGISTER
+            && number_or_none(&self.copies, register) == NO_REGISTER
+    }
+
+    pub fn likes_result(&self, register: u32) -> bool {
+        match self.results.get(register as usize) {
+            None => false,
+            Some(likes) => *likes,
+        }
     }
 
     fn uses(&self, register: u32) -> u64 {
