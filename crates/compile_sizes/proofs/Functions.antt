@@ -113,7 +113,7 @@ module _ (p : high.Program) (q : Low) (keeps : KeepsProgram p q) where
       omega (arith, all, less, ones)
 
   frames : (a : Assignment) (k : ℕ) (fns : List (Function ℕ Note)) → ((i : ℕ) (fn : Function ℕ Note) → slice_get fns i ≡ Some fn → ComesFrom p q fn) → ((i : ℕ) (fn : Function ℕ Note) → slice_get fns i ≡ Some fn → a.slots (k + i) ≤ fn.size) →
-      frames_room (place_functions a k fns) ≤ 228 * length fns + total_at (map measure p.functions) (map origin fns)
+      frames_room (place_functions a k fns) ≤ 1220 * length fns + total_at (map measure p.functions) (map origin fns)
   frames a k [] come few = omega arith
   frames a k (fn ∷ rest) come few =
       let from = come 0 fn refl in
@@ -130,7 +130,7 @@ module _ (p : high.Program) (q : Low) (keeps : KeepsProgram p q) where
       next k i = omega arith
 
   pub frames_few : (a : Assignment) → ((i : ℕ) (fn : Function ℕ Note) → slice_get q.functions i ≡ Some fn → a.slots i ≤ fn.size) →
-      frames_room (place_functions a 0 q.functions) ≤ 228 * length q.functions + sum_by frame_bytes p.functions + 8 * sum_by (λ (f : high.Function). operations f.body + 1) p.functions
+      frames_room (place_functions a 0 q.functions) ≤ 1220 * length q.functions + sum_by frame_bytes p.functions + 8 * sum_by (λ (f : high.Function). operations f.body + 1) p.functions
   frames_few a few =
       let all = frames a 0 q.functions keeps.functions (λ i fn e. subst (λ n. a.slots n ≤ fn.size) (first i) (few i fn e)) in
       let less = distinct_less (map measure p.functions) (map origin q.functions) distinct in

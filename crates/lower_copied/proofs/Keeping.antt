@@ -1,5 +1,5 @@
 -- A low program without its copies keeps what it kept.
-use Rattle.std.proofs.Common.{◌≡◌, ◌+◌, ℕ, List, [], ◌∷◌, ◌++◌, length, map, Option, Some, None, refl, sym, ap, ◌∙◌, subst, ⊎_elim, inl, inr, arith}
+use Rattle.std.proofs.Common.{◌≡◌, ◌≤◌, ◌+◌, ℕ, List, [], ◌∷◌, ◌++◌, length, map, Option, Some, None, refl, sym, ap, ◌∙◌, subst, ⊎_elim, inl, inr, arith}
 use Rattle.std.specs.Prelude.{All, option_to_list, slice_get, slice_index_or, sum_by, true}
 use Rattle.std.specs.List.{AllZip, flat_map}
 use Rattle.std.proofs.lemmas.List.Elements.{All-cons, All-head, All-nil}
@@ -15,7 +15,7 @@ use Rattle.low_ir.specs.Turns.{mark_at, marks_passed}
 use Rattle.low_ir.proofs.InSlots.{slots_assigned}
 use Rattle.low_places.proofs.Follow.{carried}
 use Rattle.low_places.proofs.Ways.{all_safe}
-use Rattle.low_copied.specs.Copies.{FunctionCopied, IsCopied, KeepsBase, KeepsBases, MayBeCopied}
+use Rattle.low_copied.specs.Copies.{FunctionCopied, Grows, IsCopied, free_registers, KeepsBase, KeepsBases, MayBeCopied}
 use Rattle.low_copied.specs.Renaming.{renamed_address, renamed_base, renamed_instr}
 use Rattle.low_copied.proofs.Blocks.{SomeCopied, copied_blocks}
 use Rattle.low_copied.proofs.Costs.{costs}
@@ -24,7 +24,7 @@ use Rattle.low_copied.proofs.Lists.{as_long, before}
 use Rattle.low_copied.proofs.Serving.{served}
 use Rattle.lower_budget.specs.Costs.{bounded, marks_at, marks_in}
 use Rattle.lower_law.specs.Arrays.{IsAccess, IsOfOne, IsOfParameter, local_array_bytes}
-use Rattle.lower_law.specs.Functions.{AccessesOf, ComesFrom}
+use Rattle.lower_law.specs.Functions.{AccessesOf, ComesFrom, registers_of, spare_registers}
 use Rattle.lower_law.specs.Programs.{KeepsProgram}
 use Rattle.lower_origins.specs.Passing.{IsPassed}
 use Rattle.lower_program.specs.Kept.{IsKept}
@@ -49,7 +49,11 @@ blocks_same R mark (b ∷ bs) (c ∷ cs) h =
     ∙ sym (sum_by-cons marks_at b bs)
 
 marks_same : (fn gn : Function ℕ Note) → FunctionCopied fn gn → sum_by marks_at gn.blocks ≡ sum_by marks_at fn.blocks
-marks_same fn gn h = blocks_same (SomeCopied fn.size h.out) (λ b c r. r.copied.mark) fn.blocks gn.blocks (copied_blocks fn gn h)
+marks_same fn gn h = blocks_same (SomeCopied gn.size h.out) (λ b c r. r.copied.mark) fn.blocks gn.blocks (copied_blocks fn gn h)
+
+-- a function that grew has no more registers than it may have
+grown_below : (size grown own : ℕ) → Grows size grown → size ≤ own + spare_registers → grown ≤ own + spare_registers
+grown_below size grown own grows le = ⊎_elim (λ (no : grown ≤ size). omega arith) (λ (free : grown ≤ free_registers). omega arith) grows.most
 
 module _ (p : high.Program) (q r : Low) (copied : IsCopied q r) where
   passed_same : (trace : List Began) → marks_passed r trace ≡ marks_passed q trace
@@ -105,7 +109,7 @@ module _ (p : high.Program) (q r : Low) (copied : IsCopied q r) where
     access_kept name into (Call d g args note) keeps all = none_there
 
     accesses_kept : All (AccessesOf p q f h) fn.blocks → All (AccessesOf p r f h) gn.blocks
-    accesses_kept all = blocks_keep Old New access_kept fn.size same.out fn.blocks gn.blocks (copied_blocks fn gn same) all
+    accesses_kept all = blocks_keep Old New access_kept gn.size same.out fn.blocks gn.blocks (copied_blocks fn gn same) all
 
   comes : (fn gn : Function ℕ Note) → FunctionCopied fn gn → ComesFrom p q fn → ComesFrom p r gn
   comes fn gn same k =
@@ -116,7 +120,7 @@ module _ (p : high.Program) (q r : Low) (copied : IsCopied q r) where
         reached = k.reached;
         opens = opening_same fn gn same ∙ k.opens;
         loops = ap (map bounded) same.loops ∙ k.loops;
-        registers = let a = same.size in let b = k.registers in omega arith;
+        registers = grown_below fn.size gn.size (registers_of k.function) same.size k.registers;
         marks = let a = marks_same fn gn same in let b = k.marks in omega arith;
         accesses = accesses_kept k.number k.function fn gn same k.accesses;
       }

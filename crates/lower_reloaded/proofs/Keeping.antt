@@ -15,7 +15,8 @@ use Rattle.low_ir.specs.Turns.{mark_at, marks_passed}
 use Rattle.low_ir.proofs.InSlots.{slots_assigned}
 use Rattle.low_places.proofs.Follow.{carried}
 use Rattle.low_places.proofs.Ways.{all_safe}
-use Rattle.low_reloaded.specs.Reloads.{BlockReloaded, FunctionReloaded, IsReloaded}
+use Rattle.low_reloaded.specs.Reloads.{FunctionReloaded, IsReloaded, MayBeReloaded}
+use Rattle.low_reloaded.proofs.Blocks.{SomeReloaded, reloaded_blocks}
 use Rattle.low_reloaded.proofs.Costs.{costs}
 use Rattle.low_reloaded.proofs.Formed.{blocks_keep, formed, mark_same, opening_same}
 use Rattle.low_reloaded.proofs.Lists.{as_long, before}
@@ -36,7 +37,7 @@ sums_same R f g same (x ∷ xs) (y ∷ ys) h =
     sum_by-cons g y ys ∙ ap (λ n. n + sum_by g ys) (same x y h.0) ∙ ap (λ n. f x + n) (sums_same R f g same xs ys h.1) ∙ sym (sum_by-cons f x xs)
 
 marks_same : (claims : List (List ℕ)) (fn gn : Function ℕ Note) → FunctionReloaded claims fn gn → sum_by marks_at gn.blocks ≡ sum_by marks_at fn.blocks
-marks_same claims fn gn h = sums_same (BlockReloaded claims) marks_at marks_at (λ b c r. ap marks_in r.mark) fn.blocks gn.blocks h.blocks
+marks_same claims fn gn h = sums_same (SomeReloaded claims h.out) marks_at marks_at (λ b c r. ap marks_in r.reloaded.mark) fn.blocks gn.blocks (reloaded_blocks claims fn gn h)
 
 module _ (p : high.Program) (q r : Low) (reloaded : IsReloaded q r) where
   passed_same : (trace : List Began) → marks_passed r trace ≡ marks_passed q trace
@@ -71,7 +72,7 @@ module _ (p : high.Program) (q r : Low) (reloaded : IsReloaded q r) where
     accesses_kept : All (AccessesOf p q f h) fn.blocks → All (AccessesOf p r f h) gn.blocks
     accesses_kept all =
         blocks_keep (λ i. All (λ (a : Address ℕ). IsAccess p q f h a.base) (addresses i)) (λ i. All (λ (a : Address ℕ). IsAccess p r f h a.base) (addresses i))
-        (λ i. all_kept (addresses i)) (λ kind d x a k. All-nil (λ (a : Address ℕ). IsAccess p r f h a.base)) q.claims fn.blocks gn.blocks same.blocks all
+        (λ i. all_kept (addresses i)) (λ d x. All-nil (λ (a : Address ℕ). IsAccess p r f h a.base)) q.claims same.out fn.blocks gn.blocks (reloaded_blocks q.claims fn gn same) all
 
   comes : (fn gn : Function ℕ Note) → FunctionReloaded q.claims fn gn → ComesFrom p q fn → ComesFrom p r gn
   comes fn gn same k =
@@ -109,5 +110,6 @@ module _ (p : high.Program) (q r : Low) (reloaded : IsReloaded q r) where
         reach = λ mark. let a = less.reach mark in let b = k.reach mark in omega arith;
       }
 
-pub keeps : (p : high.Program) (q r : Low) → KeepsProgram p q → IsReloaded q r → KeepsProgram p r
-keeps p q r k reloaded = reloaded_keeps p q r reloaded k
+pub keeps : (p : high.Program) (q r : Low) → KeepsProgram p q → MayBeReloaded q r → KeepsProgram p r
+keeps p q r k reloaded =
+    ⊎_elim (λ (same : r ≡ q). subst (KeepsProgram p) (sym same) k) (λ (c : IsReloaded q r). reloaded_keeps p q r c k) reloaded

@@ -16,7 +16,7 @@ use Rattle.low_ir.specs.declared.places.Place.TheVariants.{Register as InRegiste
 use Rattle.low_ir.specs.declared.run.Value.{Value}
 use Rattle.low_ir.specs.Code.{Operand, Register, Constant}
 use Rattle.low_ir.specs.Runs.{operand_value}
-use Rattle.low_ir.specs.Places.{File, read_place, with_registers, places}
+use Rattle.low_ir.specs.Places.{File, read_place, with_registers, places, result_register}
 use Rattle.asm_program.specs.Numbers.{base, second_base, first_free, second_free, machine_register}
 use Rattle.asm_program.specs.Frames.{slot_at}
 use Rattle.asm_program.specs.Operands.{operand_register, operand_code, store_code}
@@ -68,7 +68,7 @@ reads-rest q (Register (InRegister r)) xs e = by_test (q == r) e
 
 module _ (g : Given) where
   -- the caller's other values still stand where they were, once a register has an argument
-  pub ready_unset : (k : Course) (n m f q v : ℕ) (t : File) (xs : List Noted) → q < 24 → Ready g f t n → Wrote g k n m (machine_register q) v xs → Ready g f (unset t q) m
+  pub ready_unset : (k : Course) (n m f q v : ℕ) (t : File) (xs : List Noted) → q ≤ result_register → Ready g f t n → Wrote g k n m (machine_register q) v xs → Ready g f (unset t q) m
   ready_unset k n m f q v t xs less r w =
       let long = r.room.registers in
       record {

@@ -23,7 +23,7 @@ use Rattle.simulation_relation.specs.Positions.{Course}
 use Rattle.simulation_relation.specs.Views.{view_of}
 use Rattle.simulation_relation.specs.Waiting.{IsLinked}
 use Rattle.simulation_steps.proofs.Given.{Given, state, reg, read, At}
-use Rattle.simulation_steps.proofs.Places.{value_is, steady_is, IsFrameWord, frame_word}
+use Rattle.simulation_steps.proofs.Places.{value_is, steady_is, IsFrameWord, frame_word, lasts}
 use Rattle.simulation_steps.proofs.Moving.{load_one, store_any}
 use Rattle.simulation_steps.proofs.Operands.{frame, in_parts}
 use Rattle.simulation_entries.proofs.Saved.{Reached, frame_runs, Saved, saves_run, loads_run}
@@ -93,8 +93,8 @@ module _ (g : Given) where
       let still : IsLinked leaf fr (view_of (state g m)) to = kept leaf m a.world (a.registers link (λ e. omega (arith, e))) linked in
       link_runs k P m f to near leaf (singles (loads near fr fr.saved) ++ last) there a.reached still (in_parts g k m (link_load near fr leaf) (loads near fr fr.saved) last a.at)
       (λ j b.
-      loads_run g k P j f near fr.saved last there (λ x low less. ap (λ y. displaced y (frame_offset near fr x)) (b.others (frame_register near) (frame_apart_link near)) ∙ a.reached x low less) (λ q e. (e, placed.saved q e)) b.at
-      (λ i c. return_lays g k P i to returns [] c.at places (c.others link (λ q e z. (value_is q (placed.saved q e)).link_not (sym z)) ∙ b.value) small even
+      loads_run g k P j f near fr.saved last there (λ x low less. ap (λ y. displaced y (frame_offset near fr x)) (b.others (frame_register near) (frame_apart_link near)) ∙ a.reached x low less) (λ q e. (e, lasts q (placed.saved q e))) b.at
+      (λ i c. return_lays g k P i to returns [] c.at places (c.others link (λ q e z. (value_is q (lasts q (placed.saved q e))).link_not (sym z)) ∙ b.value) small even
       (λ t z. go t
       (record {
         stood = z.stood;

@@ -24,6 +24,7 @@ use Rattle.simulation_steps.proofs.Moving.{frames_are, load, store}
 use Rattle.simulation_steps.proofs.Operands.{frame, in_parts}
 use Rattle.simulation_follow.proofs.Apart.{position-below}
 use Rattle.simulation_follow.proofs.Holding.{strict}
+use Rattle.low_ir.specs.Places.{result_register}
 
 is_same : (a b : ℕ) → (a == b) ≡ true → a ≡ b
 is_same a b e = grind (arith, nat_tests)
@@ -138,7 +139,7 @@ module _ (g : Given) where
     pub loads : (q w : ℕ) → read g n Whole (home_at (frame g f) q) ≡ Some w → (is_member qs q ≡ true) ⊎ (reg g n (machine_register q) ≡ w) → reg g m (machine_register q) ≡ w
     pub others : (r : ℕ) → ((q : ℕ) → is_member qs q ≡ true → r ≢ machine_register q) → reg g m r ≡ reg g n r
 
-  pub unhomes_run : (k : Course) (P : ℕ → Type 0) (n f : ℕ) (qs : List ℕ) (xs : List Noted) → f < length g.layout.program.functions → reg g n base ≡ base_address → ((q : ℕ) → is_member qs q ≡ true → (is_member (frame g f).homes q ≡ true) × (q < 24))
+  pub unhomes_run : (k : Course) (P : ℕ → Type 0) (n f : ℕ) (qs : List ℕ) (xs : List Noted) → f < length g.layout.program.functions → reg g n base ≡ base_address → ((q : ℕ) → is_member qs q ≡ true → (is_member (frame g f).homes q ≡ true) × (q ≤ result_register))
       → At g k n (singles (return_code (frame g f) qs) ++ xs) → ((m : ℕ) → Unhomed k n m f qs xs → Later P m) → Later P n
   unhomes_run k P n f [] xs there based inside h go =
       go n (record { at = h; world = refl; loads = λ q w e z. ⊎_elim (λ (a : is_member [] q ≡ true). absurd cc) (λ (b : reg g n (machine_register q) ≡ w). b) z; others = λ r o. refl })

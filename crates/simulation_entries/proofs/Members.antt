@@ -1,5 +1,5 @@
 -- Registers of parameters, and who calls.
-use Rattle.std.proofs.Common.{◌≡◌, ◌≢◌, ⊎_elim, ℕ, zero, suc, ◌+◌, ◌<◌, ◌≤◌, Bool, true, false, List, [], ◌∷◌, ◌++◌, length, Contains, Option, Some, sym, ap, ◌∙◌, subst, arith, length-append}
+use Rattle.std.proofs.Common.{◌≡◌, ◌≢◌, ⊎_elim, ℕ, zero, suc, ◌+◌, ◌<◌, ◌≤◌, Bool, true, false, List, [], ◌∷◌, ◌++◌, length, Contains, Option, Some, sym, ap, ◌∙◌, subst, arith, length-append, refl}
 use Rattle.std.specs.Prelude.{◌==◌, if◌then◌else◌, slice_get}
 use Rattle.std.proofs.lemmas.Bool.Decides.{nat_tests}
 use Rattle.low_ir.specs.declared.places.Place.{Place}
@@ -12,6 +12,7 @@ use Rattle.asm_program.specs.Functions.{PlacedBlock, callees_in, all_callees}
 use Rattle.simulation_steps.proofs.Places.{value_is, lt_or}
 use Rattle.simulation_follow.proofs.Holding.{got_contains}
 use Rattle.simulation_entries.proofs.Homes.{member_head, member_tail, member_cases}
+use Rattle.low_ir.specs.Places.{result_register}
 
 -- registers of parameters, and those of them that a call keeps
 pub kept_member : (ps : List Place) (note : List ℕ) (q : ℕ) → is_member (registers_among ps) q ≡ true → is_member note q ≡ true → is_member (kept_among ps note) q ≡ true
@@ -39,6 +40,16 @@ kept_parameter (InRegister r ∷ ps) note q m = by_note (is_member note r) m (λ
     by_note : (b : Bool) → is_member (if b then (r ∷ kept_among ps note) else kept_among ps note) q ≡ true → (is_member (kept_among ps note) q ≡ true → is_member (registers_among ps) q ≡ true) → is_member (r ∷ registers_among ps) q ≡ true
     by_note true h go = ⊎_elim (λ (same : r ≡ q). subst (λ x. is_member (r ∷ registers_among ps) x ≡ true) same (member_head r (registers_among ps))) (λ (rest : is_member (kept_among ps note) q ≡ true). member_tail r q (registers_among ps) (go rest)) (member_cases r q (kept_among ps note) h)
     by_note false h go = member_tail r q (registers_among ps) (go h)
+
+-- what a call keeps of its parameters' registers is in its note
+pub kept_noted : (ps : List Place) (note : List ℕ) (q : ℕ) → is_member (kept_among ps note) q ≡ true → is_member note q ≡ true
+kept_noted [] note q m = absurd cc
+kept_noted (Slot j ∷ ps) note q m = kept_noted ps note q m
+kept_noted (InRegister r ∷ ps) note q m = by_note (is_member note r) refl m (λ h. kept_noted ps note q h)
+  where
+    by_note : (b : Bool) → is_member note r ≡ b → is_member (if b then (r ∷ kept_among ps note) else kept_among ps note) q ≡ true → (is_member (kept_among ps note) q ≡ true → is_member note q ≡ true) → is_member note q ≡ true
+    by_note true is h go = ⊎_elim (λ (same : r ≡ q). subst (λ x. is_member note x ≡ true) same is) go (member_cases r q (kept_among ps note) h)
+    by_note false is h go = go h
 
 -- registers among places are among more of them
 pub among_append : (ps qs : List Place) (q : ℕ) → Contains (registers_among qs) q → Contains (registers_among (ps ++ qs)) q
@@ -68,6 +79,6 @@ calls_some bs n b d c args note e h = zero_test (length (all_callees bs)) (in_al
 pub link_apart : (q : ℕ) → machine_register q ≢ link
 link_apart q e =
     ⊎_elim
-    (λ (less : q < 24). (value_is q less).link_not e)
-    (λ (more : 24 ≤ q). let far : machine_register q ≡ q + 8 = grind (arith, nat_tests) in omega (arith, e))
-    (lt_or q 24)
+    (λ (less : q < suc result_register). (value_is q (omega (arith, less))).link_not e)
+    (λ (more : suc result_register ≤ q). let far : machine_register q ≡ q + 8 = grind (arith, nat_tests) in omega (arith, e))
+    (lt_or q (suc result_register))

@@ -26,6 +26,7 @@ use Rattle.simulation_steps.proofs.Operands.{frame}
 use Rattle.simulation_follow.proofs.Apart.{position-below}
 use Rattle.simulation_follow.proofs.Holding.{strict}
 use Rattle.simulation_entries.proofs.Homes.{member_head, member_tail, member_cases, position-same}
+use Rattle.low_ir.specs.Places.{result_register}
 
 -- an offset from the frame's own address
 offset-joined : (at a : ℕ) → at ≤ a → a < 2 ^ 32 → displaced at (pos (a - at)) ≡ a
@@ -140,11 +141,11 @@ module _ (g : Given) where
     pub loads : (q w : ℕ) → read g n Whole (saved_at (frame g f) q) ≡ Some w → (is_member qs q ≡ true) ⊎ (reg g n (machine_register q) ≡ w) → reg g m (machine_register q) ≡ w
     pub others : (r : ℕ) → ((q : ℕ) → is_member qs q ≡ true → r ≢ machine_register q) → reg g m r ≡ reg g n r
 
-  free_frame : (near : Bool) (q : ℕ) → q < 24 → frame_register near ≢ machine_register q
+  free_frame : (near : Bool) (q : ℕ) → q ≤ result_register → frame_register near ≢ machine_register q
   free_frame true q less = λ e. (value_is q less).base_not (sym e)
   free_frame false q less = λ e. (steady_is q).five (sym e)
 
-  pub loads_run : (k : Course) (P : ℕ → Type 0) (n f : ℕ) (near : Bool) (qs : List ℕ) (xs : List Noted) → f < length g.layout.program.functions → Reached n f near → ((q : ℕ) → is_member qs q ≡ true → (is_member (frame g f).saved q ≡ true) × (q < 24))
+  pub loads_run : (k : Course) (P : ℕ → Type 0) (n f : ℕ) (near : Bool) (qs : List ℕ) (xs : List Noted) → f < length g.layout.program.functions → Reached n f near → ((q : ℕ) → is_member qs q ≡ true → (is_member (frame g f).saved q ≡ true) × (q ≤ result_register))
       → At g k n (singles (loads near (frame g f) qs) ++ xs) → ((m : ℕ) → Loaded k n m f qs xs → Later P m) → Later P n
   loads_run k P n f near [] xs there reached inside h go =
       go n (record { at = h; world = refl; loads = λ q w e z. ⊎_elim (λ (a : is_member [] q ≡ true). absurd cc) (λ (b : reg g n (machine_register q) ≡ w). b) z; others = λ r o. refl })

@@ -21,7 +21,7 @@ use Rattle.low_ir.specs.Kinds.{width_of, has_sign, kind_bytes, converted}
 use Rattle.low_ir.specs.Code.{Operand, Address, Point, Load, Store, Put, Instr, Do, Object}
 use Rattle.low_ir.specs.Effects.{World, Contents, Did, address_reads, there, with_one, word, gives, changes, put, with_objects, resolved, loaded, can_store, stored}
 use Rattle.low_ir.specs.Runs.{operand_value, values_cons, values, goes_on, finish}
-use Rattle.low_ir.specs.Places.{write_place, places}
+use Rattle.low_ir.specs.Places.{read_place, unset_if, write_place, places}
 use Rattle.asm_program.specs.Numbers.{base, second_base, machine_register}
 use Rattle.asm_program.specs.Frames.{Memory, object_at}
 use Rattle.claims_accesses.specs.Touches.{OfArrays, named}
@@ -35,28 +35,30 @@ use Rattle.simulation_relation.specs.Waiting.{IsIn, IsLinked}
 use Rattle.simulation_relation.specs.Following.{PlacedRunning, Holds}
 use Rattle.simulation_steps.proofs.Given.{Given, state, reg, read, At}
 use Rattle.simulation_steps.proofs.Touching.{region_of-part}
-use Rattle.simulation_steps.proofs.Places.{IsSteady, steady_is, open-part, within}
+use Rattle.simulation_steps.proofs.Places.{IsSteady, steady_is, lasting_apart, open-part, within}
+use Rattle.simulation_steps.proofs.Unsetting.{Spared, place_spared, unset_read}
 use Rattle.simulation_steps.proofs.Operands.{frame, code, Gave}
 use Rattle.simulation_steps.proofs.Plain.{put_lays}
 use Rattle.simulation_steps.proofs.Accesses.{IsBase, IsOffset, Kept, point_lays, load_lays, store_lays}
 use Rattle.simulation_follow.proofs.Apart.{SameObject, SameWords, SameHead, head_of_words, saved_kept, return_kept, slot_kept, waits_kept, arrays_kept, array_kept, element_within}
-use Rattle.simulation_follow.proofs.Holding.{in_rest}
+use Rattle.simulation_follow.proofs.Holding.{forgets, forgotten, in_rest}
 use Rattle.simulation_follow.proofs.Elements.{offset_is, aligned_sum, elements_apart, converted-as, converted-small, converted-low, converted-again, region-small, width-some, is_resolved, IsElement, is_loaded, is_stored}
 use Rattle.simulation_follow.proofs.Plains.{Runs, Going_at, ready_of, body, course_in, outcome, give, code_at}
 
 module _ (g : Given) where
   -- what a run shows, behind an instruction that gave no place a value
-  pub holds_led : (r : PlacedRunning) (n m : ℕ) (is : List (Instr Place (List ℕ))) (u : World) (returns : List ℕ) → r.top.func < length g.layout.program.functions → ((q : ℕ) → IsSteady q → reg g m q ≡ reg g n q)
+  pub holds_led : (called : Bool) (r : PlacedRunning) (n m : ℕ) (is : List (Instr Place (List ℕ))) (u : World) (returns : List ℕ) → r.top.func < length g.layout.program.functions → ((q : ℕ) → IsSteady q → Spared called q → reg g m q ≡ reg g n q)
+      → ((q : ℕ) (y : Value) → read_place r.top.store (InRegister q) ≡ Some y → Spared called (machine_register q))
       → ((h : ℕ) → h < length g.layout.program.functions → SameWords g.layout h (view_of (state g n)) (view_of (state g m))) → HasArrays g.layout.memory g.layout.program.objects u.objects (view_of (state g m))
       → Holds g.layout r (view_of (state g n)) returns → Holds g.layout (record r { top = record r.top { code = is }; world = u }) (view_of (state g m)) returns
-  holds_led r n m is u returns inside registers words arrays h =
+  holds_led called r n m is u returns inside registers spared words arrays h =
       let f = r.top.func in
       let v = view_of (state g n) in
       let v2 = view_of (state g m) in
       let head = head_of_words g.layout f v v2 (words f inside) in
       record {
-        based = registers base (record { five = λ z. omega (arith, z); six = λ z. omega (arith, z); ten = λ z. omega (arith, z); seventeen = λ z. omega (arith, z) }) ∙ h.based;
-        second = registers second_base (record { five = λ z. omega (arith, z); six = λ z. omega (arith, z); ten = λ z. omega (arith, z); seventeen = λ z. omega (arith, z) }) ∙ h.second;
+        based = registers base (record { five = λ z. omega (arith, z); six = λ z. omega (arith, z); seventeen = λ z. omega (arith, z) }) (λ s z. omega (arith, z)) ∙ h.based;
+        second = registers second_base (record { five = λ z. omega (arith, z); six = λ z. omega (arith, z); seventeen = λ z. omega (arith, z) }) (λ s z. omega (arith, z)) ∙ h.second;
         room = h.room;
         shows = shows;
         arrays = arrays;
@@ -65,20 +67,20 @@ module _ (g : Given) where
         keeps =
             record {
               saved = λ q saved word. saved_kept g.layout f v v2 head q saved ∙ h.keeps.saved q saved word;
-              other = λ q need unsaved word. registers (machine_register q) (steady_is q) ∙ h.keeps.other q need unsaved word;
+              other = λ q need unsaved word. registers (machine_register q) (steady_is q) (λ s. lasting_apart q (g.laid.plan.lasting f q inside need)) ∙ h.keeps.other q need unsaved word;
             };
         waits = waits_kept g.layout r.below f v v2 h.after returns (λ x more below. words x below) h.waits;
       }
     where
       shows : Shows g.layout.memory (frame g r.top.func) r.top.store (view_of (state g m))
-      shows (InRegister q) x e = registers (machine_register q) (steady_is q) ∙ h.shows (InRegister q) x e
+      shows (InRegister q) x e = registers (machine_register q) (steady_is q) (spared q x e) ∙ h.shows (InRegister q) x e
       shows (Slot j) x e =
           let less = within r.top.store.slots j x e in
           let few = h.room.slots in
           slot_kept g.layout r.top.func j (view_of (state g n)) (view_of (state g m)) (words r.top.func inside) (omega arith) ∙ h.shows (Slot j) x e
 
       linked : (leaf : Bool) (at : ℕ) → SameHead g.layout r.top.func (view_of (state g n)) (view_of (state g m)) → IsLinked leaf (frame g r.top.func) (view_of (state g n)) at → IsLinked leaf (frame g r.top.func) (view_of (state g m)) at
-      linked true at head e = registers 1 (record { five = λ z. omega (arith, z); six = λ z. omega (arith, z); ten = λ z. omega (arith, z); seventeen = λ z. omega (arith, z) }) ∙ e
+      linked true at head e = registers 1 (record { five = λ z. omega (arith, z); six = λ z. omega (arith, z); seventeen = λ z. omega (arith, z) }) (λ s z. omega (arith, z)) ∙ e
       linked false at head e = return_kept g.layout r.top.func (view_of (state g n)) (view_of (state g m)) head ∙ e
 
   abbrev objects : List Object
@@ -89,12 +91,12 @@ module _ (g : Given) where
 
   -- a byte is written
   pub put_follows : (r : PlacedRunning) (n : ℕ) (is : List (Instr Place (List ℕ))) (x : Operand Place) (h : Going_at g r n) → r.top.code ≡ Do (Put x) ∷ is → (o : Option Value) → operand_value places r.top.store x ≡ o
-      → Later (Runs g (finish places r is None (there (values_cons o (Some [])) (λ xs. with_one xs (λ p. word p (λ w. changes (put r.world w))))))) n
-  put_follows r n is x h code_is None e = now (Runs g (finish places r is None None)) n tt
-  put_follows r n is x h code_is (Some (Pointer a b)) e = now (Runs g (finish places r is None None)) n tt
+      → Later (Runs g (finish places (forgotten g true r) is None (there (values_cons o (Some [])) (λ xs. with_one xs (λ p. word p (λ w. changes (put r.world w))))))) n
+  put_follows r n is x h code_is None e = now (Runs g (finish places (forgotten g true r) is None None)) n tt
+  put_follows r n is x h code_is (Some (Pointer a b)) e = now (Runs g (finish places (forgotten g true r) is None None)) n tt
   put_follows r n is x h code_is (Some (Word w)) e =
       let u = put r.world w in
-      let goal = Runs g (goes_on r is u (Some r.top.store)) in
+      let goal = Runs g (goes_on (forgotten g true r) is u (Some (unset_if true r.top.store))) in
       let inside = subst (λ c. IsIn g.layout.program r.top.func h.block c r.top.end) code_is h.inside in
       put_lays g (course_in g r r.world h.block h.returns) goal n r.top.func r.top.store (body g r h.block is) x w (ready_of g r n h) e (code_at g r n (Do (Put x)) is h code_is)
       (λ m a.
@@ -104,7 +106,8 @@ module _ (g : Given) where
         block = h.block;
         inside = in_rest g.layout.program r.top.func h.block (Do (Put x)) is r.top.end inside;
         returns = h.returns;
-        holds = holds_led r n m is u h.returns h.inside.there (λ q s. a.others q s.ten s.seventeen) (λ f below b from to. same Whole b) (arrays_kept g.layout r.world.objects (view_of (state g n)) (view_of (state g m)) (λ q y found z b from to. same z b) h.holds.arrays) h.holds;
+        holds = holds_led true (forgotten g true r) n m is u h.returns h.inside.there (λ q s spare. a.others q (spare refl) s.seventeen)
+            (λ q y z. place_spared true q (unset_read true r.top.store (InRegister q) y z).1) (λ f below b from to. same Whole b) (arrays_kept g.layout r.world.objects (view_of (state g n)) (view_of (state g m)) (λ q y found z b from to. same z b) h.holds.arrays) (forgets g true r n h.returns h.holds);
         exchanges =
             record {
               input = ap (λ (z : machine.World). z.input) a.world_is ∙ h.exchanges.input;
@@ -123,10 +126,10 @@ module _ (g : Given) where
       let k = (t.start + t.offset + a.displacement) % 2 ^ 32 in
       let is_did : record { world = r.world; value = Pointer t.object k } ≡ did = let z = t.goes in cc in
       subst (λ x. Later (Runs g (finish places r is (Some d) (Some x))) n) is_did
-      (give g r n (Point d a) is d (Pointer t.object k) r.world h code_is refl (omega arith) refl
+      (give g false r n (Point d a) is d (Pointer t.object k) r.world h code_is refl (omega arith) refl
       (λ P inside go. point_lays g (course_in g r r.world h.block h.returns) P n r.top.func t.object t.start t.offset a.displacement r.top.store (body g r h.block is) a.base a.offset d (ready_of g r n h) t.based t.moved inside (code_at g r n (Do (Point d a)) is h code_is)
       (λ m z. go m (outcome g r n m h.block h.returns is d (code g (Pointer t.object k)) h.exchanges z)))
-      (write_place r.top.store d (Pointer t.object k)) refl)
+      (λ q y z e s. cc) (write_place r.top.store d (Pointer t.object k)) refl)
 
   -- an element of an array, k bytes behind its first
   pub record Element (n q k w : ℕ) (kind : Kind) : Type 0 where
@@ -198,11 +201,11 @@ module _ (g : Given) where
           let value : extended (width_of kind) (has_sign kind) (w % 2 ^ (8 * kind_bytes kind)) ≡ w = converted-as kind w ∙ el.keeps in
           let small : w < 2 ^ 32 = subst (λ u. u < 2 ^ 32) el.keeps (converted-small kind w) in
           subst (λ u. Later (Runs g (finish places r is (Some d) (Some u))) n) same
-          (give g r n (Load kind d a) is d (Word w) r.world h code_is refl small refl
+          (give g false r n (Load kind d a) is d (Word w) r.world h code_is refl small refl
           (λ P inside go. load_lays g (course_in g r r.world h.block h.returns) P n r.top.func q b x a.displacement (object_at mem q + k) (w % 2 ^ (8 * kind_bytes kind)) r.top.store (body g r h.block is) (OfArrays (named g.layout.program a.base)) kind a.base a.offset d (ready_of g r n h) based moved inside
           el.lands el.aligned (q, has, el.region) el.found (subst (λ u. u < 2 ^ 32) (sym value) small) (code_at g r n (Do (Load kind d a)) is h code_is)
           (λ m y. go m (outcome g r n m h.block h.returns is d w h.exchanges (subst (λ u. Gave g (course_in g r r.world h.block h.returns) n m r.top.func d u (body g r h.block is)) value y))))
-          (write_place r.top.store d (Word w)) refl)
+          (λ q y z e s. cc) (write_place r.top.store d (Word w)) refl)
 
   -- an array behind a store to one of its elements
   array_stored : (k : Course) (n m q b v : ℕ) (c : Contents) (x : Object) (xs : List Noted) → IsArray mem q x c (view_of (state g n)) → b % kind_bytes c.kind ≡ 0 → b / kind_bytes c.kind < length c.elements
@@ -324,7 +327,7 @@ module _ (g : Given) where
             block = h.block;
             inside = in_rest g.layout.program r.top.func h.block (Do (Store kind a x)) is r.top.end inside;
             returns = h.returns;
-            holds = holds_led r n m is u h.returns h.inside.there w.registers (words_stored place n m q k v c.kind found.0 (body g r h.block is) found.1 l.inside w) (arrays_stored place n m q k v r.world.objects c (body g r h.block is) h.holds.arrays there_is even less w) h.holds;
+            holds = holds_led false r n m is u h.returns h.inside.there (λ q s spare. w.registers q s) (λ q y z e s. cc) (words_stored place n m q k v c.kind found.0 (body g r h.block is) found.1 l.inside w) (arrays_stored place n m q k v r.world.objects c (body g r h.block is) h.holds.arrays there_is even less w) h.holds;
             exchanges = record { input = w.input ∙ h.exchanges.input; bytes = h.exchanges.bytes; output = w.output ∙ h.exchanges.output };
             at = w.at;
           }))

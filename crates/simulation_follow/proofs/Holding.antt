@@ -16,7 +16,7 @@ use Rattle.low_ir.specs.declared.run.Value.{Value}
 use Rattle.low_ir.specs.Code.{Instr, End, Object}
 use Rattle.low_ir.specs.Effects.{World, is_member}
 use Rattle.low_ir.specs.Runs.{set_in}
-use Rattle.low_ir.specs.Places.{File, Placed, read_place, write_place, with_registers, with_slots}
+use Rattle.low_ir.specs.Places.{File, Placed, read_place, result_register, unset_if, write_place, with_registers, with_slots}
 use Rattle.asm_program.specs.Numbers.{base, second_base, machine_register}
 use Rattle.asm_program.specs.Frames.{slot_at, object_at}
 use Rattle.asm_program.specs.Functions.{PlacedBlock, function_in, is_leaf}
@@ -25,7 +25,8 @@ use Rattle.simulation_relation.specs.Views.{view_of, IsLocated, HasRoom, Shows, 
 use Rattle.simulation_relation.specs.Waiting.{IsIn, IsLinked}
 use Rattle.simulation_relation.specs.Following.{PlacedRunning, Holds}
 use Rattle.simulation_steps.proofs.Given.{Given, state, reg, read}
-use Rattle.simulation_steps.proofs.Places.{IsSteady, value_is, steady_is, machine_register-same, within}
+use Rattle.simulation_steps.proofs.Places.{IsSteady, value_is, steady_is, lasting_apart, machine_register-same, within}
+use Rattle.simulation_steps.proofs.Unsetting.{Spared, unset_read, unset_room}
 use Rattle.simulation_steps.proofs.Operands.{frame, code, IsThere, IsOther, IsBeside}
 use Rattle.simulation_follow.proofs.Apart.{SameWords, SameHead, SameObject, saved_kept, return_kept, waits_kept, arrays_kept}
 
@@ -138,23 +139,23 @@ module _ (g : Given) where
   beside_words f h (Slot j) a n there inside (inr high) = inr (omega arith)
 
   -- registers of values and arrays are no part of what others have
-  pub record Keeps (n m f : ℕ) (d : Place) : Type 0 where
-    pub registers : (r : ℕ) → IsSteady r → IsOther g d r → reg g m r ≡ reg g n r
+  pub record Keeps (b : Bool) (n m f : ℕ) (d : Place) : Type 0 where
+    pub registers : (r : ℕ) → IsSteady r → Spared b r → IsOther g d r → reg g m r ≡ reg g n r
     pub reads : (y : Width) (a : ℕ) → IsBeside g f d a (byte_count y) → read g m y a ≡ read g n y a
 
-  same_head : (n m f : ℕ) (d : Place) → Keeps n m f d → SameHead g.layout f (view_of (state g n)) (view_of (state g m))
-  same_head n m f d k a from to = k.reads Whole a (beside_head f d a to)
+  same_head : (b : Bool) (n m f : ℕ) (d : Place) → Keeps b n m f d → SameHead g.layout f (view_of (state g n)) (view_of (state g m))
+  same_head b n m f d k a from to = k.reads Whole a (beside_head f d a to)
 
-  same_words : (n m f : ℕ) (d : Place) → f < length g.layout.program.functions → IsThere g f d → Keeps n m f d → (h : ℕ) → f < h → h < length g.layout.program.functions → SameWords g.layout h (view_of (state g n)) (view_of (state g m))
-  same_words n m f d there inside k h more below a from to =
+  same_words : (b : Bool) (n m f : ℕ) (d : Place) → f < length g.layout.program.functions → IsThere g f d → Keeps b n m f d → (h : ℕ) → f < h → h < length g.layout.program.functions → SameWords g.layout h (view_of (state g n)) (view_of (state g m))
+  same_words b n m f d there inside k h more below a from to =
       k.reads Whole a (beside_words f h d a 4 there inside
       (⊎_elim
       (λ (low : (frame g h).at + frame_size (frame g h) ≤ (frame g f).at). inl (omega arith))
       (λ (high : (frame g f).at + frame_size (frame g f) ≤ (frame g h).at). inr (omega arith))
       (g.laid.plan.frames_apart h f (λ e. omega (arith, e)) below there)))
 
-  same_object : (n m f : ℕ) (d : Place) → f < length g.layout.program.functions → IsThere g f d → Keeps n m f d → (o : ℕ) (x : Object) → slice_get g.layout.program.objects o ≡ Some x → SameObject g.layout o x (view_of (state g n)) (view_of (state g m))
-  same_object n m f d there inside k o x e y a from to =
+  same_object : (b : Bool) (n m f : ℕ) (d : Place) → f < length g.layout.program.functions → IsThere g f d → Keeps b n m f d → (o : ℕ) (x : Object) → slice_get g.layout.program.objects o ≡ Some x → SameObject g.layout o x (view_of (state g n)) (view_of (state g m))
+  same_object b n m f d there inside k o x e y a from to =
       k.reads y a (beside_words f f d a (byte_count y) there inside
       (⊎_elim
       (λ (low : object_at g.layout.memory o + bytes_of x ≤ (frame g f).at). inl (omega arith))
@@ -162,29 +163,30 @@ module _ (g : Given) where
       (g.laid.plan.beside_frames o f x e there)))
 
   -- a register that holds no value is not that of a place
-  pub no_value : (f : ℕ) (d : Place) → IsThere g f d → (r : ℕ) → ((q : ℕ) → q < 24 → machine_register q ≢ r) → IsOther g d r
+  pub no_value : (f : ℕ) (d : Place) → IsThere g f d → (r : ℕ) → ((q : ℕ) → q ≤ result_register → machine_register q ≢ r) → IsOther g d r
   no_value f (InRegister q) inside r never = λ e. never q inside (sym e)
   no_value f (Slot j) inside r never = tt
 
-  linked_kept : (n m f : ℕ) (d : Place) (leaf : Bool) (at : ℕ) → IsThere g f d → Keeps n m f d → IsLinked leaf (frame g f) (view_of (state g n)) at → IsLinked leaf (frame g f) (view_of (state g m)) at
-  linked_kept n m f d true at inside k h = k.registers 1 (record { five = λ e. omega (arith, e); six = λ e. omega (arith, e); ten = λ e. omega (arith, e); seventeen = λ e. omega (arith, e) }) (no_value f d inside 1 (λ q less e. (value_is q less).link_not e)) ∙ h
-  linked_kept n m f d false at inside k h = return_kept g.layout f (view_of (state g n)) (view_of (state g m)) (same_head n m f d k) ∙ h
+  linked_kept : (b : Bool) (n m f : ℕ) (d : Place) (leaf : Bool) (at : ℕ) → IsThere g f d → Keeps b n m f d → IsLinked leaf (frame g f) (view_of (state g n)) at → IsLinked leaf (frame g f) (view_of (state g m)) at
+  linked_kept b n m f d true at inside k h = k.registers 1 (record { five = λ e. omega (arith, e); six = λ e. omega (arith, e); seventeen = λ e. omega (arith, e) }) (λ s e. omega (arith, e)) (no_value f d inside 1 (λ q less e. (value_is q less).link_not e)) ∙ h
+  linked_kept b n m f d false at inside k h = return_kept g.layout f (view_of (state g n)) (view_of (state g m)) (same_head b n m f d k) ∙ h
 
   -- a register that others need and the function doesn't save is not written by it
-  not_written : (n m f : ℕ) (d : Place) → f < length g.layout.program.functions → IsThere g f d → Keeps n m f d → ((q : ℕ) → d ≡ InRegister q → Contains (function_writes g.layout.program (function_in g.layout.program f)) q)
+  not_written : (b : Bool) (n m f : ℕ) (d : Place) → f < length g.layout.program.functions → IsThere g f d → Keeps b n m f d → ((q : ℕ) → d ≡ InRegister q → Contains (function_writes g.layout.program (function_in g.layout.program f)) q)
       → (q : ℕ) → is_member (g.layout.needs f) q ≡ true → is_member (frame g f).saved q ≡ false → reg g m (machine_register q) ≡ reg g n (machine_register q)
-  not_written n m f (Slot j) there inside k written q need unsaved = k.registers (machine_register q) (steady_is q) tt
-  not_written n m f (InRegister p) there inside k written q need unsaved =
-      k.registers (machine_register q) (steady_is q)
+  not_written b n m f (Slot j) there inside k written q need unsaved = k.registers (machine_register q) (steady_is q) (λ s. lasting_apart q (g.laid.plan.lasting f q there need)) tt
+  not_written b n m f (InRegister p) there inside k written q need unsaved =
+      k.registers (machine_register q) (steady_is q) (λ s. lasting_apart q (g.laid.plan.lasting f q there need))
       (λ e.
       let same : q ≡ p = machine_register-same q p e in
       let saved = (g.laid.plan.saves f there).writes q (subst (λ z. Contains (function_writes g.layout.program (function_in g.layout.program f)) z) (sym same) (written p refl)) need in
       let no : true ≡ false = sym saved ∙ unsaved in
       cc)
 
-  shows_kept : (n m f : ℕ) (t u : File) (d : Place) (x : Value) → Written t u d x → HasRoom g.layout.memory (frame g f) t → Keeps n m f d → IsLocated (frame g f) (view_of (state g m)) d (code g x)
+  shows_kept : (b : Bool) (n m f : ℕ) (t u : File) (d : Place) (x : Value) → Written t u d x → HasRoom g.layout.memory (frame g f) t → Keeps b n m f d → IsLocated (frame g f) (view_of (state g m)) d (code g x)
+      → ((q : ℕ) (y : Value) → read_place t (InRegister q) ≡ Some y → Spared b (machine_register q))
       → Shows g.layout.memory (frame g f) t (view_of (state g n)) → Shows g.layout.memory (frame g f) u (view_of (state g m))
-  shows_kept n m f t u d x w room k located shows p y e = ⊎_elim (λ (same : p ≡ d). at_place same) (λ (other : p ≢ d). elsewhere p other e) (same_place p d)
+  shows_kept b n m f t u d x w room k located spared shows p y e = ⊎_elim (λ (same : p ≡ d). at_place same) (λ (other : p ≢ d). elsewhere p other e) (same_place p d)
     where
       at_place : p ≡ d → IsLocated (frame g f) (view_of (state g m)) p (code g y)
       at_place same =
@@ -200,7 +202,9 @@ module _ (g : Given) where
       slot_apart (Slot j) q other = beside_slot f j q (λ z. other (ap Slot (sym z)))
 
       elsewhere : (c : Place) → c ≢ d → read_place u c ≡ Some y → IsLocated (frame g f) (view_of (state g m)) c (code g y)
-      elsewhere (InRegister q) other found = k.registers (machine_register q) (steady_is q) (register_apart d q other) ∙ shows (InRegister q) y (sym (w.others (InRegister q) other) ∙ found)
+      elsewhere (InRegister q) other found =
+          let was = sym (w.others (InRegister q) other) ∙ found in
+          k.registers (machine_register q) (steady_is q) (spared q y was) (register_apart d q other) ∙ shows (InRegister q) y was
       elsewhere (Slot q) other found = k.reads Whole (slot_at (frame g f) q) (slot_apart d q other) ∙ shows (Slot q) y (sym (w.others (Slot q) other) ∙ found)
 
   room_kept : (f : ℕ) (t u : File) (d : Place) (x : Value) → Written t u d x → code g x < 2 ^ 32 → HasRoom g.layout.memory (frame g f) t → HasRoom g.layout.memory (frame g f) u
@@ -216,28 +220,47 @@ module _ (g : Given) where
       }
 
   -- what a run shows, behind an instruction that gave a place a value
-  pub holds_kept : (r : PlacedRunning) (n m : ℕ) (d : Place) (x : Value) (u : File) (is : List (Instr Place (List ℕ))) (world : World) (returns : List ℕ) → r.top.func < length g.layout.program.functions
-      → write_place r.top.store d x ≡ Some u → code g x < 2 ^ 32 → Keeps n m r.top.func d → IsLocated (frame g r.top.func) (view_of (state g m)) d (code g x) → world.objects ≡ r.world.objects
+  pub holds_kept : (b : Bool) (r : PlacedRunning) (n m : ℕ) (d : Place) (x : Value) (u : File) (is : List (Instr Place (List ℕ))) (world : World) (returns : List ℕ) → r.top.func < length g.layout.program.functions
+      → write_place r.top.store d x ≡ Some u → code g x < 2 ^ 32 → Keeps b n m r.top.func d → IsLocated (frame g r.top.func) (view_of (state g m)) d (code g x) → world.objects ≡ r.world.objects
       → ((q : ℕ) → d ≡ InRegister q → Contains (function_writes g.layout.program (function_in g.layout.program r.top.func)) q)
+      → ((q : ℕ) (y : Value) → read_place r.top.store (InRegister q) ≡ Some y → Spared b (machine_register q))
       → Holds g.layout r (view_of (state g n)) returns → Holds g.layout (record r { top = record r.top { code = is; store = u }; world = world }) (view_of (state g m)) returns
-  holds_kept r n m d x u is world returns there e small k located objects written h =
+  holds_kept b r n m d x u is world returns there e small k located objects written spared h =
       let f = r.top.func in
       let w = place_written r.top.store u d x e in
       let inside = written_there f r.top.store u d x h.room e in
       let v = view_of (state g n) in
       let v2 = view_of (state g m) in
       record {
-        based = k.registers base (record { five = λ z. omega (arith, z); six = λ z. omega (arith, z); ten = λ z. omega (arith, z); seventeen = λ z. omega (arith, z) }) (no_value f d inside base (λ q less z. (value_is q less).base_not z)) ∙ h.based;
-        second = k.registers second_base (record { five = λ z. omega (arith, z); six = λ z. omega (arith, z); ten = λ z. omega (arith, z); seventeen = λ z. omega (arith, z) }) (no_value f d inside second_base (λ q less z. (value_is q less).second_not z)) ∙ h.second;
+        based = k.registers base (record { five = λ z. omega (arith, z); six = λ z. omega (arith, z); seventeen = λ z. omega (arith, z) }) (λ s z. omega (arith, z)) (no_value f d inside base (λ q less z. (value_is q less).base_not z)) ∙ h.based;
+        second = k.registers second_base (record { five = λ z. omega (arith, z); six = λ z. omega (arith, z); seventeen = λ z. omega (arith, z) }) (λ s z. omega (arith, z)) (no_value f d inside second_base (λ q less z. (value_is q less).second_not z)) ∙ h.second;
         room = room_kept f r.top.store u d x w small h.room;
-        shows = shows_kept n m f r.top.store u d x w h.room k located h.shows;
-        arrays = subst (λ cs. HasArrays g.layout.memory g.layout.program.objects cs v2) (sym objects) (arrays_kept g.layout r.world.objects v v2 (same_object n m f d there inside k) h.arrays);
-        linked = linked_kept n m f d (is_leaf (function_in g.layout.program f)) (slice_index returns 0) inside k h.linked;
+        shows = shows_kept b n m f r.top.store u d x w h.room k located spared h.shows;
+        arrays = subst (λ cs. HasArrays g.layout.memory g.layout.program.objects cs v2) (sym objects) (arrays_kept g.layout r.world.objects v v2 (same_object b n m f d there inside k) h.arrays);
+        linked = linked_kept b n m f d (is_leaf (function_in g.layout.program f)) (slice_index returns 0) inside k h.linked;
         after = h.after;
         keeps =
             record {
-              saved = λ q saved word. saved_kept g.layout f v v2 (same_head n m f d k) q saved ∙ h.keeps.saved q saved word;
-              other = λ q need unsaved word. not_written n m f d there inside k written q need unsaved ∙ h.keeps.other q need unsaved word;
+              saved = λ q saved word. saved_kept g.layout f v v2 (same_head b n m f d k) q saved ∙ h.keeps.saved q saved word;
+              other = λ q need unsaved word. not_written b n m f d there inside k written q need unsaved ∙ h.keeps.other q need unsaved word;
             };
-        waits = waits_kept g.layout r.below f v v2 h.after returns (same_words n m f d there inside k) h.waits;
+        waits = waits_kept g.layout r.below f v v2 h.after returns (same_words b n m f d there inside k) h.waits;
+      }
+
+  -- where the environment was called, nothing is asked of the result register
+  abbrev pub forgotten : Bool → PlacedRunning → PlacedRunning
+  forgotten b r = record r { top = record r.top { store = unset_if b r.top.store } }
+
+  pub forgets : (b : Bool) (r : PlacedRunning) (n : ℕ) (returns : List ℕ) → Holds g.layout r (view_of (state g n)) returns → Holds g.layout (forgotten b r) (view_of (state g n)) returns
+  forgets b r n returns h =
+      record {
+        based = h.based;
+        second = h.second;
+        room = unset_room g.layout.memory (frame g r.top.func) b r.top.store h.room;
+        shows = λ p x e. h.shows p x (unset_read b r.top.store p x e).0;
+        arrays = h.arrays;
+        linked = h.linked;
+        after = h.after;
+        keeps = h.keeps;
+        waits = h.waits;
       }

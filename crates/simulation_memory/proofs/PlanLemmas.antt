@@ -137,6 +137,7 @@ module _ (pl : Placement) (p : Placed) (formed : IsProgram p) (sound : InProgram
       let lower : g < f = site_below f (sites_of p f) s (sites_below p formed f) h in
       let there : g < length p.functions = omega (arith, lower, less) in
       record {
+        lasting = λ q m. keeps f g b d args note less in_function in_block q m;
         kept = λ q m n.
             asked f s q less h (keeps f g b d args note less in_function in_block q m)
             (asks_kept (is_member note q) (holds (outline_at (outlines_of p) g).passed q) (is_needed p f q) (holds (written p f) q) m (ap (λ t. holds t q) (passed_is g) ∙ table_misses (registers_among (parameters_of p g)) q n));
@@ -166,6 +167,7 @@ module _ (pl : Placement) (p : Placed) (formed : IsProgram p) (sound : InProgram
     frames = frame_placed;
     slots = λ f less. let e = (frame f less).slots in omega (arith, e);
     frames_apart = frames_apart;
+    lasting = λ f q less n. (from_chosen (is_needed p f) machine_registers q n).below;
     saves = saves;
     calls = saves_at;
     objects = λ o x e. objects_lie pl p fits low even o x e;

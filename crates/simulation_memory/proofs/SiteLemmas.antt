@@ -13,7 +13,7 @@ use Rattle.low_ir.specs.Places.{Placed, machine_registers}
 use Rattle.asm_program.specs.Emission.{registers_among, kept_among}
 use Rattle.asm_program.specs.Functions.{PlacedBlock, PlacedFunction, no_function, function_in, callees_in, all_callees}
 use Rattle.asm_program.specs.Formed.{IsProgram}
-use Rattle.asm_program.specs.Ranges.{IsRegister, InFunction, InProgram}
+use Rattle.asm_program.specs.Ranges.{IsLasting, InFunction, InProgram}
 use Rattle.image_frames.specs.Needs.{parameters_of, Site, code_sites, blocks_sites, sites_homes, outline_of, outlines_of, outline_at, no_outline}
 use Rattle.image_frames.proofs.TableLemmas.{member_cases, member_first, member_rest}
 use Rattle.image_frames.proofs.NeedsLemmas.{HasSite, AreBelow}
@@ -93,13 +93,13 @@ sites_below p formed f = ⊎_elim inside past (cases_lt f (length p.functions))
     past le = subst (λ (fn : PlacedFunction). AreBelow f (blocks_sites fn.blocks)) (sym (get_or_past p.functions f no_function le)) tt
 
 -- registers of parameters hold values
-registers_small : (ps : List Place) (q : ℕ) → All IsRegister ps → is_member (registers_among ps) q ≡ true → q < machine_registers
+registers_small : (ps : List Place) (q : ℕ) → All IsLasting ps → is_member (registers_among ps) q ≡ true → q < machine_registers
 registers_small [] q a h = absurd (false≢true h)
-registers_small (InRegister r ∷ ps) q a h = ⊎_elim first (λ k. registers_small ps q (All-tail IsRegister (InRegister r) ps a) k) (member_cases r q (registers_among ps) h)
+registers_small (InRegister r ∷ ps) q a h = ⊎_elim first (λ k. registers_small ps q (All-tail IsLasting (InRegister r) ps a) k) (member_cases r q (registers_among ps) h)
   where
     first : r ≡ q → q < machine_registers
-    first e = subst (λ y. y < machine_registers) e (All-head IsRegister (InRegister r) ps a)
-registers_small (Slot k ∷ ps) q a h = registers_small ps q (All-tail IsRegister (Slot k) ps a) h
+    first e = subst (λ y. y < machine_registers) e (All-head IsLasting (InRegister r) ps a)
+registers_small (Slot k ∷ ps) q a h = registers_small ps q (All-tail IsLasting (Slot k) ps a) h
 
 pub parameters_small : (p : Placed) (f q : ℕ) → InProgram p → f < length p.functions → is_member (registers_among (parameters_of p f)) q ≡ true → q < machine_registers
 parameters_small p f q sound less h = registers_small (parameters_of p f) q (All-contains InFunction p.functions (function_in p f) sound (Contains-get_or p.functions f no_function less)).0 h

@@ -15,7 +15,7 @@ use Rattle.low_ir.specs.declared.run.Began.{Began}
 use Rattle.low_ir.specs.Code.{Operand, Instr, Call}
 use Rattle.low_ir.specs.Effects.{is_member}
 use Rattle.low_ir.specs.Runs.{values, write_all}
-use Rattle.low_ir.specs.Places.{File, places}
+use Rattle.low_ir.specs.Places.{File, places, result_register}
 use Rattle.asm_program.specs.Numbers.{base, second_base, base_address, link, machine_register}
 use Rattle.asm_program.specs.Frames.{home_at, slot_at}
 use Rattle.asm_program.specs.Emission.{registers_among, kept_among, home_code, pass_code, late_code, before_call, behind_call}
@@ -57,7 +57,7 @@ module _ (g : Given) where
     pub output : (state g m).world.output ≡ (state g n).world.output
     pub room : HasRoom g.layout.memory (frame g c) u
     pub shows : Shows g.layout.memory (frame g c) u (view_of (state g m))
-    pub inside : (q : ℕ) → is_member (registers_among (params c)) q ≡ true → q < 24
+    pub inside : (q : ℕ) → is_member (registers_among (params c)) q ≡ true → q ≤ result_register
 
   -- another function's frame is outside
   pub frame_outside : (f c a n : ℕ) → f ≢ c → f < length g.layout.program.functions → c < length g.layout.program.functions → (frame g f).at ≤ a → a + n ≤ (frame g f).at + frame_size (frame g f) → IsOutside g c a n
@@ -90,10 +90,10 @@ module _ (g : Given) where
   apart_from : (ps : List Place) (q p : ℕ) → is_member (registers_among ps) q ≡ false → is_member (registers_among ps) p ≡ true → machine_register q ≢ machine_register p
   apart_from ps q p outside own e = let same : q ≡ p = machine_register-same q p e in let both : true ≡ false = sym own ∙ ap (is_member (registers_among ps)) (sym same) ∙ outside in cc
 
-  base_apart : (q : ℕ) → q < 24 → base ≢ machine_register q
+  base_apart : (q : ℕ) → q ≤ result_register → base ≢ machine_register q
   base_apart q less e = (value_is q less).base_not (sym e)
 
-  second_apart : (q : ℕ) → q < 24 → second_base ≢ machine_register q
+  second_apart : (q : ℕ) → q ≤ result_register → second_base ≢ machine_register q
   second_apart q less e = (value_is q less).second_not (sym e)
 
   -- the arguments in the places of the callee, once the late ones are loaded

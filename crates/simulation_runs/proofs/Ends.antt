@@ -64,7 +64,7 @@ module _ (g : Given) where
       let same : (state g j).world ≡ (state g n).world = a.world ∙ world in
       let reads = same_reads n j same in
       let held =
-      holds_led g r n j block.code u h.returns h.inside.there (λ q s. a.registers q ∙ registers q s) (λ x below b from to. reads Whole b)
+      holds_led g false r n j block.code u h.returns h.inside.there (λ q s spare. a.registers q ∙ registers q s) (λ q y z e s. cc) (λ x below b from to. reads Whole b)
       (arrays_kept g.layout r.world.objects (view_of (state g n)) (view_of (state g j)) (λ o x found y b from to. reads y b) h.holds.arrays) h.holds in
       now goal j
       (record {

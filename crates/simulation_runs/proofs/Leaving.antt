@@ -31,18 +31,20 @@ use Rattle.simulation_relation.specs.Views.{view_of}
 use Rattle.simulation_relation.specs.Waiting.{PlacedWaiting, AreWaiting, IsLinked}
 use Rattle.simulation_relation.specs.Following.{PlacedRunning, Holds, Exchanges}
 use Rattle.simulation_steps.proofs.Given.{Given, run_of, state, reg, read, At}
-use Rattle.simulation_steps.proofs.Places.{IsSteady, steady_is}
+use Rattle.simulation_steps.proofs.Places.{IsSteady, lasting_apart}
 use Rattle.simulation_steps.proofs.Noting.{noted_code}
 use Rattle.simulation_steps.proofs.Operands.{frame, into}
 use Rattle.simulation_follow.proofs.Apart.{arrays_kept}
-use Rattle.simulation_follow.proofs.Holding.{strict}
-use Rattle.simulation_follow.proofs.Plains.{Runs, Going_at, ready_of, body, course_in, operand-small}
+use Rattle.simulation_follow.proofs.Holding.{strict, forgets, forgotten}
+use Rattle.simulation_follow.proofs.Plains.{Runs, Going_at, ready_of, body, course_in, operand-small, going_on}
 use Rattle.simulation_follow.proofs.Arrays.{holds_led}
 use Rattle.simulation_entries.proofs.Standing.{Stood, to_run}
 use Rattle.simulation_entries.proofs.Jumps.{jump_lays}
 use Rattle.simulation_entries.proofs.Entries.{Left, leaves}
 use Rattle.simulation_runs.proofs.Home.{home_ends}
 use Rattle.simulation_runs.proofs.Resuming.{resumes}
+use Rattle.simulation_steps.proofs.Unsetting.{Spared, place_spared, unset_read}
+use Rattle.low_ir.specs.declared.places.Place.TheVariants.{Register as InRegister}
 
 test_is : (a b : ℕ) → (a == b) ≡ true → a ≡ b
 test_is a b e = grind (arith, nat_tests)
@@ -79,7 +81,7 @@ module _ (g : Given) where
   leaves_with r m v k returns there small h exchanges value trace same at = by_waiting r.below returns refl refl h.waits
     where
       result_kept : (j to : ℕ) (ts : List Began) (ats : List ℕ) → Left g m j r.top.func to ts ats → reg g j result ≡ v
-      result_kept j to ts ats left = left.others result (λ e. omega (arith, e)) (λ e. omega (arith, e)) (λ q s e. (steady_is q).ten (sym e)) ∙ value
+      result_kept j to ts ats left = left.others result (λ e. omega (arith, e)) (λ e. omega (arith, e)) (λ q s e. lasting_apart q ((g.laid.plan.frames r.top.func there).saved q s) (sym e)) ∙ value
 
       by_waiting : (below : List PlacedWaiting) (ats : List ℕ) → r.below ≡ below → returns ≡ ats → AreWaiting g.layout r.below r.top.func (view_of (state g m)) h.after returns → Later (Runs g (come_back places r.world below v)) m
       by_waiting below [] is empty waits = absurd (nobody r.below (subst (λ x. AreWaiting g.layout r.below r.top.func (view_of (state g m)) h.after x) empty waits))
@@ -138,11 +140,11 @@ module _ (g : Given) where
   leave_is r b true = noted_code (exit_code (is_leaf (function_in g.layout.program r.top.func)) (frame g r.top.func)) (items.Return ∷ [])
   leave_is r b false = refl
 
-  -- registers of values and memory are as before
-  still_holds : (r : PlacedRunning) (n m : ℕ) (returns : List ℕ) (h : Holds g.layout r (view_of (state g n)) returns) → r.top.func < length g.layout.program.functions → ((q : ℕ) → IsSteady q → reg g m q ≡ reg g n q) → (state g m).world ≡ (state g n).world → Holds g.layout r (view_of (state g m)) returns
-  still_holds r n m returns h there registers world =
+  -- registers of values and memory are as before; x10 where it holds none
+  still_holds : (called : Bool) (r : PlacedRunning) (n m : ℕ) (returns : List ℕ) (h : Holds g.layout r (view_of (state g n)) returns) → r.top.func < length g.layout.program.functions → ((q : ℕ) → IsSteady q → Spared called q → reg g m q ≡ reg g n q) → (state g m).world ≡ (state g n).world → Holds g.layout (forgotten g called r) (view_of (state g m)) returns
+  still_holds called r n m returns h there registers world =
       let reads : (y : Width) (x : ℕ) → read g m y x ≡ read g n y x = λ y x. ap (λ (z : machine.World). read_from (λ b. b.read) y z.memory x) world in
-      holds_led g r n m r.top.code r.world returns there registers (λ f below b from to. reads Whole b) (arrays_kept g.layout r.world.objects (view_of (state g n)) (view_of (state g m)) (λ o x found y b from to. reads y b) h.arrays) h
+      holds_led g called (forgotten g called r) n m r.top.code r.world returns there registers (λ q y z. place_spared called q (unset_read called r.top.store (InRegister q) y z).1) (λ f below b from to. reads Whole b) (arrays_kept g.layout r.world.objects (view_of (state g n)) (view_of (state g m)) (λ o x found y b from to. reads y b) h.arrays) (forgets g called r n returns h)
 
   still_exchanges : (r : PlacedRunning) (n m : ℕ) → Exchanges g.layout (run_of g) r.world n → (state g m).world ≡ (state g n).world → Exchanges g.layout (run_of g) r.world m
   still_exchanges r n m x world = record { input = ap (λ (z : machine.World). z.input) world ∙ x.input; bytes = x.bytes; output = ap (λ (z : machine.World). z.output) world ∙ x.output }
@@ -168,7 +170,7 @@ module _ (g : Given) where
       let last = length (function_in l.program f).blocks in
       jump_lays g (course_in g r r.world h.block h.returns) (Runs g (come_back places r.world r.below v)) m last true [] at
       (λ j c. leaves_with r j v (record { function = f; stop = l.stops f last; trace = r.world.trace; returns = h.returns }) h.returns h.inside.there small
-      (still_holds r m j h.returns holds h.inside.there (λ q s. c.registers q s.five) c.world) (still_exchanges r m j exchanges c.world) (c.registers result (λ e. omega (arith, e)) ∙ value) refl refl
+      (still_holds false r m j h.returns holds h.inside.there (λ q s spare. c.registers q s.five) c.world) (still_exchanges r m j exchanges c.world) (c.registers result (λ e. omega (arith, e)) ∙ value) refl refl
       (leaving_at j f r.world.trace h.returns h.inside.there once c.stood))
 
   -- a block that returns a value
@@ -184,5 +186,5 @@ module _ (g : Given) where
       let goal = Runs g (come_back places r.world r.below v) in
       let at = subst (λ z. At g k n (noted_body l.memory l.program f h.block [] z)) end_is (subst (λ z. At g k n (body g r h.block z)) code_is h.at) in
       into g k goal n f result r.top.store (map noted (leave_items l.memory l.program f once h.block)) x (Word v) (omega arith) (omega arith) (ready_of g r n h) e (subst (λ z. At g k n z) (noted_code (into_code (frame g f) result x) (leave_items l.memory l.program f once h.block)) at)
-      (λ m a. exits_by r n m v h once next refl refl (operand-small g f r.top.store x (Word v) h.holds.room e) (still_holds r n m h.returns h.holds h.inside.there (λ q s. a.others q s.ten) a.world) (still_exchanges r n m h.exchanges a.world) a.value
+      (λ m a. exits_by (forgotten g true r) n m v (going_on g true r n h) once next refl refl (operand-small g f r.top.store x (Word v) h.holds.room e) (still_holds true r n m h.returns h.holds h.inside.there (λ q s spare. a.others q (spare refl)) a.world) (still_exchanges r n m h.exchanges a.world) a.value
       (subst (λ xs. At g k m xs) (leave_is r h.block once) a.at))

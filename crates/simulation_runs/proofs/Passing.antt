@@ -14,7 +14,7 @@ use Rattle.low_ir.specs.declared.run.Value.{Value}
 use Rattle.low_ir.specs.Code.{Operand}
 use Rattle.low_ir.specs.Effects.{is_member}
 use Rattle.low_ir.specs.Runs.{operand_value, values_cons, values, write_all}
-use Rattle.low_ir.specs.Places.{File, read_place, write_place, places}
+use Rattle.low_ir.specs.Places.{File, read_place, write_place, places, result_register}
 use Rattle.asm_program.specs.Numbers.{base, second_base, first_free, second_free, machine_register}
 use Rattle.asm_program.specs.Frames.{position, home_at, slot_at}
 use Rattle.asm_program.specs.Operands.{into_code}
@@ -99,7 +99,7 @@ module _ (g : Given) where
       → write_place u (InRegister q) v ≡ Some w → is_member late q ≡ false → reads_register q xs ≡ false
       → At g k n (singles (into_code (frame g f) (machine_register q) x) ++ ys) → ((m : ℕ) → Argued k n m f c t (InRegister q) xs late w ys → Later P m) → Later P n
   direct_runs k P n f c q late t u w xs ys x v ready e room awaits written never unread h go =
-      let inside : q < 24 = written_there g c u w (InRegister q) v room written in
+      let inside : q ≤ result_register = written_there g c u w (InRegister q) v room written in
       let value = value_is q inside in
       let wr = place_written u w (InRegister q) v written in
       into g k P n f (machine_register q) t ys x v value.some value.less ready e h
@@ -252,9 +252,9 @@ module _ (g : Given) where
     pub beside : (y : Width) (a : ℕ) → IsOutside c a (byte_count y) → read g m y a ≡ read g n y a
     pub awaits : Awaits m c late u
     pub room : HasRoom g.layout.memory (frame g c) u
-    pub inside : (q : ℕ) → is_member (registers_among ps) q ≡ true → q < 24
+    pub inside : (q : ℕ) → is_member (registers_among ps) q ≡ true → q ≤ result_register
 
-  joined : (k : Course) (n m j f c : ℕ) (t u w : File) (p : Place) (ps : List Place) (xs : List (Operand Place)) (late : List ℕ) (zs ys : List Noted) → ((q : ℕ) → p ≡ InRegister q → q < 24) → Argued k n m f c t p xs late u zs → Passed k m j c ps late w ys → Passed k n j c (p ∷ ps) late w ys
+  joined : (k : Course) (n m j f c : ℕ) (t u w : File) (p : Place) (ps : List Place) (xs : List (Operand Place)) (late : List ℕ) (zs ys : List Noted) → ((q : ℕ) → p ≡ InRegister q → q ≤ result_register) → Argued k n m f c t p xs late u zs → Passed k m j c ps late w ys → Passed k n j c (p ∷ ps) late w ys
   joined k n m j f c t u w p ps xs late zs ys inside a b =
       record {
         at = b.at;
@@ -271,7 +271,7 @@ module _ (g : Given) where
       head_other (InRegister q) r others = others q (member_head q (registers_among ps))
       head_other (Slot i) r others = tt
 
-      inside_all : (d : Place) → ((q : ℕ) → d ≡ InRegister q → q < 24) → (q : ℕ) → is_member (registers_among (d ∷ ps)) q ≡ true → q < 24
+      inside_all : (d : Place) → ((q : ℕ) → d ≡ InRegister q → q ≤ result_register) → (q : ℕ) → is_member (registers_among (d ∷ ps)) q ≡ true → q ≤ result_register
       inside_all (InRegister r) h q e = ⊎_elim (λ (same : r ≡ q). h q (ap InRegister same)) (λ (rest : is_member (registers_among ps) q ≡ true). b.inside q rest) (member_cases r q (registers_among ps) e)
       inside_all (Slot i) h q e = b.inside q e
 
@@ -300,8 +300,8 @@ module _ (g : Given) where
       behind : List Noted
       behind = singles (pass_code (frame g f) (frame g c) all xs ps) ++ ys
 
-      inside : (r : ℕ) → InRegister q ≡ InRegister r → r < 24
-      inside r z = let same : q ≡ r = cc in subst (λ y. y < 24) same (written_there g c u u2 (InRegister q) v room written)
+      inside : (r : ℕ) → InRegister q ≡ InRegister r → r ≤ result_register
+      inside r z = let same : q ≡ r = cc in subst (λ y. y ≤ result_register) same (written_there g c u u2 (InRegister q) v room written)
 
       go_on : (m : ℕ) → Argued k n m f c t (InRegister q) xs late u2 behind → Later P m
       go_on m a =

@@ -26,7 +26,7 @@ use Rattle.simulation_relation.specs.Views.{View, view_of, Shows}
 use Rattle.simulation_relation.specs.Waiting.{IsIn, PlacedWaiting, Rests, AreWaiting, IsLinked}
 use Rattle.simulation_relation.specs.Following.{PlacedRunning, Holds, Exchanges, Goes}
 use Rattle.simulation_steps.proofs.Given.{Given, run_of, state, reg, read, At}
-use Rattle.simulation_steps.proofs.Places.{value_is, steady_is, machine_register-same}
+use Rattle.simulation_steps.proofs.Places.{value_is, steady_is, machine_register-same, lasting_apart, lasts}
 use Rattle.simulation_steps.proofs.Operands.{frame, code, in_parts}
 use Rattle.simulation_steps.proofs.Operands as operands
 use Rattle.simulation_follow.proofs.Apart.{waits_kept, arrays_kept}
@@ -34,7 +34,7 @@ use Rattle.simulation_follow.proofs.Elements.{member_contains}
 use Rattle.simulation_follow.proofs.Holding.{in_flat_map, got_contains, holds_kept, written_there}
 use Rattle.simulation_follow.proofs.Plains.{Runs}
 use Rattle.simulation_entries.proofs.Homes.{Unhomed, unhomes_run}
-use Rattle.simulation_entries.proofs.Members.{kept_member, kept_parameter, among_append, calls_some, link_apart}
+use Rattle.simulation_entries.proofs.Members.{kept_member, kept_parameter, among_append, calls_some, link_apart, kept_noted}
 use Rattle.simulation_entries.proofs.Standing.{to_run}
 use Rattle.simulation_entries.proofs.Entries.{Left}
 
@@ -71,7 +71,7 @@ module _ (g : Given) where
         block = block;
         inside = inside;
         returns = rest;
-        holds = holds_kept g (resumed r w ws) n m d (Word v) file w.frame.code r.world rest inside.there e small (record { registers = a.registers; reads = a.reads }) a.located refl (λ q same. writes q (is ∙ ap Some same)) holds;
+        holds = holds_kept g false (resumed r w ws) n m d (Word v) file w.frame.code r.world rest inside.there e small (record { registers = λ q s spare o. a.registers q s o; reads = a.reads }) a.located refl (λ q same. writes q (is ∙ ap Some same)) (λ q y z e s. cc) holds;
         exchanges = record { input = a.input ∙ exchanges.input; bytes = exchanges.bytes; output = a.output ∙ exchanges.output };
         at = a.at;
       }))
@@ -160,8 +160,8 @@ module _ (g : Given) where
       let goal = Runs g (goes_on (resumed r w ws) w.frame.code r.world (write_to places w.frame.store w.into (Word v))) in
       let at_call = saves_at w f seen_at h.after at rests in
       let promise = promised r n m at ats (at ∷ ats) h left in
-      let based_m : reg g m base ≡ base_address = left.others base (λ z. omega (arith, z)) (λ z. omega (arith, z)) (λ q s z. (value_is q ((g.laid.plan.frames f there).saved q s)).base_not (sym z)) ∙ h.based in
-      let second_m : reg g m second_base ≡ l.memory.second = left.others second_base (λ z. omega (arith, z)) (λ z. omega (arith, z)) (λ q s z. (value_is q ((g.laid.plan.frames f there).saved q s)).second_not (sym z)) ∙ h.second in
+      let based_m : reg g m base ≡ base_address = left.others base (λ z. omega (arith, z)) (λ z. omega (arith, z)) (λ q s z. (value_is q (lasts q ((g.laid.plan.frames f there).saved q s))).base_not (sym z)) ∙ h.based in
+      let second_m : reg g m second_base ≡ l.memory.second = left.others second_base (λ z. omega (arith, z)) (λ z. omega (arith, z)) (λ q s z. (value_is q (lasts q ((g.laid.plan.frames f there).saved q s))).second_not (sym z)) ∙ h.second in
       let start = to_run g k m at (singles (behind_call (frame g e) w.into ps rests.note) ++ body) left.stood rests.rest.code rests.rest.quiet in
       unhomes_run g k goal m e qs (singles (value_code (frame g e) w.into) ++ body) inside.there based_m (λ q c. (at_call.homes q c, rests.parameters q (kept_parameter ps rests.note q c)))
       (in_parts g k m (return_code (frame g e) qs) (value_code (frame g e) w.into) body start)
@@ -187,4 +187,4 @@ module _ (g : Given) where
       } in
       gives_value r w ws j v rests.block ats small inside (λ q same. call_writes w f seen_at h.after at rests q (value_written f q w.into rests.args rests.note same)) holds
       (record { input = ap (λ (z : machine.World). z.input) world ∙ exchanges.input; bytes = exchanges.bytes; output = ap (λ (z : machine.World). z.output) world ∙ exchanges.output })
-      (a.others result (λ q c z. (steady_is q).ten (sym z)) ∙ value) w.into refl a.at (write_to places w.frame.store w.into (Word v)) refl)
+      (a.others result (λ q c z. lasting_apart q (at_call.lasting q (kept_noted ps rests.note q c)) (sym z)) ∙ value) w.into refl a.at (write_to places w.frame.store w.into (Word v)) refl)

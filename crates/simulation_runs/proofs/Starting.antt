@@ -20,7 +20,7 @@ use Rattle.low_ir.specs.declared.run.Value.{Value}
 use Rattle.low_ir.specs.Code.{Jump}
 use Rattle.low_ir.specs.Effects.{World, contents, start, began}
 use Rattle.low_ir.specs.Runs.{Bank, Done, Bad, write_all, enter, begin, first_in, first, run}
-use Rattle.low_ir.specs.Places.{Placed, machine_registers, read_place, places}
+use Rattle.low_ir.specs.Places.{Placed, result_register, read_place, places}
 use Rattle.asm_program.specs.Numbers.{link, base, second_base, base_address, service, machine_register, upper_of, lower_of}
 use Rattle.asm_program.specs.Frames.{object_at}
 use Rattle.asm_program.specs.Functions.{PlacedBlock, PlacedFunction, no_function, function_in, is_leaf, entry_code, at_once, block_count, opening_items}
@@ -65,7 +65,7 @@ none_there (suc n) zero x e = cc
 none_there (suc n) (suc i) x e = none_there n i x e
 
 none_read : (n : ℕ) (q : Place) (x : Value) → read_place (places.empty n) q ≡ Some x → ⊥
-none_read n (InRegister q) x e = none_there machine_registers q x e
+none_read n (InRegister q) x e = none_there (suc result_register) q x e
 none_read n (Slot k) x e = none_there n k x e
 
 module _ (g : Given) where

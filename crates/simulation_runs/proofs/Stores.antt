@@ -9,7 +9,7 @@ use Rattle.low_ir.specs.declared.run.Value.{Value}
 use Rattle.low_ir.specs.Code.{Operand}
 use Rattle.low_ir.specs.Effects.{is_member}
 use Rattle.low_ir.specs.Runs.{Bank, operand_value, values, write_all}
-use Rattle.low_ir.specs.Places.{File, read_place, write_place, with_registers, kept_of, machine_registers, places}
+use Rattle.low_ir.specs.Places.{File, read_place, write_place, with_registers, kept_of, result_register, places}
 use Rattle.asm_program.specs.Frames.{Frame, Memory}
 use Rattle.simulation_relation.specs.Views.{code_of, HasRoom}
 use Rattle.simulation_steps.proofs.Places.{within}
@@ -53,17 +53,17 @@ kept_room m fr note t room = record { registers = kept_length note t.registers �
 
 -- a callee's places have no values at first
 abbrev pub empty_file : ℕ → File
-empty_file n = record { registers = replicate machine_registers None; slots = replicate n None }
+empty_file n = record { registers = replicate (suc result_register) None; slots = replicate n None }
 
 pub empty_reads : (n : ℕ) (p : Place) (x : Value) → read_place (empty_file n) p ≡ Some x → ⊥
-empty_reads n (InRegister q) x e = none_there machine_registers q x e
+empty_reads n (InRegister q) x e = none_there (suc result_register) q x e
 empty_reads n (Slot k) x e = none_there n k x e
 
 pub empty_room : (m : Memory) (fr : Frame) (n : ℕ) → n ≤ fr.slots → HasRoom m fr (empty_file n)
 empty_room m fr n few =
     let none : Option Value = None in
     record {
-      registers = length-replicate machine_registers none;
+      registers = length-replicate (suc result_register) none;
       slots = let long : length (empty_file n).slots ≡ n = length-replicate n none in omega arith;
       words = λ p x e. absurd (empty_reads n p x e);
     }

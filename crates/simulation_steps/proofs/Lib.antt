@@ -6,6 +6,7 @@ pub mod Touching
 pub mod Stepping
 pub mod Moving
 pub mod Places
+pub mod Unsetting
 pub mod Noting
 pub mod Operands
 pub mod Plain
