@@ -1,6 +1,6 @@
 // The blocks and loops of a function.
-use super::acts::nexts;
-use super::tables::{add_one, flag_at, number_at, set_flag, set_number};
+use super::acts::{act_of, arguments_of, nexts, read_at, read_by, register_of, written};
+use super::tables::{add_one, flag_at, list_at, number_at, set_flag, set_number};
 use low_ir::{Block, Function, Instr, Loop};
 use std::alloc::Global;
 use wcc_base::Memory;
@@ -193,7 +193,7 @@ impl Map {
     }
 
     pub fn sources_at(&self, block: usize) -> &[u32] {
-        super::tables::list_at(&self.sources, block)
+        list_at(&self.sources, block)
     }
 }
 
@@ -207,7 +207,7 @@ pub fn named(alloc: Global, function: &Function) -> Result<Vec<u32>, Memory> {
         for instr in &block.code {
             name_instr(&mut counts, instr);
         }
-        for register in super::acts::read_at(block.end) {
+        for register in read_at(block.end) {
             name(&mut counts, register);
         }
     }
@@ -221,12 +221,12 @@ fn name(counts: &mut [u32], register: Option<u32>) {
 }
 
 fn name_instr(counts: &mut [u32], instr: &Instr) {
-    let act = super::acts::act_of(instr);
-    name(counts, super::acts::written(act));
-    for register in super::acts::read_by(act) {
+    let act = act_of(instr);
+    name(counts, written(act));
+    for register in read_by(act) {
         name(counts, register);
     }
-    for operand in super::acts::arguments_of(instr) {
-        name(counts, super::acts::register_of(*operand));
+    for operand in arguments_of(instr) {
+        name(counts, register_of(*operand));
     }
 }

@@ -1,9 +1,9 @@
 // Where a pointer is stepped. It needn't be where its index is: it may lag, and accesses take up by how much.
 use super::finding::Found;
-use super::forms::is_near;
-use super::map::Map;
 use super::parts::growth_of;
-use super::tables::{flag_at, number_at, set_flag, set_number};
+use low_sketches::forms::is_near;
+use low_sketches::map::Map;
+use low_sketches::tables::{flag_at, number_at, set_flag, set_number};
 use low_step_facts::Form;
 use std::alloc::Global;
 use wcc_base::Memory;

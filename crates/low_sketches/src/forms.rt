@@ -1,5 +1,7 @@
 // What else is asked of forms.
+use low_ir::Operand;
 use low_step_facts::Form;
+use rv_core::Alu;
 
 /// A register by itself, and so much more.
 pub fn behind(register: u32, by: u32) -> Form {
@@ -16,7 +18,7 @@ pub fn word_in(form: Form) -> Option<u32> {
 }
 
 /// So many times a form.
-pub fn times(form: Form, factor: u32) -> Option<Form> {
+fn times(form: Form, factor: u32) -> Option<Form> {
     Form::constant(0).plus(factor, form)
 }
 
@@ -52,4 +54,44 @@ pub fn power_of(word: u32) -> Option<u32> {
         }
     }
     None
+}
+
+/// What takes so much away that stands in the instruction.
+pub fn negative(operand: Operand) -> Option<u32> {
+    match operand {
+        Operand::Register(_) => None,
+        Operand::Constant(word) => Some(0u32.wrapping_sub(word)),
+    }
+}
+
+fn product(a: Form, b: Form) -> Option<Form> {
+    match word_in(b) {
+        Some(word) => times(a, word),
+        None => match word_in(a) {
+            None => None,
+            Some(word) => times(b, word),
+        },
+    }
+}
+
+fn difference(a: Form, right: Operand) -> Option<Form> {
+    Some(a.moved(negative(right)?))
+}
+
+fn shifted(a: Form, right: Operand) -> Option<Form> {
+    match right {
+        Operand::Register(_) => None,
+        Operand::Constant(word) => times(a, 1u32.wrapping_shl(word % 32)),
+    }
+}
+
+/// What an operation gives that has this right operand, of these forms of both.
+pub fn operated(operator: Alu, a: Form, b: Form, right: Operand) -> Option<Form> {
+    match operator {
+        Alu::Sum => a.plus(1, b),
+        Alu::Difference => difference(a, right),
+        Alu::Product => product(a, b),
+        Alu::ShiftLeft => shifted(a, right),
+        _ => None,
+    }
 }

@@ -1,12 +1,11 @@
 // Which accesses of a loop a pointer might serve.
-use super::acts::{Act, address_of};
 use super::flow::Flow;
-use super::forms::{has_same_terms, is_near};
-use super::lives::Lives;
 use super::parts::{Parts, Step};
-use super::sketch::{Draft, Line, lines_of};
-use super::words::Words;
 use low_ir::Base;
+use low_sketches::acts::{Act, address_of};
+use low_sketches::forms::{has_same_terms, is_near};
+use low_sketches::sketch::{Draft, Line, lines_of};
+use low_sketches::words::Words;
 use low_step_facts::Form;
 use std::alloc::Global;
 use wcc_base::Memory;
@@ -173,7 +172,7 @@ fn look_through(
     parts.begin();
     for (at, line) in lines_of(looking.drafts, block).iter().enumerate() {
         look_at(looking, parts, found, *line, row, at)?;
-        parts.pass(looking.words, looking.flow.begun(row), line.act)?;
+        parts.pass(looking.words, looking.flow.begun(row), line.act);
     }
     found.steps.push(parts.all_steps(alloc)?)?;
     Ok(())

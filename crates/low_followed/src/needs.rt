@@ -1,10 +1,9 @@
 // Of which registers it has to be known what they hold, so that the new code can be followed.
-use super::acts::{Act, read_by, register_of, written};
-use super::lives::lead_on;
-use super::living::Living;
-use super::sketch::{Draft, Line, Sketch};
-use super::tables::{flag_at, set_flag};
 use low_ir::Operand;
+use low_sketches::acts::{Act, read_by, register_of, written};
+use low_sketches::living::{Living, lead_on};
+use low_sketches::sketch::{Draft, Line, Sketch};
+use low_sketches::tables::{flag_at, set_flag};
 use std::alloc::Global;
 use wcc_base::Memory;
 
@@ -39,27 +38,25 @@ pub struct Needs {
     pub forms: Vec<Vec<u32>>,
 }
 
-fn add_operands(living: &mut Living, act: Act) -> Result<(), Memory> {
+fn add_operands(living: &mut Living, act: Act) {
     for register in read_by(act) {
-        living.add_some(register)?;
+        living.add_some(register);
     }
-    Ok(())
 }
 
 /// A register that is a word stays one where it is stepped.
-fn add_itself(living: &mut Living, act: Act, into: u32) -> Result<(), Memory> {
+fn add_itself(living: &mut Living, act: Act, into: u32) {
     for register in read_by(act) {
         if let Some(register) = register {
             if register == into {
-                living.add(register)?;
+                living.add(register);
             }
         }
     }
-    Ok(())
 }
 
 /// What has to be known where a register that is wanted is written.
-fn add_made(living: &mut Living, act: Act, want: Want) -> Result<(), Memory> {
+fn add_made(living: &mut Living, act: Act, want: Want) {
     match act {
         Act::Set {
             value: Operand::Register(register),
@@ -67,90 +64,73 @@ fn add_made(living: &mut Living, act: Act, want: Want) -> Result<(), Memory> {
         } => living.add(register),
         Act::Operate { into, .. } => {
             if wants_forms(want) {
-                add_operands(living, act)
+                add_operands(living, act);
             } else {
-                add_itself(living, act, into)
+                add_itself(living, act, into);
             }
         }
-        _ => Ok(()),
+        _ => {}
     }
 }
 
 /// By how much a register of a pointer's form is stepped has to be known.
-fn add_step(living: &mut Living, act: Act, into: u32) -> Result<(), Memory> {
+fn add_step(living: &mut Living, act: Act, into: u32) {
     if let Act::Operate { left, right, .. } = act {
         for operand in [left, right] {
             match register_of(operand) {
                 None => {}
                 Some(register) => {
                     if register != into {
-                        living.add(register)?;
+                        living.add(register);
                     }
                 }
             }
         }
     }
-    Ok(())
 }
 
-fn pass_write(living: &mut Living, steps: &[bool], line: Line, want: Want) -> Result<(), Memory> {
+fn pass_write(living: &mut Living, steps: &[bool], line: Line, want: Want) {
     let Some(into) = written(line.act) else {
-        return Ok(());
+        return;
     };
     if living.has(into) {
         living.remove(into);
-        add_made(living, line.act, want)
+        add_made(living, line.act, want);
     } else if wants_forms(want) && flag_at(steps, into as usize) {
-        add_step(living, line.act, into)
-    } else {
-        Ok(())
+        add_step(living, line.act, into);
     }
 }
 
 /// What a new instruction reads as a word.
-fn pass_placed(living: &mut Living, act: Act) -> Result<(), Memory> {
+fn pass_placed(living: &mut Living, act: Act) {
     match act {
         Act::Point { address, .. } => living.add_some(address.offset),
         _ => add_operands(living, act),
     }
 }
 
-fn pass_line(
-    living: &mut Living,
-    steps: &[bool],
-    line: Line,
-    placed: bool,
-    want: Want,
-) -> Result<(), Memory> {
-    pass_write(living, steps, line, want)?;
+fn pass_line(living: &mut Living, steps: &[bool], line: Line, placed: bool, want: Want) {
+    pass_write(living, steps, line, want);
     if placed {
-        pass_placed(living, line.act)?;
+        pass_placed(living, line.act);
     }
     if wants_forms(want) {
-        living.add_some(line.served)?;
+        living.add_some(line.served);
     }
-    Ok(())
 }
 
-fn pass_block(
-    living: &mut Living,
-    steps: &[bool],
-    lists: &[Vec<u32>],
-    draft: &Draft,
-    want: Want,
-) -> Result<(), Memory> {
-    lead_on(living, lists, draft.end)?;
+fn pass_block(living: &mut Living, steps: &[bool], lists: &[Vec<u32>], draft: &Draft, want: Want) {
+    lead_on(living, lists, draft.end);
     if wants_forms(want) {
-        living.add_all(&draft.entered)?;
+        living.add_all(&draft.entered);
     }
     let count = draft.lines.len();
     for back in 0..count {
         let at = count.wrapping_sub(back).wrapping_sub(1);
         if let Some(line) = draft.lines.get(at) {
-            pass_line(living, steps, *line, at >= draft.own, want)?;
+            pass_line(living, steps, *line, at >= draft.own, want);
         }
     }
-    Ok(())
 }
 
 /// The registers in the forms of pointers.
@@ -206,7 +186,7 @@ impl<'a> Wanting<'a> {
         for back in 0..count {
             let block = count.wrapping_sub(back).wrapping_sub(1);
             if let Some(draft) = self.drafts.get(block) {
-                pass_block(living, self.steps, &self.lists, draft, self.want)?;
+                pass_block(living, self.steps, &self.lists, draft, self.want);
                 let new = living.take(alloc)?;
                 if self.set(block, new) {
                     changed = true;

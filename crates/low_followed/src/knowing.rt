@@ -1,8 +1,7 @@
 // What is known of registers as a block goes on, in the way in which the checker finds it.
-use super::acts::{Act, written};
-use super::forms::{behind, word_in};
-use super::parts::{negative, operated};
 use low_ir::Operand;
+use low_sketches::acts::{Act, written};
+use low_sketches::forms::{behind, negative, operated, word_in};
 use low_step_facts::Form;
 use rv_core::Alu;
 use std::alloc::Global;

@@ -1,8 +1,9 @@
 // What registers are in a loop, and what they hold as a block of it goes on.
-use super::acts::{Act, written};
-use super::forms::{behind, times, word_in};
-use super::words::Words;
 use low_ir::Operand;
+use low_sketches::acts::{Act, written};
+use low_sketches::forms::{behind, negative, operated};
+use low_sketches::tables::{number_at, set_number};
+use low_sketches::words::Words;
 use low_step_facts::Form;
 use rv_core::Alu;
 use std::alloc::Global;
@@ -42,24 +43,18 @@ pub struct Parts {
     held: Vec<Held>,
     steps: Vec<Step>,
     visit: u64,
-    /// The registers that the loop writes.
-    pub touched: Vec<u32>,
+    /// The registers that the loop writes, so many at the beginning of the list.
+    touched: Vec<u32>,
+    writes: usize,
     /// Those that the block has stepped.
     stepped: Vec<u32>,
+    moves: usize,
 }
 
 fn part_at(parts: &[Part], register: u32) -> Part {
     match parts.get(register as usize) {
         None => Part::Other,
         Some(part) => *part,
-    }
-}
-
-/// What takes so much away that stands in the instruction.
-pub fn negative(operand: Operand) -> Option<u32> {
-    match operand {
-        Operand::Register(_) => None,
-        Operand::Constant(word) => Some(0u32.wrapping_sub(word)),
     }
 }
 
@@ -103,38 +98,6 @@ pub fn step_of(words: &Words, act: Act) -> Option<u32> {
     }
 }
 
-fn product(a: Form, b: Form) -> Option<Form> {
-    match word_in(b) {
-        Some(word) => times(a, word),
-        None => match word_in(a) {
-            None => None,
-            Some(word) => times(b, word),
-        },
-    }
-}
-
-fn difference(a: Form, right: Operand) -> Option<Form> {
-    Some(a.moved(negative(right)?))
-}
-
-fn shifted(a: Form, right: Operand) -> Option<Form> {
-    match right {
-        Operand::Register(_) => None,
-        Operand::Constant(word) => times(a, 1u32.wrapping_shl(word % 32)),
-    }
-}
-
-/// What an operation gives that has this right operand, of these forms of both.
-pub fn operated(operator: Alu, a: Form, b: Form, right: Operand) -> Option<Form> {
-    match operator {
-        Alu::Sum => a.plus(1, b),
-        Alu::Difference => difference(a, right),
-        Alu::Product => product(a, b),
-        Alu::ShiftLeft => shifted(a, right),
-        _ => None,
-    }
-}
-
 impl Parts {
     /// Tables for so many registers, of which none is written.
     pub fn new(alloc: Global, registers: u32) -> Result<Parts, Memory> {
@@ -154,47 +117,48 @@ impl Parts {
             held: vec![in alloc; held; registers]?,
             steps: vec![in alloc; step; registers]?,
             visit: 0,
-            touched: Vec::new(alloc),
-            stepped: Vec::new(alloc),
+            touched: vec![in alloc; 0u32; registers]?,
+            writes: 0,
+            stepped: vec![in alloc; 0u32; registers]?,
+            moves: 0,
         })
     }
 
+    fn touch(&mut self, register: u32) {
+        if let Part::Stays = part_at(&self.parts, register) {
+            set_number(&mut self.touched, self.writes, register);
+            self.writes = self.writes.wrapping_add(1);
+        }
+    }
+
     /// An instruction of the loop writes.
-    pub fn note(&mut self, words: &Words, act: Act) -> Result<(), Memory> {
-        let Some(into) = written(act) else {
-            return Ok(());
-        };
-        let old = part_at(&self.parts, into);
-        if let Part::Stays = old {
-            self.touched.push(into)?;
-        }
-        let new = match old {
-            Part::Other => Part::Other,
-            _ => {
-                if step_of(words, act).is_some() && words.is_word(into) {
-                    Part::Steps
-                } else {
-                    Part::Other
-                }
+    pub fn note(&mut self, words: &Words, act: Act) {
+        if let Some(into) = written(act) {
+            self.touch(into);
+            let steps = step_of(words, act).is_some() && words.is_word(into);
+            let new = if steps && !self.is_other(into) {
+                Part::Steps
+            } else {
+                Part::Other
+            };
+            if let Some(part) = self.parts.get_mut(into as usize) {
+                *part = new;
             }
-        };
-        if let Some(part) = self.parts.get_mut(into as usize) {
-            *part = new;
         }
-        Ok(())
     }
 
     /// Nothing is written any more.
     pub fn leave(&mut self) {
-        for register in &self.touched {
-            if let Some(part) = self.parts.get_mut(*register as usize) {
+        for at in 0..self.writes {
+            let register = number_at(&self.touched, at) as usize;
+            if let Some(part) = self.parts.get_mut(register) {
                 *part = Part::Stays;
             }
-            if let Some(rank) = self.ranks.get_mut(*register as usize) {
+            if let Some(rank) = self.ranks.get_mut(register) {
                 *rank = None;
             }
         }
-        self.touched.clear();
+        self.writes = 0;
     }
 
     pub fn is_other(&self, register: u32) -> bool {
@@ -227,7 +191,7 @@ impl Parts {
     /// A block begins.
     pub fn begin(&mut self) {
         self.visit = self.visit.wrapping_add(1);
-        self.stepped.clear();
+        self.moves = 0;
     }
 
     /// How much the block has added to a register.
@@ -238,32 +202,34 @@ impl Parts {
         }
     }
 
-    fn grow(&mut self, register: u32, by: u32) -> Result<(), Memory> {
+    fn has_grown(&self, register: u32) -> bool {
+        match self.steps.get(register as usize) {
+            None => true,
+            Some(step) => step.visit == self.visit,
+        }
+    }
+
+    fn grow(&mut self, register: u32, by: u32) {
+        if !self.has_grown(register) {
+            set_number(&mut self.stepped, self.moves, register);
+            self.moves = self.moves.wrapping_add(1);
+        }
+        let by = self.grown(register).wrapping_add(by);
         let visit = self.visit;
-        let mut first = false;
         if let Some(step) = self.steps.get_mut(register as usize) {
-            if step.visit == visit {
-                step.by = step.by.wrapping_add(by);
-            } else {
-                first = true;
-                *step = Step {
-                    visit,
-                    register,
-                    by,
-                };
-            }
+            *step = Step {
+                visit,
+                register,
+                by,
+            };
         }
-        if first {
-            self.stepped.push(register)?;
-        }
-        Ok(())
     }
 
     /// What the block has stepped.
     pub fn all_steps(&self, alloc: Global) -> Result<Vec<Step>, Memory> {
         let mut all = Vec::new(alloc);
-        for register in &self.stepped {
-            if let Some(step) = self.steps.get(*register as usize) {
+        for at in 0..self.moves {
+            if let Some(step) = self.steps.get(number_at(&self.stepped, at) as usize) {
                 all.push(*step)?;
             }
         }
@@ -321,23 +287,25 @@ impl Parts {
         }
     }
 
-    /// The block goes on by an instruction.
-    pub fn pass(&mut self, words: &Words, begun: &[Option<Form>], act: Act) -> Result<(), Memory> {
-        let Some(into) = written(act) else {
-            return Ok(());
-        };
-        if self.is_step(into) {
-            return match step_of(words, act) {
-                None => Ok(()),
-                Some(by) => self.grow(into, by),
-            };
-        }
-        let form = self.value_of(words, begun, act);
+    fn hold(&mut self, register: u32, form: Option<Form>) {
         let visit = self.visit;
-        if let Some(held) = self.held.get_mut(into as usize) {
+        if let Some(held) = self.held.get_mut(register as usize) {
             *held = Held { visit, form };
         }
-        Ok(())
+    }
+
+    /// The block goes on by an instruction.
+    pub fn pass(&mut self, words: &Words, begun: &[Option<Form>], act: Act) {
+        if let Some(into) = written(act) {
+            if self.is_step(into) {
+                if let Some(by) = step_of(words, act) {
+                    self.grow(into, by);
+                }
+            } else {
+                let form = self.value_of(words, begun, act);
+                self.hold(into, form);
+            }
+        }
     }
 
     /// A form by what registers hold now.

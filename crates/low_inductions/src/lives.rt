@@ -1,9 +1,9 @@
 // Which registers are live where, and which instructions nothing needs.
-use super::acts::{is_pure, nexts, read_at, read_by, register_of, written};
-use super::living::Living;
-use super::sketch::{Draft, Line, Sketch, arguments_at};
-use super::tables::{list_at, set_number};
-use low_ir::{End, Function};
+use low_ir::Function;
+use low_sketches::acts::{is_pure, read_at, read_by, register_of, written};
+use low_sketches::living::{Living, lead_on};
+use low_sketches::sketch::{Draft, Line, Sketch, arguments_at};
+use low_sketches::tables::set_number;
 use std::alloc::Global;
 use wcc_base::Memory;
 
@@ -34,37 +34,15 @@ fn is_needed(living: &Living, line: Line) -> bool {
 }
 
 /// What is live before an instruction that is needed.
-fn pass(
-    living: &mut Living,
-    function: &Function,
-    line: Line,
-    place: (usize, usize),
-) -> Result<(), Memory> {
+fn pass(living: &mut Living, function: &Function, line: Line, place: (usize, usize)) {
     if let Some(into) = written(line.act) {
         living.remove(into);
     }
     for register in read_by(line.act) {
-        living.add_some(register)?;
+        living.add_some(register);
     }
     for operand in arguments_at(function, place.0, place.1) {
-        living.add_some(register_of(*operand))?;
-    }
-    Ok(())
-}
-
-/// What is live behind the code of a block.
-pub fn lead_on(living: &mut Living, lists: &[Vec<u32>], end: End) -> Result<(), Memory> {
-    for next in nexts(end) {
-        if let Some(next) = next {
-            living.add_all(list_at(lists, next as usize))?;
-        }
-    }
-    Ok(())
-}
-
-fn set_dead(draft: &mut Draft, at: usize, dead: bool) {
-    if let Some(line) = draft.lines.get_mut(at) {
-        line.dead = dead;
+        living.add_some(register_of(*operand));
     }
 }
 
@@ -76,25 +54,21 @@ impl Lives {
         function: &Function,
         draft: &mut Draft,
         block: usize,
-    ) -> Result<(), Memory> {
-        lead_on(living, &self.registers, draft.end)?;
+    ) {
+        lead_on(living, &self.registers, draft.end);
         for register in read_at(draft.end) {
-            living.add_some(register)?;
+            living.add_some(register);
         }
-        let count = draft.lines.len();
-        for back in 0..count {
-            let at = count.wrapping_sub(back).wrapping_sub(1);
-            if let Some(line) = draft.lines.get(at) {
-                let line = *line;
-                let needed = is_needed(living, line);
+        for at in (0..draft.lines.len()).rev() {
+            if let Some(line) = draft.lines.get_mut(at) {
+                let needed = is_needed(living, *line);
                 if needed {
-                    pass(living, function, line, (block, at))?;
+                    pass(living, function, *line, (block, at));
                 }
-                set_dead(draft, at, !needed);
+                line.dead = !needed;
             }
         }
         set_number(&mut self.most, block, living.most());
-        Ok(())
     }
 
     /// Whether a block has more now.
@@ -122,7 +96,7 @@ impl Lives {
         for back in 0..count {
             let block = count.wrapping_sub(back).wrapping_sub(1);
             if let Some(draft) = sketch.drafts.get_mut(block) {
-                self.pass_block(living, function, draft, block)?;
+                self.pass_block(living, function, draft, block);
                 let new = living.take(alloc)?;
                 all = all.saturating_add(new.len());
                 if self.set(block, new) {

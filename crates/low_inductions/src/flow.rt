@@ -1,12 +1,12 @@
 // What registers hold at the beginnings of the blocks of a loop: an optimistic analysis of linear forms.
-use super::acts::nexts;
-use super::forms::is_same;
 use super::lives::Lives;
 use super::parts::Parts;
-use super::sketch::{Draft, end_of, lines_of};
-use super::tables::list_at;
-use super::words::Words;
 use low_ir::Loop;
+use low_sketches::acts::nexts;
+use low_sketches::forms::is_same;
+use low_sketches::sketch::{Draft, end_of, lines_of};
+use low_sketches::tables::{flag_at, list_at, set_flag};
+use low_sketches::words::Words;
 use low_step_facts::Form;
 use std::alloc::Global;
 use wcc_base::Memory;
@@ -124,13 +124,13 @@ impl Flow {
     }
 
     pub fn is_seen(&self, row: usize) -> bool {
-        super::tables::flag_at(&self.seen, row)
+        flag_at(&self.seen, row)
     }
 
     /// A way leads to a block with these forms.
     fn lead_to(&mut self, row: usize, new: &[Option<Form>]) -> bool {
         let first = !self.is_seen(row);
-        super::tables::set_flag(&mut self.seen, row, true);
+        set_flag(&mut self.seen, row, true);
         match self.forms.get_mut(row) {
             None => false,
             Some(old) => {
@@ -175,7 +175,7 @@ impl Flow {
         let block = self.first.wrapping_add(row);
         parts.begin();
         for line in lines_of(drafts, block) {
-            parts.pass(words, self.begun(row), line.act)?;
+            parts.pass(words, self.begun(row), line.act);
         }
         let forms = behind_block(alloc, parts, self.begun(row), &self.crossing)?;
         Ok(self.lead_on(block, drafts, &forms))

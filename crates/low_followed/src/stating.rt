@@ -1,11 +1,11 @@
 // What is known as blocks begin, wherever that is wanted.
-use super::acts::{nexts, written};
-use super::forms::{behind, is_same};
 use super::knowing::Knowing;
 use super::needs::Needs;
-use super::sketch::{Draft, Pointer, Sketch, end_of, lines_of};
-use super::tables::{flag_at, list_at, set_flag};
 use low_ir::{End, Function, Loop};
+use low_sketches::acts::{nexts, written};
+use low_sketches::forms::{behind, is_same};
+use low_sketches::sketch::{Draft, Pointer, Sketch, end_of, lines_of};
+use low_sketches::tables::{flag_at, list_at, set_flag};
 use low_step_facts::{Fact, Form, Origin};
 use std::alloc::Global;
 use wcc_base::Memory;
@@ -201,10 +201,12 @@ fn says_more(register: u32, form: Form) -> bool {
     !form.has(register)
 }
 
-fn fact_of(register: u32, form: Form) -> Fact {
+/// Where a register must be a word, that is said; else it follows from what is done with it.
+fn fact_of(register: u32, form: Form, must: bool) -> Fact {
+    let origin = if must { Origin::Word } else { Origin::Any };
     Fact {
         register,
-        origin: Origin::Word,
+        origin,
         form,
     }
 }
@@ -242,7 +244,7 @@ impl Stated {
                 }
                 Some(form) => {
                     if must || says_more(*register, form) {
-                        facts.push(fact_of(*register, form))?;
+                        facts.push(fact_of(*register, form, must))?;
                     }
                 }
             }
