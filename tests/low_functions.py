@@ -49,6 +49,16 @@ class Function:
         places = list(self.places(register))
         return (places[0], places[-1]) if places else None
 
+    def takes(self):
+        """The place of each call, and of what the environment performs, and the register of its value."""
+        place = 0
+        for code, _ in self.blocks:
+            for text, _, writes in code:
+                if text.startswith(("call ", "put ", "get ")):
+                    yield place, writes
+                place += 1
+            place += 1
+
     def calls(self):
         """The place of each call, and the register of its value."""
         place = 0

@@ -13,7 +13,7 @@ use Rattle.low_ir.specs.Places.{Placed, no_placing}
 use Rattle.low_ir.specs.Placings.{placings_of, assignment_of, placed_of}
 use Rattle.low_ir.specs.Programs.{low_of}
 use Rattle.asm_program.specs.Functions.{PlacedFunction, no_function, function_in}
-use Rattle.asm_program.specs.Ranges.{IsRegister, InProgram}
+use Rattle.asm_program.specs.Ranges.{IsLasting, InProgram}
 use Rattle.asm_sound.proofs.Programs as sound
 use Rattle.asm_emission.specs.declared.placed.PlacedOperand.{PlacedOperand}
 use Rattle.asm_emission.specs.View.{operand_of, place_at}
@@ -32,8 +32,8 @@ pub parameters-none : (code : LowReg) (f n : ℕ) → slice_get code.low.functio
 parameters-none code f n e =
     sym (ap (λ (fn : PlacedFunction). take n fn.parameters) (none_at (assignment_of code) 0 (low_of code.low).functions f no_function (map-none function_of code.low.functions.items f e)) ∙ take-none n)
 
-pub parameters-there : (p : Placed) (callee n : ℕ) (places : List Place) → InProgram p → places ≡ take n (function_in p callee).parameters → All IsRegister places
-parameters-there p callee n places h e = subst (All IsRegister) (sym e) (All-take IsRegister n (function_in p callee).parameters (sound.function_at p.functions callee h).0)
+pub parameters-there : (p : Placed) (callee n : ℕ) (places : List Place) → InProgram p → places ≡ take n (function_in p callee).parameters → All IsLasting places
+parameters-there p callee n places h e = subst (All IsLasting) (sym e) (All-take IsLasting n (function_in p callee).parameters (sound.function_at p.functions callee h).0)
 
 pub few : (p : Placed) (callee n : ℕ) (places : List Place) (xs : List PlacedOperand) (args : List (Operand Place)) → places ≡ take n (function_in p callee).parameters → map operand_of xs ≡ args → n ≡ length args → length places ≤ length xs
 few p callee n places xs args e h k =

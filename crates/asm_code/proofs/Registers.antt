@@ -1,7 +1,8 @@
 -- The places of a program's registers are among those of the machine.
-use Rattle.std.proofs.Common.{◌≡◌, ℕ, suc, ◌+◌, ◌<◌, true, List, [], ◌∷◌, ◌++◌, length, map, All, Option, Some, None, option_map, refl, sym, subst, arith}
+use Rattle.std.proofs.Common.{◌≡◌, ℕ, suc, ◌+◌, ◌<◌, true, List, [], ◌∷◌, ◌++◌, length, map, All, Option, Some, None, option_map, refl, sym, subst, arith, inl, inr}
 use Rattle.std.specs.Prelude.{slice_get}
 use Rattle.std.specs.Option.{option_to_list}
+use Rattle.std.proofs.lemmas.Bool.{ltb-true}
 use Rattle.std.proofs.lemmas.Bool.Decides.{nat_tests}
 use Rattle.std.proofs.lemmas.List.Elements.{All-cons, All-head, All-nil, All-tail}
 use Rattle.low_ir.specs.declared.places.Place.{Place}
@@ -9,21 +10,29 @@ use Rattle.low_ir.specs.declared.places.Place.TheVariants.{Register as InRegiste
 use Rattle.low_ir.specs.Code.{Operand, Register, Constant, Base, Fixed, Through, Plain, Set, Operate, Point, Load, Store, Put, Get, Instr, Do, Call, End, Jump, Branch, Return, Block, Function, Note, Low}
 use Rattle.low_ir.specs.Effects.{base_reads, offset_reads, address_reads, reads, dest}
 use Rattle.low_ir.specs.Formed.{registers_in, end_reads, RegistersWithin, UsesRegisters, IsLow}
-use Rattle.low_ir.specs.Places.{Assignment, place_operand, place_base, place_plain, place_end, place_instr, place_code, place_block, place_blocks, place_function, place_functions, placed}
+use Rattle.low_ir.specs.Live.{Has}
+use Rattle.low_ir.specs.Places.{Assignment, is_lasting, machine_registers, place_operand, place_base, place_plain, place_end, place_instr, place_code, place_block, place_blocks, place_function, place_functions, placed}
 use Rattle.low_ir.specs.Spacing.{is_inside, IsAssignment}
-use Rattle.asm_program.specs.Ranges.{IsRegister, InOperand, InBase, InPlain, InInstr, InEnd, InBlock, InFunction, InProgram}
+use Rattle.asm_program.specs.Ranges.{IsLasting, IsRegister, InOperand, InBase, InPlain, InInstr, InEnd, InBlock, InFunction, InProgram}
 
 inside_is : (slots : ℕ) (p : Place) → is_inside slots p ≡ true → IsRegister p
 inside_is slots (InRegister q) h = grind (arith, nat_tests)
 inside_is slots (Slot k) h = tt
 
+lasting_is : (p : Place) → is_lasting p ≡ true → IsLasting p
+lasting_is (InRegister q) h = ltb-true q machine_registers h
+lasting_is (Slot k) h = tt
+
+-- parameters can hold values over calls
+all_last : (pl : ℕ → Place) (size : ℕ) (vs : List ℕ) → All (λ v. v < size) vs → ((v : ℕ) → v < size → Has v vs → is_lasting (pl v) ≡ true) → All IsLasting (map pl vs)
+all_last pl size [] h last = All-nil IsLasting
+all_last pl size (v ∷ vs) h last =
+    All-cons IsLasting (pl v) (map pl vs) (lasting_is (pl v) (last v (All-head (λ w. w < size) v vs h) (inl refl)))
+    (all_last pl size vs (All-tail (λ w. w < size) v vs h) (λ w less has. last w less (inr has)))
+
 module _ (pl : ℕ → Place) (size : ℕ) (there : (v : ℕ) → v < size → IsRegister (pl v)) where
   abbrev Below : ℕ → Type 0
   Below v = v < size
-
-  all_places : (vs : List ℕ) → All Below vs → All IsRegister (map pl vs)
-  all_places [] h = All-nil IsRegister
-  all_places (v ∷ vs) h = All-cons IsRegister (pl v) (map pl vs) (there v (All-head Below v vs h)) (all_places vs (All-tail Below v vs h))
 
   some_place : (d : Option ℕ) → All Below (option_to_list d) → All IsRegister (option_to_list (option_map pl d))
   some_place None h = All-nil IsRegister
@@ -99,4 +108,4 @@ module _ (a : Assignment) where
       let h = ok.functions f fn e in
       let k = fits f fn e in
       let there = λ (v : ℕ) (less : v < fn.size). inside_is (a.slots f) (a.place f v) (k.inside v less) in
-      subst (λ i. InFunction (place_function a i fn)) (sym n) (all_places (a.place f) fn.size there fn.parameters h.parameters, blocks_there (a.place f) fn.size there (a.kept f) 0 fn.blocks h.registers))
+      subst (λ i. InFunction (place_function a i fn)) (sym n) (all_last (a.place f) fn.size fn.parameters h.parameters k.passed, blocks_there (a.place f) fn.size there (a.kept f) 0 fn.blocks h.registers))

@@ -5,7 +5,7 @@ use Rattle.low_ir.specs.Code.{Operand}
 use Rattle.low_ir.specs.Places.{Placed}
 use Rattle.asm_program.specs.Emission.{kept_among}
 use Rattle.asm_program.specs.Functions.{function_in}
-use Rattle.asm_program.specs.Ranges.{IsRegister, InOperand}
+use Rattle.asm_program.specs.Ranges.{IsLasting, InOperand}
 use Rattle.asm_emission.specs.View.{operand_of}
 use Rattle.asm_code.specs.declared.passed.Passing.{Passing}
 
@@ -17,7 +17,7 @@ pub record Passes (p : Placed) (callee : ℕ) (args : List (Operand Place)) (not
 
 -- places and operands are in their ranges, and no more places than operands
 pub record IsPassing (passing : Passing) : Type 0 where
-  pub registers : All IsRegister passing.places.items
+  pub registers : All IsLasting passing.places.items
   pub operands : All InOperand (map operand_of passing.arguments.items)
   pub below : All (λ q. q < 24) passing.kept.items
   pub few : length passing.places.items ≤ length passing.arguments.items

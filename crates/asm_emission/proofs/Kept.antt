@@ -9,7 +9,7 @@ use Rattle.low_ir.specs.declared.places.Place.TheVariants.{Register as InRegiste
 use Rattle.low_ir.specs.Effects.{is_member}
 use Rattle.low_ir.specs.Places.{registers_of}
 use Rattle.asm_program.specs.Emission.{kept_among}
-use Rattle.asm_program.specs.Ranges.{IsRegister}
+use Rattle.asm_program.specs.Ranges.{IsLasting}
 use Rattle.asm_sound.proofs.Calls.{Below, kept_below}
 use Rattle.asm_emission.proofs.Passing.{drop-next}
 
@@ -61,7 +61,7 @@ kept-step old new start places k d note less e h =
     ∙ h
 
 -- what is kept of places is below 24
-pub kept-small : (xs rest : List ℕ) (places : List Place) (note : List ℕ) → xs ++ rest ≡ kept_among places note → All IsRegister places → All Below xs
+pub kept-small : (xs rest : List ℕ) (places : List Place) (note : List ℕ) → xs ++ rest ≡ kept_among places note → All IsLasting places → All Below xs
 kept-small xs rest places note e h k d less =
     let all = subst (All Below) (sym e) (kept_below places note h) in
     let longer = length-append xs rest in

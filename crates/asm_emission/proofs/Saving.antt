@@ -1,6 +1,7 @@
 -- The words of the registers that a function saves.
 use Rattle.std.proofs.Common.{◌≡◌, ℕ, ◌+◌, ◌*◌, ◌<◌, ◌≤◌, ℤ, Bool, true, false, List, [], ◌∷◌, ◌++◌, length, get_or, refl, sym, ap, ◌∙◌, subst, arith, length-append, if◌then◌else◌}
 use Rattle.rv_core.specs.Instructions.{Instruction}
+use Rattle.low_ir.specs.Places.{result_register}
 use Rattle.asm_program.specs.Numbers.{machine_register, is_near, load_word, store_word}
 use Rattle.asm_program.specs.Frames.{Frame, position, saved_at}
 use Rattle.asm_program.specs.Functions.{is_frame_near, frame_register, frame_offset, frame_code, link_load, loads, saves_nothing, exit_code}
@@ -14,8 +15,8 @@ module _ (fr : Frame) (few : AreFew fr.saved fr.homes) (xs : List ℕ) (e : xs �
       let same = ap length e in
       subst (Saved fr) (ap (λ l. get_or l k 0) (sym e)) (all_saved fr (few.registers, few.saved_few) k 0 (omega arith))
 
-  pub below : get_or xs k 0 < 24
-  below = saved.below
+  pub below : get_or xs k 0 ≤ result_register
+  below = let small = saved.below in omega (arith, small)
 
   pub within : saved_at fr (get_or xs k 0) ≤ fr.at + 96
   within = let place = saved.place in let most = few.saved_few in omega arith

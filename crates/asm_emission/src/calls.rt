@@ -5,7 +5,7 @@ ghost use Rattle.low_ir.specs.Effects.{is_member};
 ghost use Rattle.low_ir.specs.Places.{machine_registers, registers_of};
 ghost use Rattle.asm_program.specs.Emission.{reads_register, registers_among, is_once, kept_among, home_code, return_code, pass_code, late_code, value_code};
 ghost use Rattle.asm_program.specs.Functions.{singles};
-ghost use Rattle.asm_program.specs.Ranges.{IsRegister, InOperand};
+ghost use Rattle.asm_program.specs.Ranges.{IsLasting, IsRegister, InOperand};
 ghost use Rattle.asm_emission.specs.View.{operand_of};
 ghost use Rattle.asm_emission.specs.Passing.{is_in, goes_at_once, argument_code, passed_code, loaded_code};
 
@@ -128,7 +128,7 @@ fn emit_passed(
     passed: (PlacedOperand, Place),
 ) -> Result<(), Memory>
     requires argument { InOperand (operand_of passed.0) }
-    requires place { IsRegister passed.1 }
+    requires place { IsLasting passed.1 }
     ensures { OnOk result (code.new.items ≡ code.old.items ++ singles (passed_code frame.now callee.now direct (operand_of passed.0) passed.1)) }
 {
     let (argument, place) = passed;
@@ -151,7 +151,7 @@ fn emit_loaded(
     direct: bool,
     place: Place,
 ) -> Result<(), Memory>
-    requires { IsRegister place }
+    requires { IsLasting place }
     ensures { OnOk result (code.new.items ≡ code.old.items ++ singles (loaded_code frame.now callee.now direct place)) }
 {
     match place {
@@ -174,7 +174,7 @@ pub fn emit_pass(
     places: &[Place],
 ) -> Result<(), Memory>
     requires arguments { All InOperand (map operand_of arguments.now) }
-    requires places { All IsRegister places.now }
+    requires places { All IsLasting places.now }
     requires few { length places.now ≤ length arguments.now }
     ensures { OnOk result (code.new.items ≡ code.old.items ++ singles (pass_code frame.now callee.now places.now (map operand_of arguments.now) places.now)) }
 {
@@ -193,7 +193,7 @@ pub fn emit_late(
     arguments: &[PlacedOperand],
     places: &[Place],
 ) -> Result<(), Memory>
-    requires places { All IsRegister places.now }
+    requires places { All IsLasting places.now }
     requires few { length places.now ≤ length arguments.now }
     ensures { OnOk result (code.new.items ≡ code.old.items ++ singles (late_code frame.now callee.now places.now (map operand_of arguments.now) places.now)) }
 {
@@ -224,7 +224,7 @@ fn is_kept(mask: u32, register: u8) -> bool
 }
 
 fn put_kept(kept: &mut Vec<u8>, mask: u32, place: Place) -> Result<(), Memory>
-    requires { IsRegister place }
+    requires { IsLasting place }
     ensures { OnOk result (kept.new.items ≡ kept.old.items ++ kept_among (place ∷ []) (registers_of machine_registers mask)) }
 {
     match place {
@@ -241,7 +241,7 @@ fn put_kept(kept: &mut Vec<u8>, mask: u32, place: Place) -> Result<(), Memory>
 
 /// The registers in which a call passes arguments, and that it keeps, which are those of a mask.
 pub fn kept_among(alloc: Global, mask: u32, places: &[Place]) -> Result<Vec<u8>, Memory>
-    requires { All IsRegister places.now }
+    requires { All IsLasting places.now }
     ensures value { IfOk result (λ kept. kept.items ≡ kept_among places.now (registers_of machine_registers mask)) }
     ensures below { IfOk result (λ kept. All (λ q. q < 24) kept.items) }
 {

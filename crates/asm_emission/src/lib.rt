@@ -5,7 +5,7 @@
 //! before and behind a call, `entries` how a function begins and returns, and `starts` the start code.
 //!
 //! Proved: each of them makes the code that `asm_program` defines, for any frames and addresses of arrays, or memory ran
-//! out. Places that are registers are to be among the 24 that hold values. The time is linear in the code, but that a
+//! out. Places that are registers are to be among those that hold values. The time is linear in the code, but that a
 //! call passes an argument in one of those registers only after a look at its later ones.
 //!
 //! The crate knows no program, and no addresses of code.

@@ -1,5 +1,6 @@
 // Machine registers, and words and addresses in the immediates of instructions.
-ghost use Rattle.std.specs.Prelude.{◌≡◌, ◌+◌, ◌<◌, ◌^◌, true, IsTrue};
+ghost use Rattle.std.specs.Prelude.{◌≡◌, ◌+◌, ◌<◌, ◌≤◌, ◌^◌, true, IsTrue};
+ghost use Rattle.low_ir.specs.Places.{result_register};
 ghost use Rattle.rv_core.specs.Instructions.{is_within};
 ghost use Rattle.asm_program.specs.Numbers.{machine_register, is_near, is_beside, is_reached, is_short, upper_of, lower_of, reach_register, reach_offset, object_register, object_offset};
 
@@ -20,9 +21,9 @@ pub const FIRST_FREE: u8 = 5;
 /// Free for a moment: for what is added to an address, or a right operand.
 pub const SECOND_FREE: u8 = 6;
 
-/// The machine register of a number below 24.
+/// The machine register of a number up to 24, which is that of x10.
 pub fn machine_register(register: u8) -> u8
-    requires { register < 24 }
+    requires { register ≤ result_register }
     ensures value { result ≡ machine_register register }
     ensures small { result < 32 }
 {
@@ -32,6 +33,8 @@ pub fn machine_register(register: u8) -> u8
         register + 6
     } else if register < 10 {
         register + 7
+    } else if register == 24 {
+        RESULT
     } else {
         register + 8
     }

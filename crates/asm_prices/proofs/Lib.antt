@@ -7,3 +7,10 @@ pub mod ValueLemmas
 pub mod TurnLemmas
 pub mod PaidLemmas
 pub mod BoundLemmas
+pub mod LongLemmas
+pub mod WeightLemmas
+pub mod WorthLemmas
+pub mod CountLemmas
+pub mod ReachLemmas
+pub mod ProgramValueLemmas
+pub mod ChosenLemmas

@@ -3,9 +3,10 @@ use Rattle.std.specs.Prelude.{ℕ, ◌+◌, ◌*◌, ◌/◌, ◌%◌, ◌^◌, 
 use Rattle.wcc_base.specs.Signs.{signed_of}
 use Rattle.rv_core.specs.declared.op.Op.TheVariants.{Lw, Sw}
 use Rattle.rv_core.specs.Instructions.{Instruction, instruction, addi, lui}
+use Rattle.low_ir.specs.Places.{result_register}
 
 -- x0 is zero, x1 the return address, x3 and x7 are the bases, x10 and x17 are those of environment calls, x5 and x6 are free for a
--- moment, and the other 24 hold values
+-- moment, and the other 24 hold values; so does x10, until the next call
 
 abbrev pub link : ℕ
 link = 1
@@ -30,9 +31,9 @@ first_free = 5
 abbrev pub second_free : ℕ
 second_free = 6
 
--- the machine register of a number below 24
+-- the machine register of a number; x10 is that of 24, which is no other's
 abbrev pub machine_register : ℕ → ℕ
-machine_register q = if nat_lt q 2 then 2 * q + 2 else (if nat_lt q 4 then q + 6 else (if nat_lt q 10 then q + 7 else q + 8))
+machine_register q = if nat_lt q 2 then 2 * q + 2 else (if nat_lt q 4 then q + 6 else (if nat_lt q 10 then q + 7 else (if q == result_register then result else q + 8)))
 
 -- RAM, and the address that x3 holds: what lies less than 2048 bytes from it is one instruction away
 abbrev pub ram : ℕ

@@ -4,14 +4,19 @@ use Rattle.std.specs.Option.{option_to_list}
 use Rattle.low_ir.specs.declared.places.Place.{Place}
 use Rattle.low_ir.specs.declared.places.Place.TheVariants.{Register as InRegister, Slot}
 use Rattle.low_ir.specs.Code.{Operand, Register, Constant, Base, Fixed, Through, Address, Plain, Set, Operate, Point, Load, Store, Put, Get, Instr, Do, Call, End, Jump, Branch, Return}
-use Rattle.low_ir.specs.Places.{Placed}
+use Rattle.low_ir.specs.Places.{Placed, machine_registers, result_register}
 use Rattle.asm_program.specs.Frames.{Frame, Memory}
 use Rattle.asm_program.specs.Functions.{PlacedBlock, PlacedFunction}
 
--- one of the 24 registers that hold values
+-- a register that holds values, x10 among them
 abbrev pub IsRegister : Place → Type 0
-IsRegister (InRegister q) = q < 24
+IsRegister (InRegister q) = q ≤ result_register
 IsRegister (Slot k) = Unit {0}
+
+-- one that can hold them over calls
+abbrev pub IsLasting : Place → Type 0
+IsLasting (InRegister q) = q < machine_registers
+IsLasting (Slot k) = Unit {0}
 
 abbrev pub InOperand : Operand Place → Type 0
 InOperand (Register p) = IsRegister p
@@ -46,7 +51,7 @@ abbrev pub InBlock : PlacedBlock → Type 0
 InBlock b = All InInstr b.code × InEnd b.end
 
 abbrev pub InFunction : PlacedFunction → Type 0
-InFunction fn = All IsRegister fn.parameters × All InBlock fn.blocks
+InFunction fn = All IsLasting fn.parameters × All InBlock fn.blocks
 
 abbrev pub InProgram : Placed → Type 0
 InProgram p = All InFunction p.functions

@@ -3,3 +3,7 @@ pub mod Operands
 pub mod Instructions
 pub mod Calls
 pub mod Programs
+pub mod LongLemmas
+pub mod EmissionLemmas
+pub mod SizeLemmas
+pub mod FunctionLemmas

@@ -1,5 +1,5 @@
 -- The code of operands and addresses keeps its ranges.
-use Rattle.std.proofs.Common.{◌≡◌, ℕ, ◌+◌, ◌*◌, ◌%◌, ◌^◌, ◌<◌, ◌==◌, pos, Bool, true, false, [], ◌∷◌, ◌++◌, Option, Some, None, All, refl, arith, if◌then◌else◌}
+use Rattle.std.proofs.Common.{◌≡◌, ◌≢◌, ℕ, ◌+◌, ◌*◌, ◌%◌, ◌^◌, ◌<◌, ◌≤◌, ◌==◌, pos, Bool, true, false, [], ◌∷◌, ◌++◌, Option, Some, None, All, refl, arith, if◌then◌else◌}
 use Rattle.std.specs.Prelude.{nat_lt}
 use Rattle.std.specs.Option.{option_to_list}
 use Rattle.std.proofs.lemmas.Bool.{and_from, lt-ltb}
@@ -12,20 +12,25 @@ use Rattle.asm_forms.proofs.FitLemmas.{rows-append}
 use Rattle.low_ir.specs.declared.places.Place.{Place}
 use Rattle.low_ir.specs.declared.places.Place.TheVariants.{Register as InRegister, Slot}
 use Rattle.low_ir.specs.Code.{Operand, Register, Constant, Base, Fixed, Through, Address}
-use Rattle.asm_program.specs.Numbers.{first_free, second_free, machine_register, reach_code, reach_register, reach_offset, object_code, object_register, constant_code, load_word, store_word, is_short, load_upper}
+use Rattle.low_ir.specs.Places.{machine_registers, result_register}
+use Rattle.asm_program.specs.Numbers.{result, first_free, second_free, machine_register, reach_code, reach_register, reach_offset, object_code, object_register, constant_code, load_word, store_word, is_short, load_upper}
 use Rattle.asm_program.specs.Frames.{Frame, Memory, slot_at, object_at}
 use Rattle.asm_program.specs.Operands.{load_code, store_code, place_register, fetch_code, operand_register, operand_code, into_code, result_code, put_code, offset_code, offset_register, far_code, far_register, code_to, register_to, offset_to, address_code, address_register, address_offset}
 use Rattle.asm_program.specs.Ranges.{IsRegister, InOperand, InBase, InAddress}
 use Rattle.asm_sound.proofs.Words.{alone, before, rows_if, small_if, upper_row, load_row, store_row, lower_in, reach_in, reach_small, reach_rows, object_in, object_small, object_rows, constant_rows, move_rows}
 
-pub machine_small : (q : ℕ) → q < 24 → machine_register q < 32
-machine_small q h = by (nat_lt q 2) (nat_lt q 4) (nat_lt q 10) refl
+pub machine_small : (q : ℕ) → q ≤ result_register → machine_register q < 32
+machine_small q h = by (nat_lt q 2) (nat_lt q 4) (nat_lt q 10) (q == result_register) refl refl
   where
-    by : (a b c : Bool) → nat_lt q 2 ≡ a → (if a then 2 * q + 2 else (if b then q + 6 else (if c then q + 7 else q + 8))) < 32
-    by true b c e = let less : q < 2 = grind (arith, nat_tests) in omega arith
-    by false true c e = omega arith
-    by false false true e = omega arith
-    by false false false e = omega arith
+    by : (a b c d : Bool) → nat_lt q 2 ≡ a → (q == result_register) ≡ d → (if a then 2 * q + 2 else (if b then q + 6 else (if c then q + 7 else (if d then result else q + 8)))) < 32
+    by true b c d e f = let less : q < 2 = grind (arith, nat_tests) in omega arith
+    by false true c d e f = omega arith
+    by false false true d e f = omega arith
+    by false false false true e f = omega arith
+    by false false false false e f = let other : q ≢ result_register = grind (arith, f, nat_tests) in omega (arith, other)
+
+pub lasting_small : (q : ℕ) → q < machine_registers → machine_register q < 32
+lasting_small q h = machine_small q (omega (arith, h))
 
 pub add_row : (d x y : ℕ) → d < 32 → x < 32 → y < 32 → in_row (instruction Add d x y (pos 0)) ≡ true
 add_row d x y h k l = and_from (nat_lt d 32) _ (lt-ltb d 32 h) (and_from (nat_lt x 32) _ (lt-ltb x 32 k) (and_from (nat_lt y 32) true (lt-ltb y 32 l) refl))

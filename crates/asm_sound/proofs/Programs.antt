@@ -20,9 +20,9 @@ use Rattle.asm_program.specs.Frames.{Frame, Memory, no_frame, frame_of, position
 use Rattle.asm_program.specs.Operands.{operand_register, operand_code, into_code}
 use Rattle.asm_program.specs.Emission.{plain_code, before_call, behind_call}
 use Rattle.asm_program.specs.Functions.{singles, PlacedBlock, PlacedFunction, no_function, function_in, is_leaf, is_frame_near, frame_code, frame_register, frame_offset, link_store, link_load, saves, loads, saves_nothing, entry_code, exit_code, own_frame, own_function, at_once, passed_in, instr_items, jump_items, two_way_items, leave_items, end_items, body_items, filled, opening_items, block_items, blocks_from, leaving_blocks, function_items, based, second_code, bases_code, main_items, start_items, functions_from, program_items}
-use Rattle.asm_program.specs.Ranges.{IsRegister, InInstr, InEnd, InBlock, InFunction, InProgram, IsSaving, AreSaving}
+use Rattle.asm_program.specs.Ranges.{IsLasting, InInstr, InEnd, InBlock, InFunction, InProgram, IsSaving, AreSaving}
 use Rattle.asm_sound.proofs.Words.{alone, before, rows_if, addi_row, load_row, store_row, upper_row, lower_in, near_in}
-use Rattle.asm_sound.proofs.Operands.{machine_small, operand_small, operand_rows, into_rows}
+use Rattle.asm_sound.proofs.Operands.{lasting_small, operand_small, operand_rows, into_rows}
 use Rattle.asm_sound.proofs.Instructions.{plain_rows}
 use Rattle.asm_sound.proofs.Calls.{before_rows, behind_rows}
 
@@ -95,13 +95,13 @@ module _ (near : Bool) (fr : Frame) (e : is_frame_near fr ≡ near) (s : IsSavin
   saves_rows [] h = refl
   saves_rows (q ∷ qs) h =
       let one = All-head (Saved fr) q qs h in
-      before (store_word (machine_register q) (frame_register near) (frame_offset near fr (saved_at fr q))) (saves near fr qs) (store_row (machine_register q) (frame_register near) (frame_offset near fr (saved_at fr q)) (machine_small q one.below) (register_small near) (saved_within q one)) (saves_rows qs (All-tail (Saved fr) q qs h))
+      before (store_word (machine_register q) (frame_register near) (frame_offset near fr (saved_at fr q))) (saves near fr qs) (store_row (machine_register q) (frame_register near) (frame_offset near fr (saved_at fr q)) (lasting_small q one.below) (register_small near) (saved_within q one)) (saves_rows qs (All-tail (Saved fr) q qs h))
 
   loads_rows : (qs : List ℕ) → All (Saved fr) qs → in_rows (loads near fr qs) ≡ true
   loads_rows [] h = refl
   loads_rows (q ∷ qs) h =
       let one = All-head (Saved fr) q qs h in
-      before (load_word (machine_register q) (frame_register near) (frame_offset near fr (saved_at fr q))) (loads near fr qs) (load_row (machine_register q) (frame_register near) (frame_offset near fr (saved_at fr q)) (machine_small q one.below) (register_small near) (saved_within q one)) (loads_rows qs (All-tail (Saved fr) q qs h))
+      before (load_word (machine_register q) (frame_register near) (frame_offset near fr (saved_at fr q))) (loads near fr qs) (load_row (machine_register q) (frame_register near) (frame_offset near fr (saved_at fr q)) (lasting_small q one.below) (register_small near) (saved_within q one)) (loads_rows qs (All-tail (Saved fr) q qs h))
 
 entry_rows : (leaf : Bool) (fr : Frame) → IsSaving fr → in_rows (entry_code leaf fr) ≡ true
 entry_rows leaf fr s =
@@ -126,7 +126,7 @@ saving_at (fr ∷ frames) zero h = All-head IsSaving fr frames h
 saving_at (fr ∷ frames) (suc f) h = saving_at frames f (All-tail IsSaving fr frames h)
 
 none_in : InFunction no_function
-none_in = (All-nil IsRegister, All-nil InBlock)
+none_in = (All-nil IsLasting, All-nil InBlock)
 
 pub function_at : (fns : List PlacedFunction) (f : ℕ) → All InFunction fns → InFunction (slice_index_or fns f no_function)
 function_at [] zero h = none_in
@@ -173,7 +173,7 @@ module _ (m : Memory) (p : Placed) (f : ℕ) (program : InProgram p) (saving : A
   instr_sound (Call d callee args note) rest h k =
       let fr = own_frame m p f in
       let ps = passed_in m p f callee args in
-      let registers : All IsRegister ps = All-take IsRegister (length args) (function_in p callee).parameters (function_at p.functions callee program).0 in
+      let registers : All IsLasting ps = All-take IsLasting (length args) (function_in p callee).parameters (function_at p.functions callee program).0 in
       let first = before_call fr (frame_of m callee) ps note args in
       let last = behind_call fr d ps note in
       All-append IsSound (singles first) (items.Call true callee ∷ (singles last ++ rest)) (singles_sound first (before_rows fr (frame_of m callee) ps note args registers h.1))

@@ -1,1 +1,3 @@
-pub mod Laws
+pub mod SoundLaws
+pub mod Sizes
+pub mod Functions

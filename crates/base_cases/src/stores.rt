@@ -1,8 +1,9 @@
 // Stores and sinks in memory, through their traits.
 ghost use Rattle.std.specs.Prelude.{◌<◌, length};
 
+use base_stores::{CalmSink, CalmStore, MemSink, MemStore};
 use std::alloc::{AllocError, Global};
-use wcc_base::{CalmSink, CalmStore, Fault, MemSink, MemStore, Sink, Store};
+use wcc_base::{Fault, Sink, Store};
 
 const NAME: &str = "written.txt";
 

@@ -35,7 +35,7 @@ use std::alloc::{AllocError, Global};
 use thiserror::Error;
 
 /// Why a source has no tokens.
-#[derive(Clone, Copy, Debug, PartialEq, Eq, Error)]
+#[derive(Clone, Copy, Debug, Error)]
 pub enum LexFault {
     /// No piece of C begins at this byte, counted from 0.
     #[error("bad at {at}")]

@@ -4,7 +4,7 @@ ghost use Rattle.std.specs.Prelude.{◌≡◌, ◌↔◌, IsTrue};
 use c_tree::token::TokenKind;
 
 /// The form of a piece: white space, a comment, a directive or a preprocessing token (C11 6.4).
-#[derive(Clone, Copy, Debug, PartialEq, Eq)]
+#[derive(Clone, Copy)]
 pub enum Form {
     Blank,
     Comment,
@@ -19,7 +19,7 @@ pub enum Form {
 }
 
 /// What a piece counts as.
-#[derive(Clone, Copy, Debug, PartialEq, Eq)]
+#[derive(Clone, Copy)]
 pub enum Kind {
     Blank,
     Comment,
@@ -37,7 +37,7 @@ impl Kind {
 }
 
 /// A piece of a source.
-#[derive(Clone, Copy, Debug, PartialEq, Eq)]
+#[derive(Clone, Copy)]
 pub struct Piece {
     pub form: Form,
     pub kind: Kind,

@@ -5,7 +5,7 @@ use std::alloc::AllocError;
 use thiserror::Error;
 
 /// Why tokens were not parsed. The tokens are numbered from 0.
-#[derive(Clone, Copy, Debug, PartialEq, Eq, Error)]
+#[derive(Clone, Copy, Debug, Error)]
 pub enum ParseFault {
     /// No well-formed unit's spelling begins with the tokens up to and including this one; or the
     /// number of all tokens, where they begin a spelling and are none.

@@ -1,11 +1,11 @@
 use super::token::Constant;
 
 /// The number of a name in the list of names that the unit keeps.
-#[derive(Clone, Copy, Debug, PartialEq, Eq)]
+#[derive(Clone, Copy)]
 pub struct NameId(pub u32);
 
 /// A word of a type or a storage class (C11 6.7.1 to 6.7.4).
-#[derive(Clone, Copy, Debug, PartialEq, Eq)]
+#[derive(Clone, Copy)]
 pub enum Specifier {
     Static,
     Extern,
@@ -21,14 +21,14 @@ pub enum Specifier {
 }
 
 /// `++` or `--` behind its operand (C11 6.5.2.4).
-#[derive(Clone, Copy, Debug, PartialEq, Eq)]
+#[derive(Clone, Copy)]
 pub enum PostfixOperator {
     Increment,
     Decrement,
 }
 
 /// An operator before its operand (C11 6.5.3).
-#[derive(Clone, Copy, Debug, PartialEq, Eq)]
+#[derive(Clone, Copy)]
 pub enum PrefixOperator {
     Increment,
     Decrement,
@@ -39,7 +39,7 @@ pub enum PrefixOperator {
 }
 
 /// An operator between two operands that groups to the left (C11 6.5.5 to 6.5.14, 6.5.17).
-#[derive(Clone, Copy, Debug, PartialEq, Eq)]
+#[derive(Clone, Copy)]
 pub enum BinaryOperator {
     Multiply,
     Divide,
@@ -63,7 +63,7 @@ pub enum BinaryOperator {
 }
 
 /// An assignment (C11 6.5.16).
-#[derive(Clone, Copy, Debug, PartialEq, Eq)]
+#[derive(Clone, Copy)]
 pub enum AssignOperator {
     Assign,
     Multiply,

@@ -1,5 +1,5 @@
 /// The number of nodes of a tree, and its depth.
-#[derive(Clone, Copy, Debug, PartialEq, Eq)]
+#[derive(Clone, Copy)]
 pub struct Size {
     pub nodes: u32,
     pub depth: u32,

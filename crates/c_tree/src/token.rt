@@ -75,7 +75,7 @@ pub enum TokenKind {
 }
 
 /// A span of the source, from the byte `at` up to the byte `end`, and its kind.
-#[derive(Clone, Copy, Debug, PartialEq, Eq)]
+#[derive(Clone, Copy)]
 pub struct Token {
     pub kind: TokenKind,
     pub at: u32,
@@ -83,7 +83,7 @@ pub struct Token {
 }
 
 /// The type of an integer constant (C11 6.4.4.1).
-#[derive(Clone, Copy, Debug, PartialEq, Eq)]
+#[derive(Clone, Copy)]
 pub enum ConstantType {
     Int,
     Long,
@@ -91,7 +91,7 @@ pub enum ConstantType {
 }
 
 /// What an integer constant says: its value and its type.
-#[derive(Clone, Copy, Debug, PartialEq, Eq)]
+#[derive(Clone, Copy)]
 pub struct Constant {
     pub value: u32,
     pub scalar: ConstantType,

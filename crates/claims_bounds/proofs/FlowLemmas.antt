@@ -21,14 +21,14 @@ use Rattle.low_ir.specs.Room.{weight}
 use Rattle.asm_program.specs.Functions.{function_in, graph_of}
 use Rattle.asm_program.proofs.GraphLemmas.{in_map, with_loops}
 use Rattle.claims_definition.specs.Listed.{Laid, placing, loop_claim, loops_of, claims_of, places_of}
-use Rattle.claims_definition.specs.Laws.{IsSettled, IsClaimOf, IsPlaceOf, Rise}
+use Rattle.claims_definition.specs.ClaimLaws.{IsSettled, IsClaimOf, IsPlaceOf, Rise}
 use Rattle.claims_definition.proofs.Claimed.{are_claims}
 use Rattle.claims_definition.proofs.Marks.{places_hold}
-use Rattle.asm_program_prices.specs.Bounds.{bound_of, bounds_of, IsLaidProgram, IsMarked, AreMarked}
-use Rattle.asm_program_prices.proofs.ChosenLemmas.{chosen_has_code}
-use Rattle.asm_program_prices.proofs.CountLemmas.{counts_below_weight}
-use Rattle.asm_program_prices.proofs.ReachLemmas.{counts_below_reach}
-use Rattle.asm_program_prices.proofs.ValueLemmas.{moves_cost_few, values_below_weight}
+use Rattle.asm_prices.specs.Bounds.{bound_of, bounds_of, IsLaidProgram, IsMarked, AreMarked}
+use Rattle.asm_prices.proofs.ChosenLemmas.{chosen_has_code}
+use Rattle.asm_prices.proofs.CountLemmas.{counts_below_weight}
+use Rattle.asm_prices.proofs.ReachLemmas.{counts_below_reach}
+use Rattle.asm_prices.proofs.ProgramValueLemmas.{moves_cost_few, values_below_weight}
 use Rattle.claims_bounds.specs.Flows.{LoopsAreBounded, HasFlows, FlowsKeepBounds}
 
 -- a header counts at least once

@@ -19,7 +19,7 @@ use Rattle.low_ir.specs.Code.{Loop}
 use Rattle.low_ir.specs.Formed.{AreNested, IsIn, IsLoop}
 use Rattle.asm_program.specs.Functions.{function_in, graph_of, loop_of, no_function}
 use Rattle.asm_program.proofs.GraphLemmas.{function_at, with_loops}
-use Rattle.claims_definition.specs.Laws.{IsClaimOf}
+use Rattle.claims_definition.specs.ClaimLaws.{IsClaimOf}
 use Rattle.claims_definition.specs.Listed.{Laid, claims_of, loops_of, placing}
 use Rattle.claims_definition.proofs.Claimed.{are_claims}
 use Rattle.claims_bounds.specs.Flows.{HasFlows}

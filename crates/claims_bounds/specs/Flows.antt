@@ -11,9 +11,9 @@ use Rattle.asm_program.specs.Frames.{frame_of}
 use Rattle.asm_program.specs.Functions.{PlacedBlock, PlacedFunction, graph_of}
 use Rattle.asm_program.specs.Laws.{AreWords}
 use Rattle.claims_definition.specs.Listed.{Laid, placing, loops_of, claims_of}
-use Rattle.claims_definition.specs.Laws.{IsSettled}
+use Rattle.claims_definition.specs.ClaimLaws.{IsSettled}
 use Rattle.claims_definition.specs.Flows.{KeepsBounds}
-use Rattle.asm_program_prices.specs.Bounds.{bounds_of}
+use Rattle.asm_prices.specs.Bounds.{bounds_of}
 
 abbrev pub LoopsAreBounded : Type 0
 LoopsAreBounded = (l : Laid) → IsSettled l → AreBounds (graph_of l.memory l.program) (placing l) (bounds_of l.program) (loops_of l)

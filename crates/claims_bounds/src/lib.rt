@@ -10,7 +10,7 @@
 //! weight leaves room for the numbers of a search: values are below 2^60 then, and counts below 2^49. That no loop's jump
 //! back is the header of another one comes from how loops nest, and that no function is empty from how code is laid.
 //!
-//! The crate joins `claims_definition` and `asm_program_prices` with what `path_search` asks for, and knows no runs.
+//! The crate joins `claims_definition` and `asm_prices` with what `path_search` asks for, and knows no runs.
 #![tactic(auto)]
 
 ghost use Rattle.rv_core.specs.Table.{table_of};

@@ -5,11 +5,11 @@ use Rattle.std.proofs.lemmas.List.Concat.{flat_map-cons}
 use Rattle.asm_items.specs.Placings.{base_of, end_of}
 use Rattle.asm_forms.specs.Regions.{functions_size}
 use Rattle.asm_program.specs.Functions.{program_items}
-use Rattle.claims_definition.specs.Laws.{IsSettled}
+use Rattle.claims_definition.specs.ClaimLaws.{IsSettled}
 use Rattle.claims_definition.specs.Listed.{Laid, by_address, functions_of, placing}
 use Rattle.claims_definition.proofs.Blocks.{AllBelow, order_below}
 use Rattle.claims_definition.proofs.Ordered.{Spaced, formed_spaced}
-use Rattle.claims_accesses.proofs.Spaces.{Between, append, wider}
+use Rattle.claims_definition.proofs.Spaces.{Between, append, wider}
 
 -- where all functions end
 abbrev pub last_end : Laid → ℕ

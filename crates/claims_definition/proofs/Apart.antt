@@ -11,7 +11,7 @@ use Rattle.asm_forms.proofs.SizeLemmas.{functions_most}
 use Rattle.asm_graphs.proofs.PlaceLemmas.{start_within}
 use Rattle.asm_placed.proofs.Spread.{all_apart, two_apart}
 use Rattle.asm_program.specs.Functions.{program_items}
-use Rattle.claims_definition.specs.Laws.{IsSettled}
+use Rattle.claims_definition.specs.ClaimLaws.{IsSettled}
 use Rattle.claims_definition.specs.Listed.{Laid, functions_of, placing}
 use Rattle.claims_definition.proofs.Blocks.{block_some, blocks_count, count}
 

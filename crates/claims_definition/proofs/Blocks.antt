@@ -15,8 +15,8 @@ use Rattle.asm_graphs.specs.Promised.{Promised, block_in, blocks_in}
 use Rattle.asm_placed.proofs.Alike.{block_alike, blocks_alike, blocks_long, functions_long, some_alike}
 use Rattle.asm_program.specs.Functions.{at_once, block_count, function_in, graph_of, program_items}
 use Rattle.asm_program.proofs.Promises.{promised}
-use Rattle.claims_accesses.proofs.Spaces.{items_fours}
-use Rattle.claims_definition.specs.Laws.{IsSettled}
+use Rattle.claims_definition.proofs.Spaces.{items_fours}
+use Rattle.claims_definition.specs.ClaimLaws.{IsSettled}
 use Rattle.claims_definition.specs.Listed.{Laid, by_address, functions_of, placing}
 use Rattle.claims_definition.specs.Orders.{lying}
 

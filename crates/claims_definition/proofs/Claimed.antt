@@ -11,7 +11,7 @@ use Rattle.std.proofs.lemmas.Option.{slice_get-get_or, slice_get_within}
 use Rattle.low_ir.specs.Code.{Loop}
 use Rattle.low_ir.specs.Formed.{IsLoop, only_jump}
 use Rattle.asm_program.specs.Functions.{PlacedBlock, PlacedFunction, function_in, no_function}
-use Rattle.claims_definition.specs.Laws.{AreLoopClaims, IsClaimOf, IsSettled}
+use Rattle.claims_definition.specs.ClaimLaws.{AreLoopClaims, IsClaimOf, IsSettled}
 use Rattle.claims_definition.specs.Listed.{Laid, by_address, loop_claim, loops_at, loops_from, loops_in, loops_of}
 use Rattle.claims_definition.proofs.Blocks.{all_in_order}
 use Rattle.claims_definition.proofs.Marks.{there_flat}

@@ -18,11 +18,11 @@ use Rattle.asm_placed.specs.Exits.{blocks_exits, functions_exits, items_exits}
 use Rattle.asm_placed.specs.Written.{in_scratchpad}
 use Rattle.low_ir.specs.Code.{Loop}
 use Rattle.asm_program.specs.Functions.{PlacedBlock, PlacedFunction, function_in, no_function}
-use Rattle.claims_definition.specs.Laws.{AreFew, IsSettled}
-use Rattle.claims_accesses.specs.Lines.{access_at, blocks_accesses, items_accesses}
+use Rattle.claims_definition.specs.ClaimLaws.{AreFew, IsSettled}
+use Rattle.claims_definition.specs.Lines.{access_at, blocks_accesses, items_accesses}
 use Rattle.claims_definition.specs.Listed.{Laid, accesses_in, accesses_of, by_address, functions_of, loop_claim, loops_at, loops_from, loops_in, loops_of}
 use Rattle.claims_definition.specs.Orders.{lying}
-use Rattle.claims_accesses.specs.Touches.{Touch, Nothing, OfFrame, OfArrays, program_touches}
+use Rattle.claims_definition.specs.Touches.{Touch, Nothing, OfFrame, OfArrays, program_touches}
 use Rattle.claims_definition.proofs.Blocks.{count}
 use Rattle.claims_definition.proofs.Regions.{regions_hold}
 

@@ -30,11 +30,11 @@ use Rattle.asm_program.specs.Numbers.{first_free, result, second_free}
 use Rattle.asm_program.specs.Functions.{PlacedBlock, at_once, blocks_from, body_items, end_items, entry_code, exit_code, filled, function_items, instr_items, is_leaf, jump_items, leave_items, leaving_blocks, opening_items, own_frame, own_function, passed_in, program_items, singles, two_way_items}
 use Rattle.asm_program.proofs.ItemLemmas.{of_function}
 use Rattle.low_ir.specs.Places.{Placed}
-use Rattle.claims_definition.specs.Laws.{IsSettled}
+use Rattle.claims_definition.specs.ClaimLaws.{IsSettled}
 use Rattle.claims_definition.specs.Listed.{Laid, functions_of}
-use Rattle.claims_accesses.proofs.Spaces.{items_fours}
+use Rattle.claims_definition.proofs.Spaces.{items_fours}
 use Rattle.claims_definition.proofs.Blocks.{count}
-use Rattle.claims_accesses.proofs.Spaces.{Between, append, wider}
+use Rattle.claims_definition.proofs.Spaces.{Between, append, wider}
 
 -- items and blocks without an exit
 abbrev Quiet : List Item → Type 0

@@ -14,7 +14,7 @@ use Rattle.asm_graphs.specs.Laid.{AreShapes, IsImageOf, IsShapeIn, last_of, span
 use Rattle.asm_graphs.proofs.FittingLemmas.{fits}
 use Rattle.asm_program.specs.Functions.{function_in, graph_of, loop_of}
 use Rattle.asm_program.proofs.GraphLemmas.{in_map, with_loops}
-use Rattle.claims_definition.specs.Laws.{IsClaimOf, IsSettled}
+use Rattle.claims_definition.specs.ClaimLaws.{IsClaimOf, IsSettled}
 use Rattle.claims_definition.specs.Listed.{Laid, claims_of, loop_claim, loops_of, placing}
 use Rattle.claims_definition.proofs.Claimed.{are_claims}
 use Rattle.claims_definition.specs.Shapes.{AreShaped, IsShape}

@@ -1,3 +1,8 @@
+pub mod Spaces
+pub mod Rising
+pub mod Accesses
+pub mod Matching
+pub mod Naming
 pub mod Ordered
 pub mod Blocks
 pub mod Apart
@@ -13,3 +18,4 @@ pub mod Ranges
 pub mod Counts
 pub mod Listing
 pub mod Calls
+pub mod Movables

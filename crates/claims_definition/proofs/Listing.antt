@@ -7,9 +7,9 @@ use Rattle.rv_core.specs.declared.regions.Region.{Region}
 use Rattle.asm_items.specs.declared.item.Item.{Item}
 use Rattle.asm_items.specs.Items.{size, total}
 use Rattle.asm_items.specs.Placings.{Blocks, base_of, block_of, blocks_of, start_of, starts_from}
-use Rattle.claims_accesses.specs.Lines.{Access, access_at, blocks_accesses, items_accesses}
-use Rattle.claims_accesses.specs.Touches.{Touch, program_touches}
-use Rattle.claims_definition.specs.Laws.{IsSettled}
+use Rattle.claims_definition.specs.Lines.{Access, access_at, blocks_accesses, items_accesses}
+use Rattle.claims_definition.specs.Touches.{Touch, program_touches}
+use Rattle.claims_definition.specs.ClaimLaws.{IsSettled}
 use Rattle.claims_definition.specs.Listed.{Laid, accesses_in, accesses_of, by_address, placing, touches_at}
 use Rattle.claims_definition.proofs.Blocks.{all_in_order}
 use Rattle.claims_definition.proofs.Marks.{there_flat}

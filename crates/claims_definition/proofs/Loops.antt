@@ -15,11 +15,11 @@ use Rattle.asm_graphs.proofs.PlaceLemmas.{next_start, start_within}
 use Rattle.low_ir.specs.Code.{Loop}
 use Rattle.low_ir.specs.Formed.{AreNested, IsLoop}
 use Rattle.asm_program.specs.Functions.{PlacedBlock, PlacedFunction, function_in, no_function}
-use Rattle.claims_definition.specs.Laws.{IsSettled}
+use Rattle.claims_definition.specs.ClaimLaws.{IsSettled}
 use Rattle.claims_definition.specs.Listed.{Laid, loop_claim, loops_at, loops_from, loops_in, loops_of, placing}
 use Rattle.claims_definition.proofs.Blocks.{block_some, blocks_count, last_fours, many_blocks, start_fours}
 use Rattle.claims_definition.proofs.Along.{along, last_end}
-use Rattle.claims_accesses.proofs.Spaces.{Between, append, wider}
+use Rattle.claims_definition.proofs.Spaces.{Between, append, wider}
 
 same_test : (a b : ℕ) → (a == b) ≡ true → a ≡ b
 same_test a b t = grind (arith, nat_tests, t)

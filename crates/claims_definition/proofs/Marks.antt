@@ -15,12 +15,12 @@ use Rattle.low_ir.specs.Formed.{mark_of}
 use Rattle.low_ir.specs.Runs.{block_in}
 use Rattle.low_ir.specs.Turns.{mark_in}
 use Rattle.asm_program.specs.Functions.{PlacedBlock, PlacedFunction, function_in, no_function}
-use Rattle.claims_definition.specs.Laws.{HasPlaces, IsPlaceOf, IsSettled, Rise}
+use Rattle.claims_definition.specs.ClaimLaws.{HasPlaces, IsPlaceOf, IsSettled, Rise}
 use Rattle.claims_definition.specs.Listed.{Laid, by_address, marked_from, marked_here, places_in, places_of, placing}
 use Rattle.claims_definition.proofs.Along.{along, last_end}
 use Rattle.claims_definition.proofs.Apart.{starts_apart}
 use Rattle.claims_definition.proofs.Blocks.{all_in_order, block_some, blocks_count, many_blocks, start_fours}
-use Rattle.claims_accesses.proofs.Spaces.{Between, append, wider}
+use Rattle.claims_definition.proofs.Spaces.{Between, append, wider}
 
 abbrev at_of : ℕ → ℕ
 at_of x = x

@@ -7,7 +7,7 @@ use Rattle.asm_items.specs.Placings.{Blocks, base_of, blocks_of, blocks_size, en
 use Rattle.low_ir.specs.Formed.{opening}
 use Rattle.asm_program.specs.Functions.{PlacedFunction, block_count, no_function}
 use Rattle.asm_program.proofs.GraphLemmas.{shaped}
-use Rattle.claims_definition.specs.Laws.{AreRanges, IsSettled, RangesAscend}
+use Rattle.claims_definition.specs.ClaimLaws.{AreRanges, IsSettled, RangesAscend}
 use Rattle.claims_definition.specs.Listed.{CodeRange, Laid, by_address, code_range, code_ranges, functions_of, placing}
 use Rattle.claims_definition.proofs.Along.{last_end}
 use Rattle.claims_definition.proofs.Blocks.{AllBelow, all_in_order, block_some, blocks_count, order_below}

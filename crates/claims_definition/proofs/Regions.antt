@@ -2,14 +2,14 @@
 use Rattle.std.proofs.Common.{◌≡◌, ℕ, suc, ◌%◌, ◌<◌, [], length}
 use Rattle.std.specs.Prelude.{slice_index_or}
 use Rattle.asm_items.specs.Placings.{base_of, blocks_of, end_of}
-use Rattle.claims_accesses.specs.Laws.{AreLines}
-use Rattle.claims_definition.specs.Laws.{IsSettled}
-use Rattle.claims_accesses.specs.Lines.{Access}
+use Rattle.claims_definition.specs.AccessLaws.{AreLines}
+use Rattle.claims_definition.specs.ClaimLaws.{IsSettled}
+use Rattle.claims_definition.specs.Lines.{Access}
 use Rattle.claims_definition.specs.Listed.{Laid, accesses_in, accesses_of, placing, regions_of}
-use Rattle.claims_accesses.specs.Touches.{program_touches}
-use Rattle.claims_accesses.proofs.Accesses.{AccessesBetween, IsGood, ascends, at_of, blocks_between, function_lies, program_lies}
+use Rattle.claims_definition.specs.Touches.{program_touches}
+use Rattle.claims_definition.proofs.Accesses.{AccessesBetween, IsGood, ascends, at_of, blocks_between, function_lies, program_lies}
 use Rattle.claims_definition.proofs.Along.{along, last_end}
-use Rattle.claims_accesses.proofs.Rising.{lines_hold}
+use Rattle.claims_definition.proofs.Rising.{lines_hold}
 
 module _ (l : Laid) (is : IsSettled l) where
   one_between : (f : ℕ) → f < suc (length l.program.functions) → base_of (placing l) f % 4 ≡ 0 → AccessesBetween (base_of (placing l) f) (accesses_in l f) (end_of (placing l) f)

@@ -3,7 +3,7 @@ use Rattle.std.proofs.Common.{◌≡◌, Bool, false, [], ◌++◌, None}
 use Rattle.std.proofs.lemmas.List.Elements.{All-append, All-nil}
 use Rattle.code_flow_system.specs.Claims.{AreSound, exit_flaws, loop_flaws, region_flaws}
 use Rattle.asm_placed.specs.Exits.{exits_of}
-use Rattle.claims_definition.specs.Laws.{IsSettled}
+use Rattle.claims_definition.specs.ClaimLaws.{IsSettled}
 use Rattle.claims_definition.specs.Listed.{Laid, claims_of, functions_of, loops_of, regions_of}
 use Rattle.claims_definition.proofs.Exits.{exits_sound}
 use Rattle.claims_definition.proofs.Loops.{loops_sound}

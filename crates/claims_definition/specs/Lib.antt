@@ -1,5 +1,10 @@
+pub mod Touches
+pub mod Lines
+pub mod AccessLaws
 pub mod Orders
 pub mod Listed
-pub mod Laws
+pub mod ClaimLaws
 pub mod Shapes
 pub mod Flows
+pub mod Movables
+pub mod MovableLaws

@@ -16,9 +16,9 @@ use Rattle.low_ir.specs.Formed.{opening}
 use Rattle.low_ir.specs.Places.{Placed}
 use Rattle.asm_program.specs.Frames.{Memory}
 use Rattle.asm_program.specs.Functions.{PlacedBlock, function_in, program_items}
-use Rattle.claims_accesses.specs.Lines.{Access, blocks_accesses, lines}
+use Rattle.claims_definition.specs.Lines.{Access, blocks_accesses, lines}
 use Rattle.claims_definition.specs.Orders.{in_order}
-use Rattle.claims_accesses.specs.Touches.{Touch, program_touches}
+use Rattle.claims_definition.specs.Touches.{Touch, program_touches}
 
 -- a program over places: where its data lie, and the rows in which its functions lie
 pub record Laid : Type 0 where

@@ -7,7 +7,7 @@ use Rattle.code_flow_system.specs.Shapes.{Fits}
 use Rattle.code_flow_system.specs.Systems.{System, IsSystemOf}
 use Rattle.asm_graphs.specs.Laid.{IsImageOf, spans_from}
 use Rattle.asm_program.specs.Functions.{graph_of}
-use Rattle.claims_definition.specs.Laws.{IsSettled}
+use Rattle.claims_definition.specs.ClaimLaws.{IsSettled}
 use Rattle.claims_definition.specs.Listed.{Laid, claims_of, placing}
 
 -- a loop lies from its header to its jump back

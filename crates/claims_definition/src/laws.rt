@@ -1,16 +1,24 @@
-// What is claimed of laid code.
-ghost use Rattle.claims_definition.specs.Laws.{
-  AccessesAreListed,
-  AccessesHaveLines,
-  ClaimsAreFew,
-  ClaimsAreSound,
-  ExitsAreCalls,
-  LoopsAreClaimed,
-  MarksHavePlaces,
-  PlacesAreApart,
-  RangesHold,
-};
+// What is proved, by calls with empty bodies.
+ghost use Rattle.claims_definition.specs.AccessLaws.{ItemsAreTouched, LinesHold, PlacedIsNamed};
+ghost use Rattle.claims_definition.specs.ClaimLaws.{AccessesAreListed, AccessesHaveLines, ClaimsAreFew, ClaimsAreSound, ExitsAreCalls, LoopsAreClaimed, MarksHavePlaces, PlacesAreApart, RangesHold};
 ghost use Rattle.claims_definition.specs.Shapes.{ClaimsFit};
+ghost use Rattle.claims_definition.specs.MovableLaws.{ArraysAreMovable, FunctionsAreMovable};
+
+/// Each load and store of a program's items is among what touches memory, and no other item is.
+pub fn items_are_touched()
+    ensures { ItemsAreTouched }
+{}
+
+/// Accesses in the order of their addresses have lines of regions, none of which is bad; each lies in
+/// one that has exactly its regions, and there are no more lines than accesses.
+pub fn lines_hold()
+    ensures { LinesHold }
+{}
+
+/// A program in the low form over its places names arrays and claims that are there.
+pub fn placed_is_named()
+    ensures { PlacedIsNamed }
+{}
 
 /// None of the claims is bad by itself: exits, lines of regions and loops stand in the order of their
 /// addresses, each at a multiple of 4.
@@ -65,4 +73,14 @@ pub fn claims_fit()
 /// Each listed exit of an image that holds a laid program is an ECALL.
 pub fn exits_are_calls()
     ensures { ExitsAreCalls }
+{}
+
+/// The size of a function is a multiple of 4 and at least what it takes, and its instructions ascend.
+pub fn functions_are_movable()
+    ensures { FunctionsAreMovable }
+{}
+
+/// The size of an array is a multiple of 4, and the accesses that touch it alone ascend.
+pub fn arrays_are_movable()
+    ensures { ArraysAreMovable }
 {}

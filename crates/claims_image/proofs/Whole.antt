@@ -15,8 +15,8 @@ use Rattle.image_frames.specs.Memories.{Placement, memory_of}
 use Rattle.image_frames.proofs.FrameLemmas.{frames_count}
 use Rattle.image_definition.specs.Images.{FitsImage, image_in, items_in, rows_in}
 use Rattle.image_definition.proofs.LaidLemmas.{image_is, placed_even}
-use Rattle.claims_accesses.specs.Laws.{IsNamed}
-use Rattle.claims_definition.specs.Laws.{IsSettled}
+use Rattle.claims_definition.specs.AccessLaws.{IsNamed}
+use Rattle.claims_definition.specs.ClaimLaws.{IsSettled}
 use Rattle.claims_definition.specs.Listed.{claims_of, placing}
 use Rattle.claims_definition.proofs.Sound.{claims_sound}
 use Rattle.claims_definition.proofs.Fitting.{claims_fit}

@@ -14,8 +14,8 @@ use Rattle.asm_program.specs.Functions.{graph_of}
 use Rattle.asm_program.specs.Ranges.{InProgram}
 use Rattle.image_frames.specs.Memories.{Placement, memory_of, regions_of}
 use Rattle.image_definition.specs.Images.{FitsImage, image_in, rows_in}
-use Rattle.claims_accesses.specs.Laws.{IsNamed}
-use Rattle.claims_definition.specs.Laws.{IsSettled}
+use Rattle.claims_definition.specs.AccessLaws.{IsNamed}
+use Rattle.claims_definition.specs.ClaimLaws.{IsSettled}
 use Rattle.claims_definition.specs.Listed.{Laid, claims_of, placing}
 use Rattle.claims_definition.specs.Shapes.{AreShaped}
 

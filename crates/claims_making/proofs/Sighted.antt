@@ -6,8 +6,8 @@ use Rattle.rv_core.specs.declared.regions.Region.TheVariants.{Flash, Spm, Ram}
 use Rattle.low_ir.specs.declared.places.LowReg.{LowReg}
 use Rattle.low_ir.specs.Placings.{placed_of}
 use Rattle.asm_program.specs.Frames.{Memory}
-use Rattle.claims_accesses.specs.Lines.{Letters, letters_of, same_region, touches_region}
-use Rattle.claims_accesses.specs.Touches.{Touch, Nothing, OfFrame, OfArrays, program_touches}
+use Rattle.claims_definition.specs.Lines.{Letters, letters_of, same_region, touches_region}
+use Rattle.claims_definition.specs.Touches.{Touch, Nothing, OfFrame, OfArrays, program_touches}
 use Rattle.claims_regions.specs.Seen.{seen}
 use Rattle.claims_touches.specs.declared.touch.Touch as names
 use Rattle.claims_touches.specs.declared.touch.Touch.TheVariants as named

@@ -9,7 +9,7 @@ use Rattle.asm_forms.specs.Regions.{bases_of}
 use Rattle.asm_placed.specs.Exits.{exits_of, functions_exits}
 use Rattle.low_ir.specs.Placings.{placed_of}
 use Rattle.asm_program.specs.Frames.{Memory}
-use Rattle.claims_accesses.specs.Touches.{program_touches}
+use Rattle.claims_definition.specs.Touches.{program_touches}
 use Rattle.claims_definition.specs.Listed.{Laid, claims_of, functions_of, loops_of, regions_of}
 use Rattle.claims_lists.specs.declared.laying.Laying.{Laying}
 use Rattle.claims_regions.specs.declared.walks.Touched.{Touched}

@@ -2,7 +2,7 @@
 use Rattle.std.specs.Prelude.{ℕ, false, List, [], ◌∷◌, map, Option, None, Some, slice_index_or}
 use Rattle.rv_core.specs.declared.regions.Region.{Region}
 use Rattle.rv_core.specs.declared.regions.Region.TheVariants.{Ram}
-use Rattle.claims_accesses.specs.Lines.{Letters, frame_letters, letters_of}
+use Rattle.claims_definition.specs.Lines.{Letters, frame_letters, letters_of}
 use Rattle.claims_touches.specs.declared.touch.Touch as names
 use Rattle.claims_touches.specs.declared.touch.Touch.TheVariants as named
 use Rattle.claims_regions.specs.Seen.{letters_in}

@@ -2,7 +2,7 @@
 ghost use Rattle.std.specs.Prelude.{◌≡◌, map, slice_index_or, IfOk};
 ghost use Rattle.rv_core.specs.declared.regions.Region.TheVariants.{Flash, Ram, Spm};
 ghost use Rattle.low_ir.specs.View.{claim_of};
-ghost use Rattle.claims_accesses.specs.Lines.{frame_letters, letters_of, same_region, touches_region};
+ghost use Rattle.claims_definition.specs.Lines.{frame_letters, letters_of, same_region, touches_region};
 ghost use Rattle.claims_regions.specs.Seen.{letters_in, view};
 ghost use Rattle.claims_making.specs.Sights.{no_letters, region_in, seen_in};
 

@@ -2,7 +2,7 @@
 ghost use Rattle.std.specs.Prelude.{◌≡◌, map, IfOk};
 ghost use Rattle.low_ir.specs.Placings.{placed_of};
 ghost use Rattle.asm_program.specs.Frames.{Memory as Frames};
-ghost use Rattle.claims_accesses.specs.Touches.{program_touches};
+ghost use Rattle.claims_definition.specs.Touches.{program_touches};
 ghost use Rattle.claims_regions.specs.Seen.{seen, view};
 ghost use Rattle.claims_touches.specs.Named.{AreTouches};
 ghost use Rattle.claims_making.specs.Sights.{region_in, seen_in};

@@ -9,12 +9,12 @@ use Rattle.asm_items.specs.Items.{size, total}
 use Rattle.asm_items.specs.Placings.{Blocks, base_of, blocks_of}
 use Rattle.low_ir.specs.Placings.{assignment_of, placed_of}
 use Rattle.low_ir.specs.Programs.{low_of}
-use Rattle.claims_accesses.specs.Lines.{letters_of}
-use Rattle.claims_accesses.specs.Touches.{Touch, OfArrays, program_touches}
-use Rattle.claims_accesses.proofs.Accesses.{AllLie, BlocksLie, Lies, function_lies, program_lies, some}
-use Rattle.claims_accesses.proofs.Naming.{named}
+use Rattle.claims_definition.specs.Lines.{letters_of}
+use Rattle.claims_definition.specs.Touches.{Touch, OfArrays, program_touches}
+use Rattle.claims_definition.proofs.Accesses.{AllLie, BlocksLie, Lies, function_lies, program_lies, some}
+use Rattle.claims_definition.proofs.Naming.{named}
 use Rattle.claims_definition.specs.Listed.{Laid, by_address, placing}
-use Rattle.claims_items.specs.Movables.{blocks_only, is_only, items_only, only_at, only_in}
+use Rattle.claims_definition.specs.Movables.{blocks_only, is_only, items_only, only_at, only_in}
 use Rattle.claims_lists.specs.declared.laying.Laying.{Laying}
 use Rattle.claims_lists.specs.declared.marks.Marked.{Marked}
 use Rattle.claims_lists.specs.Lists.{IsOf}

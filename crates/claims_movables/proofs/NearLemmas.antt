@@ -6,7 +6,7 @@ use Rattle.low_ir.specs.Code.{Base, Fixed, Through, Set, Operate, Point, Load, S
 use Rattle.low_ir.specs.Places.{Assignment, place_base, place_blocks, place_code, place_functions, place_instr}
 use Rattle.asm_program.specs.Frames.{Memory}
 use Rattle.asm_program.specs.Functions.{no_function}
-use Rattle.asm_room.specs.Functions.{near_base, near_blocks, near_code, near_instr}
+use Rattle.asm_sound.specs.Functions.{near_base, near_blocks, near_code, near_instr}
 use Rattle.claims_movables.specs.Listed.{no_low_function}
 use Rattle.claims_movables.specs.Near.{base_near, blocks_near, code_near, instr_near}
 

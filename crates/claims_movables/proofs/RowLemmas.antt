@@ -18,9 +18,9 @@ use Rattle.low_ir.specs.Programs.{low_of}
 use Rattle.asm_program.specs.Frames.{Memory}
 use Rattle.asm_program.specs.Functions as low
 use Rattle.asm_program.proofs.ItemLemmas.{of_function}
-use Rattle.asm_room.specs.Functions.{near_blocks}
+use Rattle.asm_sound.specs.Functions.{near_blocks}
 use Rattle.claims_definition.specs.Listed.{Laid, by_address, placing}
-use Rattle.claims_items.specs.Movables.{Movable, array_item, arrays_from, code_region, function_item, is_local, movables_of, only_in, unless, words_at}
+use Rattle.claims_definition.specs.Movables.{Movable, array_item, arrays_from, code_region, function_item, is_local, movables_of, only_in, unless, words_at}
 use Rattle.claims_lists.specs.declared.laying.Laying.{Laying}
 use Rattle.claims_lists.specs.declared.marks.Marked.{Marked}
 use Rattle.claims_lists.specs.Lists.{IsOf}

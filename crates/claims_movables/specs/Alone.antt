@@ -4,7 +4,7 @@ use Rattle.asm_items.specs.declared.item.Item.{Item}
 use Rattle.asm_items.specs.Items.{size, total}
 use Rattle.asm_items.specs.Placings.{Blocks}
 use Rattle.asm_forms.specs.declared.layouts.Layout.{Layout}
-use Rattle.claims_items.specs.Movables.{is_only}
+use Rattle.claims_definition.specs.Movables.{is_only}
 use Rattle.claims_lists.specs.declared.marks.Marked.{Marked}
 use Rattle.claims_lists.specs.Places.{base_in, blocks_in}
 use Rattle.claims_touches.specs.declared.touch.Touch as names

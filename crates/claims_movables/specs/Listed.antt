@@ -8,7 +8,7 @@ use Rattle.low_ir.specs.Arrays.{array_size}
 use Rattle.low_ir.specs.Code.{Block, Function, Object, Note}
 use Rattle.low_ir.specs.Programs.{low_of}
 use Rattle.asm_program.specs.Frames.{Memory}
-use Rattle.claims_items.specs.Movables.{Movable, code_region, is_local, only_in, unless, words_at}
+use Rattle.claims_definition.specs.Movables.{Movable, code_region, is_local, only_in, unless, words_at}
 use Rattle.claims_definition.specs.Listed.{Laid, by_address}
 use Rattle.claims_lists.specs.declared.laying.Laying.{Laying}
 use Rattle.claims_lists.specs.Places.{base_in, blocks_in}

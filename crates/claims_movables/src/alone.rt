@@ -5,7 +5,7 @@ ghost use Rattle.asm_items.specs.Items.{total};
 ghost use Rattle.asm_items.specs.Placings.{blocks_size};
 ghost use Rattle.low_ir.specs.View.{claim_of};
 ghost use Rattle.claims_definition.specs.Listed.{Laid, by_address};
-ghost use Rattle.claims_items.specs.Movables.{is_only, only_in};
+ghost use Rattle.claims_definition.specs.Movables.{is_only, only_in};
 ghost use Rattle.claims_lists.specs.Lists.{IsOf};
 ghost use Rattle.claims_lists.specs.Marks.{places_among};
 ghost use Rattle.claims_lists.specs.Places.{IsRoomy};

@@ -2,13 +2,13 @@
 ghost use Rattle.std.specs.Prelude.{◌≡◌, ◌++◌, [], map, slice_index_or, IfOk};
 ghost use Rattle.low_ir.specs.Arrays.{array_size};
 ghost use Rattle.low_ir.specs.View.{object_of};
-ghost use Rattle.claims_items.specs.Movables.{is_local, unless, movable_of};
+ghost use Rattle.claims_definition.specs.Movables.{is_local, unless, movable_of};
 ghost use Rattle.claims_making.specs.Sights.{region_in};
 ghost use Rattle.claims_movables.specs.Listed.{array_in, arrays_in};
 
 use super::numbers::{add, count};
-use claims_items::LaidItem;
-use image_rows::array_size;
+use claims_definition::LaidItem;
+use image_segments::array_size;
 use low_ir::object::{Object, Storage};
 use rv_core::Region;
 use std::alloc::Global;

@@ -3,7 +3,7 @@ ghost use Rattle.std.specs.Prelude.{◌≡◌, ◌/◌, false, length, map, slic
 ghost use Rattle.std.specs.List.{range_with_len};
 ghost use Rattle.asm_items.specs.Placings.{blocks_size};
 ghost use Rattle.low_ir.specs.View.{block_of};
-ghost use Rattle.claims_items.specs.Movables.{code_region, words_at, movable_of};
+ghost use Rattle.claims_definition.specs.Movables.{code_region, words_at, movable_of};
 ghost use Rattle.claims_lists.specs.Places.{IsRoomy, base_in, blocks_in};
 ghost use Rattle.claims_movables.specs.Listed.{function_in, low_blocks, size_in};
 
@@ -12,7 +12,7 @@ use super::numbers::{add, count, in_bytes};
 use super::sizes::{longest_of, size_of_blocks, words};
 use asm_data::Data;
 use asm_forms::Layout;
-use claims_items::LaidItem;
+use claims_definition::LaidItem;
 use claims_lists::{Laying, base_of, items_of};
 use low_ir::Block;
 use rv_core::Region;

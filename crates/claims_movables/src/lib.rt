@@ -4,7 +4,7 @@
 //! `near` counts the accesses of arrays near x3 or beside x7, `sizes` the bytes of code, `alone` has the accesses that touch one array
 //! alone, `functions` and `arrays` make the items.
 //!
-//! Proved: [`items`] makes the functions and then the arrays, each as `claims_items` defines it of each laid program that
+//! Proved: [`items`] makes the functions and then the arrays, each as `claims_definition` defines it of each laid program that
 //! has this code and layout. Memory may run out, and a number of 2^32 or more counts as that. Time and memory are linear
 //! in items, instructions and the arrays of claims.
 //!

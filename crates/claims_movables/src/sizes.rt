@@ -3,7 +3,7 @@ ghost use Rattle.std.specs.Prelude.{◌≡◌, ◌+◌, ◌/◌, ◌<◌, ◌^�
 ghost use Rattle.asm_items.specs.Items.{size, total};
 ghost use Rattle.asm_items.specs.Placings.{blocks_size};
 ghost use Rattle.asm_forms.specs.Shorter.{blocks_longest, items_longest, longest};
-ghost use Rattle.claims_items.specs.Movables.{words_at};
+ghost use Rattle.claims_definition.specs.Movables.{words_at};
 
 use super::numbers::add;
 use asm_items::Item;

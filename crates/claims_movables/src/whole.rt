@@ -5,7 +5,7 @@ ghost use Rattle.claims_lists.specs.Lists.{IsOf};
 ghost use Rattle.claims_lists.specs.Places.{IsRoomy};
 ghost use Rattle.claims_touches.specs.Named.{AreTouches};
 ghost use Rattle.claims_making.specs.Whole.{IsWhole};
-ghost use Rattle.claims_items.specs.Movables.{movables_of, movable_of};
+ghost use Rattle.claims_definition.specs.Movables.{movables_of, movable_of};
 ghost use Rattle.claims_movables.specs.Listed.{lists_below};
 
 use super::alone::accesses;
@@ -13,7 +13,7 @@ use super::arrays::{Arrays, put_arrays};
 use super::functions::function_items;
 use super::numbers::count;
 use asm_data::Data;
-use claims_items::LaidItem;
+use claims_definition::LaidItem;
 use claims_lists::Laying;
 use claims_places::by_number;
 use claims_touches::Touch;

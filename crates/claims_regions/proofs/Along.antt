@@ -3,8 +3,8 @@ use Rattle.std.proofs.Common.{◌≡◌, ℕ, List, [], length, map, ap, ◌∙�
 use Rattle.std.specs.Prelude.{Option, slice_index_or}
 use Rattle.std.specs.List.{flat_map}
 use Rattle.asm_items.specs.Placings.{base_of, blocks_of}
-use Rattle.claims_accesses.specs.Lines.{line_of}
-use Rattle.claims_accesses.specs.Touches.{program_touches}
+use Rattle.claims_definition.specs.Lines.{line_of}
+use Rattle.claims_definition.specs.Touches.{program_touches}
 use Rattle.claims_definition.specs.Listed.{Laid, accesses_in, accesses_of, by_address, placing, regions_of}
 use Rattle.claims_lists.specs.declared.laying.Laying.{Laying}
 use Rattle.claims_lists.specs.Lists.{IsOf}

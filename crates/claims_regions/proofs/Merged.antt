@@ -2,7 +2,7 @@
 use Rattle.std.proofs.Common.{◌≡◌, ℕ, Bool, true, false, List, [], ◌∷◌, ◌++◌, map, refl, sym, ap, ◌∙◌}
 use Rattle.std.specs.Prelude.{◌&&◌, if◌then◌else◌}
 use Rattle.code_flow_system.specs.declared.claims.Within.{Within}
-use Rattle.claims_accesses.specs.Lines.{Access, before, line_of, lines, same}
+use Rattle.claims_definition.specs.Lines.{Access, before, line_of, lines, same}
 use Rattle.claims_regions.specs.Merging.{alike, longer, merged, merged_behind}
 
 same_is : (a b : Bool) → same a b ≡ true → a ≡ b

@@ -8,8 +8,8 @@ use Rattle.code_flow_system.specs.declared.claims.Within.{Within}
 use Rattle.asm_items.specs.declared.item.Item.{Item}
 use Rattle.asm_items.specs.Items.{size, total}
 use Rattle.asm_items.specs.Placings.{Blocks}
-use Rattle.claims_accesses.specs.Lines.{Access, Letters, access_at, blocks_accesses, frame_letters, items_accesses, letters_of, line_of}
-use Rattle.claims_accesses.specs.Touches.{Touch, Nothing, OfFrame, OfArrays}
+use Rattle.claims_definition.specs.Lines.{Access, Letters, access_at, blocks_accesses, frame_letters, items_accesses, letters_of, line_of}
+use Rattle.claims_definition.specs.Touches.{Touch, Nothing, OfFrame, OfArrays}
 use Rattle.claims_regions.specs.declared.walks.Touched as touched
 use Rattle.claims_regions.specs.Seen.{letters_in, seen, view}
 use Rattle.claims_regions.specs.Singles.{blocks_singles, items_singles, single}

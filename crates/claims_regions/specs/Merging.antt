@@ -1,7 +1,7 @@
 -- Lines that go on for as long as the letters are the same.
 use Rattle.std.specs.Prelude.{Bool, ◌&&◌, List, [], ◌∷◌, ◌++◌, if◌then◌else◌}
 use Rattle.code_flow_system.specs.declared.claims.Within.{Within}
-use Rattle.claims_accesses.specs.Lines.{same}
+use Rattle.claims_definition.specs.Lines.{same}
 
 abbrev pub alike : Within → Within → Bool
 alike w n = same w.flash n.flash && (same w.spm n.spm && same w.ram n.ram)

@@ -1,8 +1,8 @@
 -- What an item touches, as the regions in which that may lie.
 use Rattle.std.specs.Prelude.{◌≡◌, ℕ, List, map, Option, None, Some, option_map}
 use Rattle.rv_core.specs.declared.regions.Region.{Region}
-use Rattle.claims_accesses.specs.Lines.{Letters, frame_letters, letters_of}
-use Rattle.claims_accesses.specs.Touches.{Touch, Nothing, OfFrame, OfArrays, program_touches}
+use Rattle.claims_definition.specs.Lines.{Letters, frame_letters, letters_of}
+use Rattle.claims_definition.specs.Touches.{Touch, Nothing, OfFrame, OfArrays, program_touches}
 use Rattle.claims_definition.specs.Listed.{Laid}
 use Rattle.claims_regions.specs.declared.walks.Touched as touched
 

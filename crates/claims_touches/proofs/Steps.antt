@@ -11,7 +11,7 @@ use Rattle.low_ir.specs.View.{instr_of, block_of, function_of}
 use Rattle.low_ir.specs.Places.{Assignment, Placed, place_instr, place_code, place_block, place_blocks, place_functions}
 use Rattle.asm_program.specs.Frames.{Memory}
 use Rattle.asm_program.specs.Functions.{PlacedBlock, at_once, function_in, start_items}
-use Rattle.claims_accesses.specs.Touches.{Touch, block_touches, blocks_touches, function_touches, functions_touches, instr_touches, leaving_touches, program_touches}
+use Rattle.claims_definition.specs.Touches.{Touch, block_touches, blocks_touches, function_touches, functions_touches, instr_touches, leaving_touches, program_touches}
 use Rattle.claims_touches.specs.declared.touch.Touch as names
 use Rattle.claims_touches.specs.Named.{instr_names, item_names, touch_in}
 use Rattle.claims_touches.specs.Bodies.{each_touches, instrs_touches}

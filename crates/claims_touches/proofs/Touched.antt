@@ -13,7 +13,7 @@ use Rattle.asm_program.specs.Numbers.{first_free, second_free}
 use Rattle.asm_program.specs.Frames.{Memory, frame_of}
 use Rattle.asm_program.specs.Operands.{address_code, operand_code, result_code}
 use Rattle.asm_program.specs.Functions.{end_items, instr_items, opening_items, singles}
-use Rattle.claims_accesses.specs.Touches.{Touch, OfArrays, body_touches, filled_touches, frame_touch, instr_touches, item_touch, named, touches}
+use Rattle.claims_definition.specs.Touches.{Touch, OfArrays, body_touches, filled_touches, frame_touch, instr_touches, item_touch, named, touches}
 use Rattle.claims_touches.specs.declared.touch.Touch as names
 use Rattle.claims_touches.specs.Named.{base_name, frame_name, instr_names, item_name, item_names, load_names, store_names, touch_in}
 use Rattle.claims_touches.specs.Bodies.{filled_names, instrs_touches}

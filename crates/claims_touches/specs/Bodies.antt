@@ -6,7 +6,7 @@ use Rattle.low_ir.specs.Places.{Placed}
 use Rattle.asm_program.specs.Frames.{Memory}
 use Rattle.asm_code.specs.declared.scope.Scope.{Scope}
 use Rattle.asm_code.specs.Scopes.{program}
-use Rattle.claims_accesses.specs.Touches.{Touch, instr_touches, function_touches}
+use Rattle.claims_definition.specs.Touches.{Touch, instr_touches, function_touches}
 use Rattle.claims_touches.specs.declared.touch.Touch as names
 use Rattle.claims_touches.specs.declared.touch.Touch.TheVariants as named
 use Rattle.claims_touches.specs.Named.{touch_in}

@@ -13,7 +13,7 @@ use Rattle.asm_program.specs.Numbers.{first_free, second_free}
 use Rattle.asm_program.specs.Frames.{Frame, Memory, frame_of}
 use Rattle.asm_program.specs.Operands.{address_code, operand_code, result_code}
 use Rattle.asm_program.specs.Functions.{instr_items, singles}
-use Rattle.claims_accesses.specs.Touches.{Touch, Nothing, OfFrame, OfArrays, program_touches}
+use Rattle.claims_definition.specs.Touches.{Touch, Nothing, OfFrame, OfArrays, program_touches}
 use Rattle.claims_touches.specs.declared.touch.Touch as names
 use Rattle.claims_touches.specs.declared.touch.Touch.TheVariants as named
 

@@ -4,7 +4,7 @@ ghost use Rattle.low_ir.specs.View.{instr_of, block_of, end_of};
 ghost use Rattle.asm_program.specs.Functions.{function_in, opening_items, end_items, leave_items};
 ghost use Rattle.asm_program.specs.Ranges.{InInstr, InBlock, InEnd, InProgram};
 ghost use Rattle.asm_code.specs.Scopes.{IsScope, memory, program, placed_code, placed_block, placed_blocks, placed_end};
-ghost use Rattle.claims_accesses.specs.Touches.{block_touches, blocks_touches, function_touches, leaving_touches, touches};
+ghost use Rattle.claims_definition.specs.Touches.{block_touches, blocks_touches, function_touches, leaving_touches, touches};
 ghost use Rattle.claims_touches.specs.Named.{item_names};
 ghost use Rattle.claims_touches.specs.Bodies.{filled_names, instrs_touches, touches_in};
 

@@ -4,7 +4,7 @@
 //! `touch` says what an item touches by itself, `instrs` what the items of an instruction touch, `blocks` those of blocks
 //! and of a function, `programs` those of all functions and of the start code.
 //!
-//! Proved: [`touches_of`] makes what `claims_accesses` defines of a `LowReg`, for any frames and addresses of arrays, or
+//! Proved: [`touches_of`] makes what `claims_definition` defines of a `LowReg`, for any frames and addresses of arrays, or
 //! memory ran out (more than 2^32 blocks count as that). The time is linear in the items, and an access costs the same
 //! however many arrays its claim has.
 //!

@@ -4,7 +4,7 @@ ghost use Rattle.low_ir.specs.View.{function_of};
 ghost use Rattle.low_ir.specs.Placings.{placed_of};
 ghost use Rattle.low_ir.specs.Programs.{low_of};
 ghost use Rattle.asm_program.specs.Functions.{start_items};
-ghost use Rattle.claims_accesses.specs.Touches.{function_touches, functions_touches};
+ghost use Rattle.claims_definition.specs.Touches.{function_touches, functions_touches};
 ghost use Rattle.claims_touches.specs.Named.{AreTouches, item_names, touch_in};
 
 use super::blocks::function_touches;

@@ -17,7 +17,7 @@ use std::alloc::Global;
 use thiserror::Error;
 
 /// Why an image and claims have no system.
-#[derive(Debug, Drop, PartialEq, Eq, Error)]
+#[derive(Debug, Drop, Error)]
 pub enum CodeFault {
     #[error("claim {index} is bad")]
     BadClaim { index: u32 },

@@ -1,10 +1,10 @@
 // The files that the commands find, and what a command makes of them where nothing fails.
 
 use crate::endings::{Outputs, all_put, bytes_of};
+use base_stores::{CalmSink, CalmStore};
 use command_perform::perform;
 use std::alloc::Global;
 use std::test::Fail;
-use wcc_base::{CalmSink, CalmStore};
 use wcc_compile::WccCompiler;
 
 const COSTS: &str =

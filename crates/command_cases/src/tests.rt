@@ -4,11 +4,12 @@ ghost use Rattle.std.specs.Prelude.{◌<◌};
 use crate::endings::{Seen, all_put, bytes_of, ends_with};
 use crate::given::{Case, given, make_case, words_of};
 use crate::watched::{WatchedSink, WatchedStore};
+use base_stores::{MemSink, MemStore};
 use command_perform::perform;
 use std::alloc::Global;
 use std::process::Abort;
 use std::test::Fail;
-use wcc_base::{MemSink, MemStore, Status};
+use wcc_base::Status;
 use wcc_compile::WccCompiler;
 
 // How a call ended: whether as it is defined, how many calls of the store and of the sink it made, and how many failed.

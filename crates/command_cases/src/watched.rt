@@ -1,7 +1,8 @@
 // A store and a sink that count what becomes of their calls.
-ghost use Rattle.wcc_base.specs.States.{mem_store, mem_sink};
+ghost use Rattle.base_stores.specs.States.{mem_store, mem_sink};
 
-use wcc_base::{Fault, MemSink, MemStore, Sink, Store};
+use base_stores::{MemSink, MemStore};
+use wcc_base::{Fault, Sink, Store};
 
 /// A store in memory, how often it was called, and how often reading and writing failed.
 #[derive(Drop)]

@@ -93,11 +93,14 @@ by_result by c (Ok m) old mid new out out' result o made built f h = made_built 
 by_result by c (Err s) old mid new out out' result o fails built f h = absurd (never_fails c s old fails (done_before s (line_of s) out out' result f.1 h))
 
 -- what was made and finished was built
-pub performs_built : (by : Builder) (asked : Option Asked) (c : Asked) (r : Result Made Status) (old mid new : StoreState) (out out' : SinkState) (result : Status) → asked ≡ Some c → OnlyRead old mid r
+pub performs_built : (by : Builder) (c : Asked) (r : Result Made Status) (old mid new : StoreState) (out out' : SinkState) (result : Status) → OnlyRead old mid r
     → MatchResult r (λ m. IsEnd m.status × MakesIn c old.files (outputs_of m)) (λ s. Fails c old.files s) → IfOk r (λ m. BuildsIn by c old.files (outputs_of m))
-    → MatchResult r (λ m. Finished (outputs_of m) mid new out out' result) (λ s. (new ≡ mid) × Reported s (line_of s) out out' result) → result ≡ status.Done → AreBuilt by asked old new
-performs_built by asked c r old mid new out out' result a o made built f done =
-    subst (λ (k : Option Asked). AreBuilt by k old new) (sym a) (by_result by c r old mid new out out' result o made built f (subst IsDoneStatus (sym done) tt))
+    → MatchResult r (λ m. Finished (outputs_of m) mid new out out' result) (λ s. (new ≡ mid) × Reported s (line_of s) out out' result) → result ≡ status.Done → AreBuilt by (Some c) old new
+performs_built by c r old mid new out out' result o made built f done = by_result by c r old mid new out out' result o made built f (subst IsDoneStatus (sym done) tt)
+
+-- the words ask for what was built
+pub asked_built : (by : Builder) (asked : Option Asked) (c : Asked) (old new : StoreState) → Some c ≡ asked → AreBuilt by (Some c) old new → AreBuilt by asked old new
+asked_built by asked c old new is built = subst (λ (k : Option Asked). AreBuilt by k old new) is built
 
 -- the words ask for nothing
 pub nothing_built : (by : Builder) (asked : Option Asked) (old new : StoreState) → asked ≡ None → AreBuilt by asked old new

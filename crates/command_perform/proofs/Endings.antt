@@ -44,11 +44,15 @@ fails_end c old mid new out out' s result o f u =
     (s, line_of s, subst (λ (k : StoreState). Ending c old k s (line_of s)) (sym u.0) (fails_ending c old mid s o f), u.1)
 
 -- what was made or not was finished
-pub performs : (asked : Option Asked) (c : Asked) (r : Result Made Status) (old mid new : StoreState) (out out' : SinkState) (result : Status) → asked ≡ Some c → OnlyRead old mid r
+pub performs : (c : Asked) (r : Result Made Status) (old mid new : StoreState) (out out' : SinkState) (result : Status) → OnlyRead old mid r
     → MatchResult r (λ m. IsEnd m.status × MakesIn c old.files (outputs_of m)) (λ s. Fails c old.files s)
-    → MatchResult r (λ m. Finished (outputs_of m) mid new out out' result) (λ s. (new ≡ mid) × Reported s (line_of s) out out' result) → EndsWith asked old new out out' result
-performs asked c (Ok m) old mid new out out' result a o x y = subst (λ (k : Option Asked). EndsWith k old new out out' result) (sym a) (made_ends c old mid new out out' (outputs_of m) result o.same (all_read old mid m o) x.0 x.1 y)
-performs asked c (Err s) old mid new out out' result a o x y = subst (λ (k : Option Asked). EndsWith k old new out out' result) (sym a) (fails_end c old mid new out out' s result o x y)
+    → MatchResult r (λ m. Finished (outputs_of m) mid new out out' result) (λ s. (new ≡ mid) × Reported s (line_of s) out out' result) → EndsWith (Some c) old new out out' result
+performs c (Ok m) old mid new out out' result o x y = made_ends c old mid new out out' (outputs_of m) result o.same (all_read old mid m o) x.0 x.1 y
+performs c (Err s) old mid new out out' result o x y = fails_end c old mid new out out' s result o x y
+
+-- the words ask for what was done
+pub asked_ends : (asked : Option Asked) (c : Asked) (old new : StoreState) (out out' : SinkState) (result : Status) → Some c ≡ asked → EndsWith (Some c) old new out out' result → EndsWith asked old new out out' result
+asked_ends asked c old new out out' result is ends = subst (λ (k : Option Asked). EndsWith k old new out out' result) is ends
 
 refusal_answers : (c : Asked) (old new : StoreState) (out out' : SinkState) (s : Status) → IsRefusal s → RefusesIn c old.files s → new ≡ old → Answers (Some c) old new out out' s × Answers (Some c) old new out out' (status_after_fault s)
 refusal_answers c old new out out' (status.Refused code detail at) i r e = ((r, e), (r, e))

@@ -27,8 +27,8 @@ fn write_each<S: Store>(store: &mut S, files: &[Output]) -> Result<(), Fault>
 }
 
 // Writes what was made, and prints its lines.
-fn finish_made<S: Store, O: Sink>(store: &mut S, out: &mut O, made: Made) -> Status
-    ensures { Finished (outputs_of made.entry) (S.state store.old) (S.state store.new) (O.state out.old) (O.state out.new) result }
+fn finish_made<S: Store, O: Sink>(store: &mut S, out: &mut O, made: &Made) -> Status
+    ensures { Finished (outputs_of made.now) (S.state store.old) (S.state store.new) (O.state out.old) (O.state out.new) result }
 {
     match write_each(store, &made.files) {
         Ok(()) => report_text(out, made.status, made.lines.as_slice()),
@@ -44,7 +44,11 @@ pub fn finish<S: Store, O: Sink>(store: &mut S, out: &mut O, made: Result<Made, 
         (λ s. (S.state store.new ≡ S.state store.old) × Reported s (line_of s) (O.state out.old) (O.state out.new) result) }
 {
     match made {
-        Ok(made) => finish_made(store, out, made),
+        Ok(made) => {
+            let status = finish_made(store, out, &made);
+            drop(made);
+            status
+        }
         Err(status) => report_status(out, status),
     }
 }

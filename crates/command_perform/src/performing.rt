@@ -1,5 +1,5 @@
 // A command from its words to its status.
-ghost use Rattle.std.specs.Prelude.{◌≡◌, ◌⊎◌, map, string_bytes, IfOk, MatchResult};
+ghost use Rattle.std.specs.Prelude.{◌≡◌, ◌⊎◌, map, string_bytes, IfOk, MatchResult, Some};
 ghost use Rattle.wcc_base.specs.declared.status.Status.TheVariants as status;
 ghost use Rattle.command_perform.specs.Words.{asked_by, IsInRange, Named};
 ghost use Rattle.command_perform.specs.Asked.{command_of, asked_of};
@@ -56,6 +56,21 @@ fn work<'a, C: Compiler, S: Store>(
     }
 }
 
+// Does what is asked, and prints how it ended.
+fn perform_asked<C: Compiler, S: Store, O: Sink>(
+    compiler: &C,
+    alloc: Global,
+    asked: Asked,
+    store: &mut S,
+    out: &mut O,
+) -> Status
+    ensures ends { EndsWith (Some (asked_of asked.entry)) (S.state store.old) (S.state store.new) (O.state out.old) (O.state out.new) result }
+    ensures built { result ≡ status.Done → AreBuilt C.builds (Some (asked_of asked.entry)) (S.state store.old) (S.state store.new) }
+{
+    let made = work(compiler, alloc, store, asked);
+    finish(store, out, made)
+}
+
 /// Does what the words ask, by this compiler where something is compiled, and prints how it ended. The words come without the
 /// program's name.
 pub fn perform<C: Compiler, S: Store, O: Sink>(
@@ -70,10 +85,7 @@ pub fn perform<C: Compiler, S: Store, O: Sink>(
     ensures range { (result ≡ status.Memory) ⊎ IsInRange (asked_by (map string_bytes words.now)) }
 {
     match read_command(alloc, words) {
-        Ok(Some(asked)) => {
-            let made = work(compiler, alloc, store, asked);
-            finish(store, out, made)
-        }
+        Ok(Some(asked)) => perform_asked(compiler, alloc, asked, store, out),
         Ok(None) => report_status(out, Status::Usage),
         Err(_) => report_status(out, Status::Memory),
     }

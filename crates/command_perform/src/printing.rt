@@ -5,9 +5,10 @@ ghost use Rattle.command_perform.specs.Lines.{shown, all_shown};
 ghost use Rattle.command_perform.specs.Finishing.{IsCut, Reported, unprinted};
 
 use crate::lines::{Part, address};
+use base_stores::CalmSink;
 use itoa::Buffer;
 use std::alloc::Global;
-use wcc_base::{CalmSink, Fault, Memory, Sink, Status};
+use wcc_base::{Fault, Memory, Sink, Status};
 
 // Puts bytes whole.
 fn put_all<O: Sink>(out: &mut O, bytes: &[u8]) -> Result<(), Fault>

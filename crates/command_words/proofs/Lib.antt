@@ -1,5 +1,6 @@
 pub mod Getters
 pub mod Accepted
+mod Defining
 mod Laws
 mod Taking
 mod Verbs

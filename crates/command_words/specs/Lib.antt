@@ -1,5 +1,6 @@
 pub mod Arguments
 pub mod Commands
+pub mod Defined
 pub mod Values
 pub mod Requests
 pub mod Asked

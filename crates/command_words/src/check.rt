@@ -5,6 +5,7 @@ ghost use Rattle.command_words.specs.Commands.{check_command};
 ghost use Rattle.command_words.specs.Asked.{check_asked};
 ghost use Rattle.command_words.specs.Held.{request_of};
 
+use crate::argument::Argument;
 use crate::request::{CheckRequest, Request};
 use crate::{arguments, values};
 use clap::{ArgMatches, Command};
@@ -14,10 +15,15 @@ use std::alloc::{AllocError, Global};
 pub fn command<'a>(alloc: Global) -> Result<Command<'a>, AllocError>
     ensures { IfOk result (λ c. app_of c ≡ check_command) }
 {
-    Command::new(alloc, "check")
-        .arg(arguments::file(alloc, "IMAGE"))?
-        .arg(arguments::file(alloc, "REPORT"))?
-        .arg(arguments::option(alloc, "table"))
+    arguments::command(
+        alloc,
+        "check",
+        &[
+            Argument::File("IMAGE"),
+            Argument::File("REPORT"),
+            Argument::FileOption("table"),
+        ],
+    )
 }
 
 /// What the matches ask.

@@ -1,12 +1,12 @@
 // The words of `compile`.
 ghost use Rattle.std.specs.Prelude.{◌≡◌, IfOk, codes};
-ghost use Rattle.clap.specs.Words.{app_of, found_of, rows_of, with_rule};
-ghost use Rattle.command_words.specs.Arguments.{number_rule};
+ghost use Rattle.clap.specs.Words.{app_of, found_of, rows_of};
 ghost use Rattle.command_words.specs.Commands.{compile_command};
 ghost use Rattle.command_words.specs.Values.{IsGivenIn};
 ghost use Rattle.command_words.specs.Asked.{compile_asked};
 ghost use Rattle.command_words.specs.Held.{request_of};
 
+use crate::argument::{Argument, Numbers};
 use crate::request::{CompileRequest, Request};
 use crate::{arguments, values};
 use clap::{ArgMatches, Command};
@@ -18,26 +18,42 @@ const UNROLL_MOST: u64 = 64;
 
 const INLINE_MOST: u64 = 10_000;
 
-// The command with the numbers of `compile`.
-fn with_numbers<'a>(alloc: Global, command: Command<'a>) -> Result<Command<'a>, AllocError>
-    ensures { IfOk result (λ r. app_of r ≡ with_rule (with_rule (with_rule (app_of command.entry)
-        (number_rule (codes "spm") 0 65536)) (number_rule (codes "unroll") 1 64)) (number_rule (codes "inline") 0 10000)) }
-{
-    command
-        .arg(arguments::number(alloc, "spm", 0, SPM_MOST))?
-        .arg(arguments::number(alloc, "unroll", 1, UNROLL_MOST))?
-        .arg(arguments::number(alloc, "inline", 0, INLINE_MOST))
-}
-
 /// The definition of `compile`.
 pub fn command<'a>(alloc: Global) -> Result<Command<'a>, AllocError>
     ensures { IfOk result (λ c. app_of c ≡ compile_command) }
 {
-    let command = Command::new(alloc, "compile");
-    let command = arguments::with_three_files(alloc, command, "SOURCE", "IMAGE", "REPORT")?;
-    with_numbers(alloc, command)?
-        .arg(arguments::option(alloc, "table"))?
-        .arg(arguments::flag(alloc, "derive"))
+    arguments::command(
+        alloc,
+        "compile",
+        &[
+            Argument::File("SOURCE"),
+            Argument::File("IMAGE"),
+            Argument::File("REPORT"),
+            Argument::NumberOption(
+                "spm",
+                Numbers {
+                    least: 0,
+                    most: SPM_MOST,
+                },
+            ),
+            Argument::NumberOption(
+                "unroll",
+                Numbers {
+                    least: 1,
+                    most: UNROLL_MOST,
+                },
+            ),
+            Argument::NumberOption(
+                "inline",
+                Numbers {
+                    least: 0,
+                    most: INLINE_MOST,
+                },
+            ),
+            Argument::FileOption("table"),
+            Argument::Flag("derive"),
+        ],
+    )
 }
 
 /// What the matches ask.

@@ -5,6 +5,7 @@ ghost use Rattle.command_words.specs.Commands.{eval_command};
 ghost use Rattle.command_words.specs.Asked.{eval_asked};
 ghost use Rattle.command_words.specs.Held.{request_of};
 
+use crate::argument::Argument;
 use crate::request::{EvalRequest, Request};
 use crate::{arguments, values};
 use clap::{ArgMatches, Command};
@@ -14,10 +15,16 @@ use std::alloc::{AllocError, Global};
 pub fn command<'a>(alloc: Global) -> Result<Command<'a>, AllocError>
     ensures { IfOk result (λ c. app_of c ≡ eval_command) }
 {
-    let command = Command::new(alloc, "eval");
-    arguments::with_three_files(alloc, command, "SOURCE", "INPUT", "OUTPUT")?.arg(arguments::flag(
-        alloc, "derive",
-    ))
+    arguments::command(
+        alloc,
+        "eval",
+        &[
+            Argument::File("SOURCE"),
+            Argument::File("INPUT"),
+            Argument::File("OUTPUT"),
+            Argument::Flag("derive"),
+        ],
+    )
 }
 
 /// What the matches ask.

@@ -13,6 +13,7 @@
 //! The crate reads no file, and doesn't know what a command does, nor which ones a program has.
 #![tactic(auto)]
 
+mod argument;
 mod arguments;
 mod check;
 mod compile;

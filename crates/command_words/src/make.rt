@@ -6,6 +6,7 @@ ghost use Rattle.command_words.specs.Values.{IsGivenIn};
 ghost use Rattle.command_words.specs.Asked.{make_asked};
 ghost use Rattle.command_words.specs.Held.{request_of};
 
+use crate::argument::{Argument, Numbers};
 use crate::request::{MakeRequest, Request};
 use crate::{arguments, values};
 use clap::{ArgMatches, Command};
@@ -15,8 +16,22 @@ use std::alloc::{AllocError, Global};
 pub fn command<'a>(alloc: Global) -> Result<Command<'a>, AllocError>
     ensures { IfOk result (λ c. app_of c ≡ make_command) }
 {
-    let command = Command::new(alloc, "make").arg(arguments::placed_number(alloc, "N", 1, 100))?;
-    arguments::with_three_files(alloc, command, "SOURCE", "IMAGE", "REPORT")
+    arguments::command(
+        alloc,
+        "make",
+        &[
+            Argument::Number(
+                "N",
+                Numbers {
+                    least: 1,
+                    most: 100,
+                },
+            ),
+            Argument::File("SOURCE"),
+            Argument::File("IMAGE"),
+            Argument::File("REPORT"),
+        ],
+    )
 }
 
 /// What the matches ask.

@@ -5,6 +5,7 @@ ghost use Rattle.command_words.specs.Commands.{report_command};
 ghost use Rattle.command_words.specs.Asked.{report_asked};
 ghost use Rattle.command_words.specs.Held.{request_of};
 
+use crate::argument::Argument;
 use crate::request::{ReportRequest, Request};
 use crate::{arguments, values};
 use clap::{ArgMatches, Command};
@@ -14,7 +15,7 @@ use std::alloc::{AllocError, Global};
 pub fn command<'a>(alloc: Global) -> Result<Command<'a>, AllocError>
     ensures { IfOk result (λ c. app_of c ≡ report_command) }
 {
-    Command::new(alloc, "report").arg(arguments::file(alloc, "REPORT"))
+    arguments::command(alloc, "report", &[Argument::File("REPORT")])
 }
 
 /// What the matches ask.

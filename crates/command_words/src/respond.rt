@@ -5,6 +5,7 @@ ghost use Rattle.command_words.specs.Commands.{respond_command};
 ghost use Rattle.command_words.specs.Asked.{respond_asked};
 ghost use Rattle.command_words.specs.Held.{request_of};
 
+use crate::argument::Argument;
 use crate::request::{Request, RespondRequest};
 use crate::{arguments, values};
 use clap::{ArgMatches, Command};
@@ -14,9 +15,11 @@ use std::alloc::{AllocError, Global};
 pub fn command<'a>(alloc: Global) -> Result<Command<'a>, AllocError>
     ensures { IfOk result (λ c. app_of c ≡ respond_command) }
 {
-    Command::new(alloc, "respond")
-        .arg(arguments::file(alloc, "TASKS"))?
-        .arg(arguments::option(alloc, "table"))
+    arguments::command(
+        alloc,
+        "respond",
+        &[Argument::File("TASKS"), Argument::FileOption("table")],
+    )
 }
 
 /// What the matches ask.

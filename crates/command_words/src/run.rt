@@ -6,6 +6,7 @@ ghost use Rattle.command_words.specs.Values.{IsGivenIn};
 ghost use Rattle.command_words.specs.Asked.{run_asked};
 ghost use Rattle.command_words.specs.Held.{request_of};
 
+use crate::argument::{Argument, Numbers};
 use crate::request::{Request, RunRequest};
 use crate::{arguments, values};
 use clap::{ArgMatches, Command};
@@ -18,10 +19,23 @@ const LIMIT_MOST: u64 = 1 << 62;
 pub fn command<'a>(alloc: Global) -> Result<Command<'a>, AllocError>
     ensures { IfOk result (λ c. app_of c ≡ run_command) }
 {
-    let command = Command::new(alloc, "run");
-    arguments::with_three_files(alloc, command, "IMAGE", "INPUT", "OUTPUT")?
-        .arg(arguments::number(alloc, "limit", 0, LIMIT_MOST))?
-        .arg(arguments::option(alloc, "table"))
+    arguments::command(
+        alloc,
+        "run",
+        &[
+            Argument::File("IMAGE"),
+            Argument::File("INPUT"),
+            Argument::File("OUTPUT"),
+            Argument::NumberOption(
+                "limit",
+                Numbers {
+                    least: 0,
+                    most: LIMIT_MOST,
+                },
+            ),
+            Argument::FileOption("table"),
+        ],
+    )
 }
 
 /// What the matches ask.

@@ -36,7 +36,7 @@ use Rattle.layout_kept.specs.Kept.{IsLight}
 use Rattle.path_conditions.specs.Searching.{CanSearch}
 use Rattle.path_conditions.specs.Bounding.{CanBound}
 use Rattle.report_text.specs.declared.entries.CopyLine.{CopyLine}
-use Rattle.compile_claims.specs.Laws.{AreLightFacts, under}
+use Rattle.compile_claims.specs.ClaimLaws.{AreLightFacts, under}
 use Rattle.compile_claims.specs.Named.{named}
 use Rattle.compile_claims.proofs.Bounds.{bound_same}
 use Rattle.compile_claims.proofs.Systems.{system_same}

@@ -19,8 +19,8 @@ use Rattle.report_text.specs.Forms.{Ascend}
 use Rattle.report_text.specs.declared.entries.CopyLine.{CopyLine}
 use Rattle.compile_claims.specs.Places.{places_at}
 use Rattle.compile_facts.specs.Told.{AreAscending}
-use Rattle.compile_lines.specs.CopyLines.{AreLinesOf, IsLineOf}
-use Rattle.compile_lines.proofs.Counting.{at_mark, line_sum}
+use Rattle.compile_claims.specs.CopyLines.{AreLinesOf, IsLineOf}
+use Rattle.compile_claims.proofs.Counting.{at_mark, line_sum}
 use Rattle.compile_made.specs.Made.{IsMade, copies_of, high_of}
 use Rattle.compile_made.specs.declared.made.Made.{Made}
 use Rattle.compile_handed.proofs.Places.{sorted_ascends, times}

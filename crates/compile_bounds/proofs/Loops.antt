@@ -24,7 +24,7 @@ use Rattle.low_ir.specs.Placings.{assignment_of, placed_of}
 use Rattle.low_ir.specs.Programs.{low_of}
 use Rattle.asm_program.specs.Functions.{PlacedFunction, function_in, no_function}
 use Rattle.layout_laid.specs.declared.laid.Laid as lays
-use Rattle.claims_definition.specs.Laws.{AreLoopClaims, IsClaimOf}
+use Rattle.claims_definition.specs.ClaimLaws.{AreLoopClaims, IsClaimOf}
 use Rattle.claims_definition.specs.Listed.{Laid, loops_of}
 use Rattle.claims_image.specs.Images.{laid_of}
 use Rattle.compile_made.specs.declared.made.Made.{Made}

@@ -14,7 +14,7 @@ use Rattle.high_ir.specs.declared.copies.LoopCopies.{LoopCopies}
 use Rattle.high_ir.specs.declared.copies.NeverMark.{NeverMark}
 use Rattle.path_conditions.specs.Searching.{CanSearch}
 use Rattle.compile_facts.specs.Told.{AreFactsTold}
-use Rattle.compile_lines.specs.CopyLines.{AreLinesOf}
+use Rattle.compile_claims.specs.CopyLines.{AreLinesOf}
 use Rattle.compile_handed.specs.Handed.{AreHandedOn}
 use Rattle.compile_made.specs.declared.made.Made.{Made}
 use Rattle.compile_made.specs.Made.{IsMade, copies_of, high_of}

@@ -14,7 +14,7 @@ use Rattle.high_ir.specs.Tree.{Object, Program}
 use Rattle.high_pass.specs.Composing.{Continues}
 use Rattle.high_pass.specs.Law.{FactorsWithin, IsLawful}
 use Rattle.high_pass.specs.Listing.{Listing}
-use Rattle.compile_words.proofs.Sources.{source_is_whole}
+use Rattle.compile_carried.proofs.Sources.{source_is_whole}
 use Rattle.compile_kept.specs.Limits.{IsLimited}
 use Rattle.compile_carried.proofs.Plans.{pass_limited, source_limited}
 use Rattle.compile_kept.specs.Carried.{IsCarried, IsPassed, IsPlanned}

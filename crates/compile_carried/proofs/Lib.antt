@@ -1,3 +1,9 @@
+pub mod Folding
+pub mod Typing
 pub mod Units
+pub mod Tokens
+pub mod Spelling
+pub mod Sources
+pub mod CarriedUnits
 pub mod Plans
 pub mod Carried

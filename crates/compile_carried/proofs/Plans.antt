@@ -16,7 +16,7 @@ use Rattle.plan_formed.proofs.Planned.{planned_is_high}
 use Rattle.plan_law.proofs.Bytes.{bytes_most}
 use Rattle.plan_law.proofs.Sources.{checked}
 use Rattle.compile_kept.specs.Limits.{IsLimited, global_bytes}
-use Rattle.compile_carried.proofs.Units.{few_functions, globals_few}
+use Rattle.compile_carried.proofs.CarriedUnits.{few_functions, globals_few}
 
 plan_limited : (names : List (List ℕ)) (program : typed.Program) (facts : Facts) → IsChecked names program facts → IsLimited (program_planned program facts (main_of program names))
 plan_limited names program facts h =

@@ -4,27 +4,14 @@
 //! [`plans_are_carried`]; [`passes_carry`], that one more pass keeps all of it; and of its size, [`plans_keep_limits`], by the
 //! limits of the language, and [`passes_keep_limits`].
 //!
+//! The typed program of a source, as the front ends read it, is one whose constants are words (`proofs/Sources`), so by
+//! `plan_law` its plan is whole (`IsWhole` of the high form). What a token says is a word (`Tokens`), so the constants
+//! of the tree whose spelling the tokens are (`Spelling`) are words too, and those of its typed tree (`Typing`, `Units`), the words of labels among
+//! them, which are the values of constant expressions (`Folding`).
+//!
 //! The crate knows no pass, no machine and not how a plan is made.
 #![tactic(auto)]
 
-ghost use Rattle.compile_carried.specs.Laws.{PassesCarry, PassesKeepLimits, PlansAreCarried, PlansKeepLimits};
+mod laws;
 
-/// The plan of a source keeps the limits.
-pub fn plans_keep_limits()
-    ensures { PlansKeepLimits }
-{}
-
-/// So does what passes make of it.
-pub fn passes_keep_limits()
-    ensures { PassesKeepLimits }
-{}
-
-/// The plan of a source is carried.
-pub fn plans_are_carried()
-    ensures { PlansAreCarried }
-{}
-
-/// So is what one more pass makes of what is.
-pub fn passes_carry()
-    ensures { PassesCarry }
-{}
+pub use laws::{passes_carry, passes_keep_limits, plans_are_carried, plans_keep_limits};

@@ -13,9 +13,9 @@ use Rattle.low_ir.specs.Code.{Object}
 use Rattle.low_ir.specs.Arrays.{array_size}
 use Rattle.low_ir.specs.Kinds.{kind_bytes}
 use Rattle.claims_definition.specs.Listed.{Laid}
-use Rattle.claims_items.specs.Movables.{array_item, arrays_from, function_item, is_local, movables_of, unless}
+use Rattle.claims_definition.specs.Movables.{array_item, arrays_from, function_item, is_local, movables_of, unless}
 use Rattle.layout_kept.specs.Items.{HasElements}
-use Rattle.image_sizes.specs.Sizes.{globals_size, unless_local}
+use Rattle.image_definition.specs.Sizes.{globals_size, unless_local}
 use Rattle.spm_placement.specs.Gains.{gained}
 use Rattle.compile_choices.specs.Laws.{items_of}
 

@@ -10,10 +10,10 @@ use Rattle.low_ir.specs.Code.{Object}
 use Rattle.low_ir.specs.Places.{Placed}
 use Rattle.image_frames.specs.Memories.{Placement}
 use Rattle.image_frames.specs.Placings.{is_among, MovesItems}
-use Rattle.image_sizes.specs.Sizes.{HasRoom, array_sizes, code_size, function_sizes, sizes_placed}
+use Rattle.image_definition.specs.Sizes.{HasRoom, array_sizes, code_size, function_sizes, sizes_placed}
 use Rattle.claims_definition.specs.Listed.{Laid}
 use Rattle.claims_image.specs.Images.{laid_of}
-use Rattle.claims_items.specs.Movables.{is_local}
+use Rattle.claims_definition.specs.Movables.{is_local}
 use Rattle.spm_placement.specs.declared.item.Item.{Item}
 use Rattle.spm_placement.specs.Sets.{AreBest, bytes, number}
 use Rattle.spm_placement.proofs.Taking.{not_among, taken}

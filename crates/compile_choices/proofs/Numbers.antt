@@ -10,7 +10,7 @@ use Rattle.low_ir.specs.declared.object.Storage.TheVariants.{Constant, Global, L
 use Rattle.low_ir.specs.Code.{Object}
 use Rattle.image_frames.specs.Placings.{is_among}
 use Rattle.claims_definition.specs.Listed.{Laid}
-use Rattle.claims_items.specs.Movables.{Movable, array_item, arrays_from, function_item, is_local, movables_of, unless}
+use Rattle.claims_definition.specs.Movables.{Movable, array_item, arrays_from, function_item, is_local, movables_of, unless}
 use Rattle.spm_placement.specs.Gains.{gained}
 use Rattle.spm_placement.specs.Placings.{AreApart}
 use Rattle.spm_placement.specs.Sets.{number}

@@ -12,14 +12,14 @@ use Rattle.low_ir.specs.declared.object.Storage.TheVariants.{Constant, Global, L
 use Rattle.low_ir.specs.Code.{Object}
 use Rattle.low_ir.specs.Places.{Placed}
 use Rattle.image_frames.specs.Memories.{Placement}
-use Rattle.image_sizes.specs.Sizes.{code_size, sizes_placed}
-use Rattle.claims_definition.specs.Laws.{IsSettled}
+use Rattle.image_definition.specs.Sizes.{code_size, sizes_placed}
+use Rattle.claims_definition.specs.ClaimLaws.{IsSettled}
 use Rattle.claims_definition.specs.Listed.{Laid}
 use Rattle.claims_image.specs.Images.{laid_of}
-use Rattle.claims_items.specs.Movables.{Movable, array_item, arrays_from, function_item, is_local, movables_of, unless}
-use Rattle.claims_items.proofs.Movables.{array_movable, function_movable}
+use Rattle.claims_definition.specs.Movables.{Movable, array_item, arrays_from, function_item, is_local, movables_of, unless}
+use Rattle.claims_definition.proofs.Movables.{array_movable, function_movable}
 use Rattle.layout_kept.specs.Items.{arrays_sized, sized}
-use Rattle.layout_sizes.proofs.Keeping.{sizes_stay}
+use Rattle.layout_law.proofs.Keeping.{sizes_stay}
 use Rattle.spm_placement.specs.declared.item.Item.{Item}
 use Rattle.spm_placement.specs.Gains.{gained}
 use Rattle.spm_placement.specs.Placings.{bytes_where}

@@ -4,11 +4,11 @@ use Rattle.rv_core.specs.Table.{Table}
 use Rattle.code_flow_system.specs.declared.cert.Part.{Part}
 use Rattle.low_ir.specs.Places.{Placed}
 use Rattle.image_frames.specs.Memories.{Placement}
-use Rattle.image_sizes.specs.Sizes.{HasRoom, globals_size}
-use Rattle.claims_definition.specs.Laws.{IsSettled}
+use Rattle.image_definition.specs.Sizes.{HasRoom, globals_size}
+use Rattle.claims_definition.specs.ClaimLaws.{IsSettled}
 use Rattle.claims_definition.specs.Listed.{Laid}
 use Rattle.claims_image.specs.Images.{laid_of}
-use Rattle.claims_items.specs.Movables.{movables_of}
+use Rattle.claims_definition.specs.Movables.{movables_of}
 use Rattle.layout_kept.specs.Items.{HasElements}
 use Rattle.image_frames.specs.Placings.{MovesItems}
 use Rattle.spm_placement.specs.declared.item.Item.{Item}

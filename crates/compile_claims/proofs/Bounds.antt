@@ -19,7 +19,7 @@ use Rattle.path_conditions.specs.Searching.{CanSearch}
 use Rattle.path_conditions.specs.Bounding.{CanBound}
 use Rattle.high_pass.specs.Listing.{LoopEntry}
 use Rattle.high_pass.proofs.Elements.{All-map_back}
-use Rattle.compile_claims.specs.Laws.{AreLightFacts, under}
+use Rattle.compile_claims.specs.ClaimLaws.{AreLightFacts, under}
 use Rattle.compile_claims.specs.Named.{by_entries, named}
 
 module _ (es : List LoopEntry) (ns : List Never) (fs : List FactClaim) where

@@ -1,2 +1,4 @@
 pub mod Systems
 pub mod Bounds
+pub mod Lines
+pub mod Counting

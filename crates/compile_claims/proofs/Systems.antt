@@ -11,7 +11,7 @@ use Rattle.code_flow_system.specs.Claims.{AreSound, Claims, exit_flaws, fact_fla
 use Rattle.code_flow_system.specs.Systems.{IsBad, IsFalseExit, IsFirstNoCode, IsNoCode, IsSystemOf, System}
 use Rattle.high_pass.specs.Listing.{LoopEntry}
 use Rattle.high_pass.proofs.Elements.{All-append_back, All-append_front, at_or}
-use Rattle.compile_claims.specs.Laws.{under}
+use Rattle.compile_claims.specs.ClaimLaws.{under}
 use Rattle.compile_claims.specs.Named.{by_entries, named}
 
 abbrev Fine : Bool → Type 0

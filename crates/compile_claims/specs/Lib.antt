@@ -1,3 +1,5 @@
 pub mod Places
 pub mod Named
-pub mod Laws
+pub mod ClaimLaws
+pub mod CopyLines
+pub mod Shares

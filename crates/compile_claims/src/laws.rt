@@ -1,5 +1,5 @@
 // The laws of claims that are handed on.
-ghost use Rattle.compile_claims.specs.Laws.{BoundsAreSame, NoCodeIsSame, NoneIsBad, RunsKeepSame, SystemsAreSame};
+ghost use Rattle.compile_claims.specs.ClaimLaws.{BoundsAreSame, NoCodeIsSame, NoneIsBad, RunsKeepSame, SystemsAreSame};
 
 /// An image has the same system under the claims that are handed on.
 pub fn systems_are_same()

@@ -21,18 +21,18 @@ use Rattle.claims_definition.specs.Listed.{Laid, claims_of, places_below}
 use Rattle.claims_image.specs.Images.{laid_of}
 use Rattle.image_frames.specs.Memories.{Placement}
 use Rattle.image_definition.specs.Images.{image_in}
-use Rattle.image_sizes.specs.Sizes.{HasRoom, globals_size}
+use Rattle.image_definition.specs.Sizes.{HasRoom, globals_size}
 use Rattle.layout_laid.specs.declared.laid.Laid as lays
 use Rattle.layout_kept.specs.Items.{instructions_in}
 use Rattle.lower_definition.specs.Objects.{object_of}
-use Rattle.simulation_marks.specs.Laws.{blocks_standing, functions_standing, has_mark}
+use Rattle.simulation_marks.specs.MarkLaws.{blocks_standing, functions_standing, has_mark}
 use Rattle.simulation_marks.proofs.Standing.{all_few, all_stand}
 use Rattle.compile_made.specs.Made.{IsInMemory, IsLowered}
 use Rattle.compile_kept.specs.Limits.{IsLimited}
-use Rattle.compile_sizes.proofs.Functions.{functions_few}
-use Rattle.compile_sizes.proofs.Sizes.{limited_fit}
+use Rattle.compile_turns.proofs.Functions.{functions_few}
+use Rattle.compile_turns.proofs.Sizes.{limited_fit}
 use Rattle.compile_counts.proofs.Images.{text_length}
-use Rattle.compile_sizes.proofs.Arrays.{globals_few}
+use Rattle.compile_turns.proofs.Arrays.{globals_few}
 
 -- each loop is an operation
 mutual

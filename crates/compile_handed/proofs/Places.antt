@@ -13,7 +13,7 @@ use Rattle.std.proofs.lemmas.List.Sums.{sum_by-append, sum_by-cons}
 use Rattle.high_ir.specs.Runs.{count_of}
 use Rattle.high_ir.specs.declared.copies.NeverMark.{NeverMark}
 use Rattle.high_pass.specs.Listing.{HasEachBelow, Listing, MarkEntry, listed_marks}
-use Rattle.claims_definition.specs.Laws.{Rise}
+use Rattle.claims_definition.specs.ClaimLaws.{Rise}
 use Rattle.report_text.specs.Forms.{Ascend}
 
 -- addresses that rise ascend

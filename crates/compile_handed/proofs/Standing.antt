@@ -15,7 +15,7 @@ use Rattle.facts_definitions.specs.declared.facts.Facts.{Facts}
 use Rattle.types_tree.specs.Tree.{Program}
 use Rattle.high_ir.specs.declared.copies.NeverMark.{NeverMark}
 use Rattle.high_pass.specs.Listing.{Listing, MarkEntry}
-use Rattle.claims_definition.specs.Laws.{IsPlaceOf}
+use Rattle.claims_definition.specs.ClaimLaws.{IsPlaceOf}
 use Rattle.claims_definition.specs.Listed.{Laid, places_of, places_below}
 use Rattle.claims_image.specs.Images.{laid_of}
 use Rattle.low_ir.specs.Placings.{placed_of}

@@ -39,14 +39,16 @@ pub fn planned(alloc: Global, source: &Source) -> Result<Carried, Memory>
     make(alloc, &source.typed, &source.facts)
 }
 
-/// A low program on short ways, without needless loads and copies.
+/// A low program on short ways, without needless loads, operations and copies, which are looked for twice.
 fn shortened(alloc: Global, low: Low) -> Result<Low, Memory>
     ensures { IfOk result (λ l. (p : Program) → KeepsProgram p (low_of low) → KeepsProgram p (low_of l)) }
 {
     let short = threaded(alloc, low)?;
     let loaded = without_reloads(alloc, short)?;
     let brief = without_copies(alloc, loaded)?;
-    Ok(brief)
+    let again = without_reloads(alloc, brief)?;
+    let fewer = without_copies(alloc, again)?;
+    Ok(fewer)
 }
 
 /// A low program with pointers that step in place of indexes, without what nothing reads then.
@@ -59,7 +61,8 @@ fn quickened(alloc: Global, low: Low) -> Result<Low, Memory>
     Ok(last)
 }
 
-/// A program in the low form with global scalars in registers, on short ways and without needless loads, copies and indexes, with
+/// A program in the low form with global scalars in registers, on short ways and without needless loads, operations, copies and
+/// indexes, with
 /// machine registers for its registers, and slots where there are too few.
 fn code_of(alloc: Global, program: &High) -> Result<LowReg, Memory>
     ensures { IfOk result (IsLowered (program_of program.now)) }

@@ -5,6 +5,6 @@
 //! that is shown of a program in memory rests on the latter alone, so no proof above knows which passes there are.
 //! `specs/Limits` says how large such a program is (`IsLimited`).
 //!
-//! That plans are so, and that passes keep it, is shown in `compile_carried`, and that such a program has room in `compile_sizes`;
+//! That plans are so, and that passes keep it, is shown in `compile_carried`, and that such a program has room in `compile_turns`;
 //! what only names it stands here, and not on these proofs.
 #![tactic(auto)]

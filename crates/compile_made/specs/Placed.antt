@@ -4,7 +4,7 @@ use Rattle.low_ir.specs.Places.{Placed}
 use Rattle.low_ir.specs.Placings.{placed_of}
 use Rattle.image_frames.specs.Memories.{Placement}
 use Rattle.image_frames.specs.Placings.{HasPlaced, MovesItems}
-use Rattle.image_sizes.specs.Sizes.{HasSizes, array_sizes, function_sizes, sizes_placed}
+use Rattle.image_definition.specs.Sizes.{HasSizes, array_sizes, function_sizes, sizes_placed}
 use Rattle.compile_made.specs.declared.made.Made.{Made}
 
 -- how many bytes it takes, by the sizes of items

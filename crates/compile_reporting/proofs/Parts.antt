@@ -11,7 +11,7 @@ use Rattle.code_flow_system.specs.declared.cert.Part.{Part}
 use Rattle.code_flow_system.specs.declared.moves.Move.{Move}
 use Rattle.code_flow_system.specs.Certificates.{IsPart, has_move, listed, whole}
 use Rattle.code_flow_system.specs.Counts.{Amounts, total}
-use Rattle.claims_definition.specs.Laws.{Rise}
+use Rattle.claims_definition.specs.ClaimLaws.{Rise}
 use Rattle.spm_placement.specs.Gains.{all_parts, all_visits, visits}
 
 -- how often all moves are made

@@ -23,9 +23,9 @@ use Rattle.low_ir.specs.Placings.{placed_of}
 use Rattle.low_ir.specs.Room.{weight}
 use Rattle.image_definition.specs.Images.{image_in}
 use Rattle.claims_definition.specs.Listed.{Laid, claims_of}
-use Rattle.claims_definition.specs.Laws.{Rise}
+use Rattle.claims_definition.specs.ClaimLaws.{Rise}
 use Rattle.claims_image.specs.Images.{laid_of}
-use Rattle.claims_items.specs.Movables.{Movable, array_item, arrays_from, function_item, is_local, movables_of, unless, movable_of}
+use Rattle.claims_definition.specs.Movables.{Movable, array_item, arrays_from, function_item, is_local, movables_of, unless, movable_of}
 use Rattle.high_pass.specs.Listing.{LoopEntry}
 use Rattle.high_pass.proofs.Elements.{All-map_back}
 use Rattle.facts_definitions.specs.declared.facts.Facts.{Facts}
@@ -35,7 +35,7 @@ use Rattle.report_text.specs.Reports.{Report}
 use Rattle.spm_placement.specs.Gains.{HasFewVisits, all_parts}
 use Rattle.compile_bounds.specs.Laws.{AreTold}
 use Rattle.compile_bounds.proofs.Bounds.{light, made_bounded, plain_system}
-use Rattle.compile_claims.specs.Laws.{under}
+use Rattle.compile_claims.specs.ClaimLaws.{under}
 use Rattle.compile_claims.specs.Named.{by_entries, named}
 use Rattle.compile_made.specs.declared.made.Made.{Made}
 use Rattle.compile_made.specs.Made.{IsMade, copies_of}

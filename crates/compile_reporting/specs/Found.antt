@@ -10,7 +10,7 @@ use Rattle.report_shares.specs.Shares.{with_sum}
 use Rattle.report_text.specs.declared.entries.CopyLine.{CopyLine}
 use Rattle.report_text.specs.Reports.{Report, report_of}
 use Rattle.compile_bounds.specs.Laws.{AreTold}
-use Rattle.compile_lines.specs.CopyLines.{AreLinesOf}
+use Rattle.compile_claims.specs.CopyLines.{AreLinesOf}
 use Rattle.compile_made.specs.declared.made.Made.{Made}
 use Rattle.compile_made.specs.Made.{copies_of}
 use Rattle.compile_reports.specs.Reported.{AreShared}

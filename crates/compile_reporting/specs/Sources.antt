@@ -5,7 +5,7 @@ use Rattle.facts_front.specs.declared.reading.Source.{Source}
 use Rattle.facts_sources.specs.Sources.{IsSource, IsSourceBy}
 use Rattle.types_tree.specs.Tree.{Program}
 use Rattle.types_tree.specs.View.{program_of}
-use Rattle.compile_lines.specs.Shares.{share_of}
+use Rattle.compile_claims.specs.Shares.{share_of}
 use Rattle.report_text.specs.declared.entries.Share.{Share}
 use Rattle.report_text.specs.Reports.{Report}
 use Rattle.compile_made.specs.declared.made.Made.{Made}

@@ -2,7 +2,7 @@
 use Rattle.std.specs.Prelude.{ℕ, List, All}
 use Rattle.rv_core.specs.declared.costs.Costs.{Costs}
 use Rattle.rv_core.specs.Table.{table_of}
-use Rattle.claims_items.specs.Movables.{movable_of}
+use Rattle.claims_definition.specs.Movables.{movable_of}
 use Rattle.spm_placement.specs.Gains.{HasFewVisits}
 use Rattle.facts_definitions.specs.declared.facts.Facts.{Facts}
 use Rattle.facts_sources.specs.Sources.{IsSource}

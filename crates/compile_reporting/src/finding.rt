@@ -14,7 +14,7 @@ ghost use Rattle.compile_reporting.specs.Found as finds;
 use code_flow::{CodeFault, system};
 use code_flow_system::{Claims, System, weak_duality};
 use compile_bounds::{made_can_be_bounded, made_have_systems};
-use compile_lines::shares_of;
+use compile_claims::shares_of;
 use compile_made::Made;
 use facts_front::Source;
 use path_enum::{Bounded, Kind, bound};

@@ -2,12 +2,12 @@
 ghost use Rattle.std.specs.Prelude.{◌≡◌, map, All, IfOk};
 ghost use Rattle.rv_core.specs.Table.{table_of};
 ghost use Rattle.code_flow_system.specs.Certificates.{PartsAscend};
-ghost use Rattle.claims_items.specs.declared.item.LaidItem.{LaidItem};
-ghost use Rattle.claims_items.specs.Movables.{movable_of};
+ghost use Rattle.claims_definition.specs.declared.item.LaidItem.{LaidItem};
+ghost use Rattle.claims_definition.specs.Movables.{movable_of};
 ghost use Rattle.spm_placement.specs.Gains.{HasFewVisits, gained};
 ghost use Rattle.spm_placement.specs.Sets.{HasSmallGain};
 
-use claims_items::LaidItem;
+use claims_definition::LaidItem;
 use report_text::Report;
 use rv_core::Costs;
 use spm_placement::{Item, gains};

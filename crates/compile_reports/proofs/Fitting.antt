@@ -11,14 +11,14 @@ use Rattle.code_flow_system.specs.declared.cert.Part.{Part}
 use Rattle.code_flow_system.specs.declared.moves.Move.{Move}
 use Rattle.c_tree.specs.declared.expression.NameId.{NameId}
 use Rattle.asm_items.specs.Placings.{Placing, start_of}
-use Rattle.claims_definition.specs.Laws.{AreRanges, RangesAscend}
+use Rattle.claims_definition.specs.ClaimLaws.{AreRanges, RangesAscend}
 use Rattle.claims_definition.specs.Listed.{CodeRange, Laid, code_range, code_ranges, placing}
 use Rattle.asm_graphs.specs.Laid.{span_of, spans_from}
 use Rattle.claims_lists.specs.Lists.{range_of}
 use Rattle.claims_lists.specs.declared.ranges.CodeRange as ranges
 use Rattle.low_ir.specs.Formed.{opening}
 use Rattle.asm_program.specs.Functions.{function_in}
-use Rattle.compile_lines.specs.Shares.{name_by, named}
+use Rattle.compile_claims.specs.Shares.{name_by, named}
 use Rattle.report_shares.specs.Shares.{SharesFit, begins, call_target, holders, target_by}
 use Rattle.compile_reports.proofs.Openings.{Opens}
 use Rattle.compile_reports.proofs.Ranges.{begun_at, each_sum, one_holds, shares}

@@ -18,7 +18,7 @@ use Rattle.image_definition.specs.Images.{image_in}
 use Rattle.low_ir.specs.Places.{Placed}
 use Rattle.low_ir.specs.Placings.{placed_of}
 use Rattle.report_text.specs.Reports.{Report}
-use Rattle.compile_claims.specs.Laws.{under}
+use Rattle.compile_claims.specs.ClaimLaws.{under}
 use Rattle.compile_claims.specs.Named.{named}
 use Rattle.compile_claims.proofs.Systems.{system_same}
 use Rattle.compile_made.specs.Made.{IsMade, copies_of}

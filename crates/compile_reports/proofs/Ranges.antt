@@ -11,11 +11,11 @@ use Rattle.code_flow_system.specs.Systems.{System}
 use Rattle.code_flow_system.specs.declared.cert.Part.{Part}
 use Rattle.c_tree.specs.Names.{name_of}
 use Rattle.c_tree.specs.declared.expression.NameId.{NameId}
-use Rattle.claims_definition.specs.Laws.{RangesAscend}
+use Rattle.claims_definition.specs.ClaimLaws.{RangesAscend}
 use Rattle.claims_definition.specs.Listed.{CodeRange}
 use Rattle.claims_lists.specs.Lists.{range_of}
 use Rattle.claims_lists.specs.declared.ranges.CodeRange as ranges
-use Rattle.compile_lines.specs.Shares.{name_by, named, share_of}
+use Rattle.compile_claims.specs.Shares.{name_by, named, share_of}
 use Rattle.report_shares.specs.Shares.{begins, holders, share_sum, with_sum}
 use Rattle.report_text.specs.Forms.{IsShare, SharesAscend}
 use Rattle.report_text.specs.declared.entries.Share.{Share}

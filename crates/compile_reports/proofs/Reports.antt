@@ -24,7 +24,7 @@ use Rattle.facts_limits.proofs.Limited.{are_limited}
 use Rattle.types_tree.specs.Tree.{Program}
 use Rattle.high_pass.specs.Listing.{Listing}
 use Rattle.high_pass.proofs.Elements.{All-append_front}
-use Rattle.claims_definition.specs.Laws.{RangesAscend}
+use Rattle.claims_definition.specs.ClaimLaws.{RangesAscend}
 use Rattle.claims_lists.specs.Lists.{range_of}
 use Rattle.compile_names.specs.Laws.{IsNamed}
 use Rattle.compile_names.proofs.Counted.{counted_named}

@@ -7,8 +7,8 @@ use Rattle.facts_definitions.specs.declared.facts.Facts.{Facts}
 use Rattle.path_answer.specs.declared.bounded.Kind.{Kind}
 use Rattle.path_answer.specs.declared.bounded.Kind.TheVariants.{Greatest, Empty, Wide, Spent}
 use Rattle.path_fact_kinds.specs.Kinds.{HasColumns, HasKind}
-use Rattle.compile_lines.specs.CopyLines.{AreLinesOf}
-use Rattle.compile_lines.specs.Shares.{share_of}
+use Rattle.compile_claims.specs.CopyLines.{AreLinesOf}
+use Rattle.compile_claims.specs.Shares.{share_of}
 use Rattle.report_shares.specs.Shares.{with_sum}
 use Rattle.report_text.specs.declared.entries.Share.{Share}
 use Rattle.report_text.specs.Reports.{Report}

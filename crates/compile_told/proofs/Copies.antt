@@ -6,7 +6,7 @@ use Rattle.std.proofs.lemmas.Option.{none-some, same_Some}
 use Rattle.c_tree.specs.Names.{name_of}
 use Rattle.c_tree.specs.declared.expression.NameId.{NameId}
 use Rattle.high_pass.specs.Listing.{MarkEntry}
-use Rattle.compile_lines.specs.CopyLines.{AreLinesOf, IsLineOf}
+use Rattle.compile_claims.specs.CopyLines.{AreLinesOf, IsLineOf}
 use Rattle.report_text.specs.declared.entries.CopyLine.{CopyLine}
 
 module _ (names : List (List ℕ)) (places : List (List ℕ)) where

@@ -25,7 +25,7 @@ use Rattle.claims_definition.specs.Listed.{Laid, claims_of, regions_of}
 use Rattle.claims_image.specs.Images.{laid_of}
 use Rattle.layout_kept.specs.Items.{HasElements}
 use Rattle.report_text.specs.Reports.{Report}
-use Rattle.compile_claims.specs.Laws.{under}
+use Rattle.compile_claims.specs.ClaimLaws.{under}
 use Rattle.compile_claims.specs.Named.{named}
 use Rattle.compile_claims.proofs.Systems.{system_same}
 use Rattle.compile_made.specs.declared.made.Made.{Made}

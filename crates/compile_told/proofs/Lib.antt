@@ -1,3 +1,16 @@
+pub mod Distinct
+pub mod Names
+pub mod LengthCopies
+pub mod LengthShares
+pub mod Ends
+pub mod Facts
+pub mod Texts
+pub mod Shown
+pub mod Sources
+pub mod Places
+pub mod RunNevers
+pub mod Restrictions
+pub mod Runs
 pub mod Loading
 pub mod Lined
 pub mod Placed

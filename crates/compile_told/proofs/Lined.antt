@@ -19,10 +19,10 @@ use Rattle.asm_graphs.proofs.ReachedLemmas.{reached}
 use Rattle.asm_graphs.specs.Promised.{block_in}
 use Rattle.asm_placed.proofs.Alike.{block_alike}
 use Rattle.asm_program.specs.Functions.{graph_of, program_items}
-use Rattle.claims_accesses.specs.Laws.{AreLines, AreTouched, HasLine}
-use Rattle.claims_accesses.specs.Lines.{Access, access_at, frame_letters, letters_of}
-use Rattle.claims_accesses.specs.Touches.{Nothing, OfArrays, OfFrame, Touch, program_touches, touches_memory}
-use Rattle.claims_accesses.proofs.Matching.{program_touched}
+use Rattle.claims_definition.specs.AccessLaws.{AreLines, AreTouched, HasLine}
+use Rattle.claims_definition.specs.Lines.{Access, access_at, frame_letters, letters_of}
+use Rattle.claims_definition.specs.Touches.{Nothing, OfArrays, OfFrame, Touch, program_touches, touches_memory}
+use Rattle.claims_definition.proofs.Matching.{program_touched}
 use Rattle.claims_definition.specs.Listed.{Laid, accesses_of, claims_of, functions_of, placing, regions_of, touches_at}
 use Rattle.claims_image.specs.Images.{HasClaims}
 use Rattle.layout_kept.specs.Kept.{IsListed}

@@ -25,8 +25,8 @@ use Rattle.asm_items.specs.Placings.{Blocks}
 use Rattle.asm_items.specs.Standing.{HasItems, HasWords}
 use Rattle.asm_writing.specs.Forms.{AreLike, IsLike}
 use Rattle.asm_graphs.specs.Promised.{block_in, blocks_in}
-use Rattle.claims_accesses.specs.Laws.{AreTouched, BlocksTouched, FunctionsTouched}
-use Rattle.claims_accesses.specs.Touches.{Touch, frame_touch, item_touch, touches_memory}
+use Rattle.claims_definition.specs.AccessLaws.{AreTouched, BlocksTouched, FunctionsTouched}
+use Rattle.claims_definition.specs.Touches.{Touch, frame_touch, item_touch, touches_memory}
 
 -- an instruction that is a load or a store
 abbrev pub Loads : Instruction → Type 0

@@ -27,7 +27,7 @@ use Rattle.lower_budget.specs.Costs.{bounded}
 use Rattle.lower_law.specs.Programs.{KeepsProgram}
 use Rattle.low_places.proofs.Ways.{of_function}
 use Rattle.asm_program.specs.Functions.{PlacedFunction, function_in, no_function}
-use Rattle.claims_definition.specs.Laws.{AreLoopClaims, IsClaimOf}
+use Rattle.claims_definition.specs.ClaimLaws.{AreLoopClaims, IsClaimOf}
 use Rattle.claims_definition.specs.Listed.{Laid, loops_of as claims_of_loops}
 use Rattle.compile_claims.specs.Named.{by_entries}
 use Rattle.promise_report.specs.Facts.{IsLoopLine}

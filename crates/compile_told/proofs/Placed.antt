@@ -6,22 +6,22 @@ use Rattle.rv_core.specs.declared.image.Segment.{Segment}
 use Rattle.rv_core.specs.declared.regions.Region.{Region}
 use Rattle.rv_core.specs.declared.regions.Region.TheVariants.{Spm}
 use Rattle.rv_core.specs.Regions.{lies_in}
-use Rattle.image_rows.specs.Rows.{row_by, small_room}
+use Rattle.image_segments.specs.Rows.{row_by, small_room}
 use Rattle.image_segments.specs.Starts.{region_of}
 use Rattle.low_ir.specs.Arrays.{array_size}
 use Rattle.low_ir.specs.declared.object.Storage.{Storage}
 use Rattle.low_ir.specs.declared.object.Storage.TheVariants.{Constant, Global, Local}
 use Rattle.low_ir.specs.Code.{Object}
 use Rattle.low_ir.specs.Places.{Placed}
-use Rattle.asm_room.proofs.FunctionLemmas.{sizes_kept}
+use Rattle.asm_sound.proofs.FunctionLemmas.{sizes_kept}
 use Rattle.image_frames.specs.Frames.{frames_of}
 use Rattle.image_frames.specs.Memories.{Placement, region_by}
-use Rattle.image_sizes.specs.Sizes.{code_size, sizes_placed}
+use Rattle.image_definition.specs.Sizes.{code_size, sizes_placed}
 use Rattle.image_definition.specs.Images.{image_in}
-use Rattle.claims_accesses.specs.Lines.{same_region}
+use Rattle.claims_definition.specs.Lines.{same_region}
 use Rattle.claims_definition.specs.Listed.{Laid}
 use Rattle.claims_image.specs.Images.{laid_of}
-use Rattle.claims_items.specs.Movables.{Movable, array_item, arrays_from, code_region, function_item, is_local, movables_of, unless}
+use Rattle.claims_definition.specs.Movables.{Movable, array_item, arrays_from, code_region, function_item, is_local, movables_of, unless}
 use Rattle.layout_kept.specs.Items.{scratchpad_size}
 use Rattle.layout_kept.specs.Images.{AreSmall}
 use Rattle.layout_kept.specs.Segments.{taken_in}

@@ -26,13 +26,13 @@ use Rattle.image_frames.specs.Memories.{Placement}
 use Rattle.asm_program.specs.Functions.{function_in, no_function}
 use Rattle.lower_law.specs.Programs.{KeepsProgram}
 use Rattle.low_places.proofs.Ways.{of_function, placed_function}
-use Rattle.claims_definition.specs.Laws.{AreRanges, HasPlaces, RangesAscend}
+use Rattle.claims_definition.specs.ClaimLaws.{AreRanges, HasPlaces, RangesAscend}
 use Rattle.claims_definition.specs.Listed.{CodeRange, Laid, by_address, code_range, code_ranges, places_of, placing, places_below}
 use Rattle.claims_definition.proofs.Blocks.{AllBelow}
 use Rattle.claims_image.specs.Images.{laid_of}
 use Rattle.compile_claims.specs.Places.{places_at}
-use Rattle.compile_lines.specs.CopyLines.{AreLinesOf}
-use Rattle.compile_lines.specs.Shares.{name_by, named}
+use Rattle.compile_claims.specs.CopyLines.{AreLinesOf}
+use Rattle.compile_claims.specs.Shares.{name_by, named}
 use Rattle.report_text.specs.declared.entries.CopyLine.{CopyLine}
 use Rattle.report_text.specs.declared.entries.Share.{Share}
 use Rattle.promise_report.specs.Facts.{IsOfFunction, IsShareLine}

@@ -23,7 +23,7 @@ use Rattle.low_ir.specs.Placings.{placings_of}
 use Rattle.low_ir.specs.Programs.{low_of}
 use Rattle.path_answer.specs.declared.bounded.Kind.{Kind}
 use Rattle.path_answer.specs.declared.bounded.Kind.TheVariants.{Greatest, Empty, Wide, Spent}
-use Rattle.compile_lines.specs.Shares.{named, share_of}
+use Rattle.compile_claims.specs.Shares.{named, share_of}
 use Rattle.report_shares.specs.Shares.{with_sum}
 use Rattle.report_text.specs.declared.entries.Share.{Share}
 use Rattle.report_text.specs.Reports.{Report}

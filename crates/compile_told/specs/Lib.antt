@@ -1,1 +1,4 @@
-pub mod Laws
+pub mod LengthLaws
+pub mod Shows
+pub mod RunLaws
+pub mod ToldLaws

@@ -1,3 +1,6 @@
+pub mod Arrays
+pub mod Functions
+pub mod Sizes
 pub mod Nodes
 pub mod Few
 pub mod Ordered

@@ -1,2 +1,3 @@
+pub mod SizeLaws
 pub mod Turns
-pub mod Laws
+pub mod TurnLaws

@@ -1,5 +1,11 @@
-// The laws of turns.
-ghost use Rattle.compile_turns.specs.Laws.{AllAreLight, AllTurn, CarriedTurn, LoweredTurn, PlacedTurn, SourcesHaveFewLoops, SourcesTurn};
+// What is proved, by calls with empty bodies.
+ghost use Rattle.compile_turns.specs.SizeLaws.{LimitedProgramsFit};
+ghost use Rattle.compile_turns.specs.TurnLaws.{AllAreLight, AllTurn, CarriedTurn, LoweredTurn, PlacedTurn, SourcesHaveFewLoops, SourcesTurn};
+
+/// The code and the data of a program that keeps the limits have room, over whatever places with no more slots than registers.
+pub fn limited_programs_fit()
+    ensures { LimitedProgramsFit }
+{}
 
 /// The loops of a source have small numbers.
 pub fn sources_have_few_loops()

@@ -1,7 +1,7 @@
 // Verdicts on certificates.
 
 /// A row of the checker that fails, with the numbers that its line prints.
-#[derive(Clone, Copy, Debug, PartialEq, Eq)]
+#[derive(Clone, Copy)]
 pub enum Row {
     /// The least address that is reached and has no potential, or the reverse.
     Missing { at: u32 },
@@ -24,7 +24,7 @@ pub enum Row {
 }
 
 /// What the checker says of a certificate.
-#[derive(Clone, Copy, Debug, PartialEq, Eq)]
+#[derive(Clone, Copy)]
 pub enum Verdict {
     /// Each row holds: no kept run takes more cycles, and whether a flow reaches them.
     Yes { cycles: u64, greatest: bool },

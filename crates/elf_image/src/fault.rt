@@ -3,7 +3,7 @@ use thiserror::Error;
 use wcc_base::Memory;
 
 /// Why the bytes of a file are no image.
-#[derive(Clone, Copy, Debug, PartialEq, Eq, Error)]
+#[derive(Clone, Copy, Debug, Error)]
 pub enum ElfFault {
     /// The file doesn't begin with an ELF header of the 32-bit class, little-endian and of
     /// version 1; or there are program headers, and they haven't 32 bytes each or pass the end.

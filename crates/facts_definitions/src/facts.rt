@@ -4,14 +4,14 @@ use types_calls::Ranks;
 use wcc_base::{Compare, Items};
 
 /// From how many up to how many times each entry of a loop starts its body.
-#[derive(Clone, Copy, Debug)]
+#[derive(Clone, Copy)]
 pub struct Bounds {
     pub min: u32,
     pub max: u32,
 }
 
 /// The bounds of a loop without a pragma, by its number, that were derived from its form.
-#[derive(Clone, Copy, Debug)]
+#[derive(Clone, Copy)]
 pub struct Derived {
     pub number: u32,
     pub bounds: Bounds,
@@ -19,14 +19,14 @@ pub struct Derived {
 
 /// From how many up to how many times each entry of a loop starts, its last test among them. `most` is less than
 /// 2^32.
-#[derive(Clone, Copy, Debug)]
+#[derive(Clone, Copy)]
 pub struct Starts {
     pub least: u32,
     pub most: u32,
 }
 
 /// So many times the count of a function or marker.
-#[derive(Clone, Copy, Debug)]
+#[derive(Clone, Copy)]
 pub struct Term {
     pub coef: u32,
     pub name: NameId,

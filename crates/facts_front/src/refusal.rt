@@ -8,7 +8,7 @@ use types_rules::TypeFault;
 
 /// Why a source has no program with facts: the fault of the first step that refuses it. Want of
 /// memory is `Memory`, whichever step it was.
-#[derive(Debug, Drop)]
+#[derive(Drop)]
 pub enum Refusal {
     /// There are more than 1,048,576 bytes.
     TooLong,

@@ -133,8 +133,7 @@ fn restriction_at(
         Site::Filling { .. } => Ok(None),
         Site::Marker(_) => Ok(None),
         Site::Restriction(pragma) => {
-            let read = restriction(pragma.text.as_bytes(), pragma.at, names, alloc)?;
-            Ok(read)
+            restriction(pragma.text.as_bytes(), pragma.at, names, alloc)
         }
         Site::Function(_) => Ok(None),
     }

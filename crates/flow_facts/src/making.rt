@@ -161,10 +161,7 @@ fn outcome(
     let known = known_of(program, &sites, derived, alloc)?;
     match known.first_fault(&sites, alloc)? {
         Some(fault) => Ok(Err(fault)),
-        None => {
-            let made = sound(program, &sites, &known, ranks, alloc)?;
-            Ok(made)
-        }
+        None => sound(program, &sites, &known, ranks, alloc),
     }
 }
 

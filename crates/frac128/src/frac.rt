@@ -13,7 +13,7 @@ const MOST: u128 = 1 << 126;
 /// A fraction in lowest terms with a positive denominator, so equal fractions have equal parts.
 ///
 /// Each part is at most 2^126 in absolute value.
-#[derive(Clone, Copy, Debug, PartialEq, Eq)]
+#[derive(Clone, Copy)]
 pub struct Frac {
     pub num: i128,
     pub den: i128,

@@ -10,7 +10,7 @@ use std::marker::Model;
 use thiserror::Error;
 
 /// Why a term was not added.
-#[derive(Debug, Drop, PartialEq, Eq, Error)]
+#[derive(Debug, Drop, Error)]
 pub enum SumFault {
     #[error("the coefficient leaves the range of 64 bits")]
     Range,
@@ -21,7 +21,7 @@ pub enum SumFault {
 /// A sum of coefficients at addresses: the addresses ascend strictly, and no coefficient is 0.
 ///
 /// Contracts see the list of its terms.
-#[derive(Debug, Drop)]
+#[derive(Drop)]
 pub struct Sum {
     terms: Vec<(u32, i64)>,
 }

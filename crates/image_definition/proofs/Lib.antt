@@ -1,2 +1,4 @@
 pub mod RowLemmas
 pub mod LaidLemmas
+pub mod CodeLemmas
+pub mod FitLemmas

@@ -9,7 +9,7 @@ use Rattle.low_ir.specs.Placings.{assignment_of, placed_of}
 use Rattle.low_ir.specs.Room.{room}
 use Rattle.low_ir.specs.View.{function_of}
 use Rattle.image_frames.specs.Memories.{Placement}
-use Rattle.image_sizes.specs.Sizes.{HasRoom, HasSizes, array_sizes, constants_room, frames_room, function_sizes, sizes_placed, variables_room}
+use Rattle.image_definition.specs.Sizes.{HasRoom, HasSizes, array_sizes, constants_room, frames_room, function_sizes, sizes_placed, variables_room}
 
 -- there are as many functions over places
 placed_length : (a : Assignment) (k : ℕ) (fns : List (Function ℕ Note)) → length (place_functions a k fns) ≡ length fns

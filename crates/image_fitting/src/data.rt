@@ -5,11 +5,11 @@ ghost use Rattle.low_ir.specs.Effects.{can_store};
 ghost use Rattle.low_ir.specs.Places.{place_functions};
 ghost use Rattle.low_ir.specs.Placings.{assignment_of};
 ghost use Rattle.low_ir.specs.View.{function_of, object_of};
-ghost use Rattle.image_sizes.specs.Sizes.{constants_room, frames_room, sizes_placed, variables_room};
+ghost use Rattle.image_definition.specs.Sizes.{constants_room, frames_room, sizes_placed, variables_room};
 ghost use Rattle.image_fitting.specs.Spending.{Spends};
 
 use super::code::spend;
-use image_rows::array_size;
+use image_segments::array_size;
 use low_ir::LowReg;
 use low_ir::object::{Object, Storage};
 

@@ -2,7 +2,7 @@
 ghost use Rattle.std.specs.Prelude.{◌≡◌, ◌+◌, ◌^◌, ◌<◌, ◌≤◌, true, false, length, slice_index_or};
 ghost use Rattle.low_ir.specs.Placings.{placed_of};
 ghost use Rattle.low_ir.specs.Room.{room};
-ghost use Rattle.image_sizes.specs.Sizes.{
+ghost use Rattle.image_definition.specs.Sizes.{
   HasRoom,
   HasSizes,
   array_sizes,

@@ -5,7 +5,7 @@ use Rattle.rv_core.specs.declared.regions.Region.TheVariants.{Ram}
 use Rattle.low_ir.specs.Code.{Object}
 use Rattle.low_ir.specs.Places.{Placed}
 use Rattle.asm_program.specs.Frames.{Memory}
-use Rattle.image_rows.specs.Rows.{Spot, spots, addresses, row_of}
+use Rattle.image_segments.specs.Rows.{Spot, spots, addresses, row_of}
 use Rattle.image_segments.specs.Starts.{starts_behind, second_of, region_of, FitRegions}
 use Rattle.image_frames.specs.Frames.{frames_of, frames_end}
 

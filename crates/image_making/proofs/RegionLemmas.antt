@@ -6,8 +6,8 @@ use Rattle.low_ir.specs.Arrays.{array_size}
 use Rattle.low_ir.specs.declared.object.Storage.{Storage}
 use Rattle.low_ir.specs.declared.object.Storage.TheVariants.{Constant, Global, Local}
 use Rattle.low_ir.specs.Code.{Object}
-use Rattle.image_rows.specs.declared.rows.Row.TheVariants.{Scratchpad}
-use Rattle.image_rows.specs.Rows.{row_by, small_room}
+use Rattle.image_segments.specs.declared.rows.Row.TheVariants.{Scratchpad}
+use Rattle.image_segments.specs.Rows.{row_by, small_room}
 use Rattle.image_segments.specs.Starts.{region_of}
 use Rattle.image_frames.specs.Memories.{region_by}
 use Rattle.image_making.specs.Regions.{region, regions_from, stored}

@@ -5,9 +5,9 @@ use Rattle.std.proofs.lemmas.List.{length-set}
 use Rattle.wcc_base.specs.Sizes.{rounded}
 use Rattle.low_ir.specs.Arrays.{bytes_of}
 use Rattle.low_ir.specs.Code.{Object}
-use Rattle.image_rows.specs.Rows.{Spot, spot_of, spots, moved, row_room, HaveSizes, HaveRoom}
-use Rattle.image_rows.specs.Laws.{AreRows}
-use Rattle.image_rows.proofs.RowLemmas.{gain, gain_by, advanced}
+use Rattle.image_segments.specs.Rows.{Spot, spot_of, spots, moved, row_room, HaveSizes, HaveRoom}
+use Rattle.image_segments.specs.RowLaws.{AreRows}
+use Rattle.image_segments.proofs.RowLemmas.{gain, gain_by, advanced}
 use Rattle.image_segments.specs.Starts.{starts_behind, FitRegions}
 use Rattle.image_segments.proofs.EvenLemmas.{spots_below}
 

@@ -8,8 +8,7 @@ ghost use Rattle.image_saving.specs.Walks.{HaveSpots};
 
 use super::walks::frames;
 use asm_data::Data;
-use image_rows::addresses;
-use image_segments::{Data as Segments, second_base, starts};
+use image_segments::{Data as Segments, addresses, second_base, starts};
 use low_ir::LowReg;
 use std::alloc::Global;
 use std::marker::Model;

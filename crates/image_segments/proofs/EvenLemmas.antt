@@ -5,11 +5,11 @@ use Rattle.std.proofs.lemmas.Option.{same_Some, none-some}
 use Rattle.wcc_base.specs.Sizes.{rounded}
 use Rattle.low_ir.specs.Arrays.{bytes_of}
 use Rattle.low_ir.specs.Code.{Object}
-use Rattle.image_rows.specs.declared.rows.Row.{Row}
-use Rattle.image_rows.specs.declared.rows.Row.TheVariants.{Constants, Scratchpad, SmallLocals, SmallGlobals, LargeGlobals, LargeLocals}
-use Rattle.image_rows.specs.Rows.{Spot, spot_of, spots, row_of, row_number, row_room}
-use Rattle.image_rows.specs.Laws.{AreRows}
-use Rattle.image_rows.proofs.RowLemmas.{AreEven}
+use Rattle.image_segments.specs.declared.rows.Row.{Row}
+use Rattle.image_segments.specs.declared.rows.Row.TheVariants.{Constants, Scratchpad, SmallLocals, SmallGlobals, LargeGlobals, LargeLocals}
+use Rattle.image_segments.specs.Rows.{Spot, spot_of, spots, row_of, row_number, row_room}
+use Rattle.image_segments.specs.RowLaws.{AreRows}
+use Rattle.image_segments.proofs.RowLemmas.{AreEven}
 
 pub row_below : (r : Row) → row_number r < 6
 row_below Constants = omega arith

@@ -1,3 +1,5 @@
+pub mod RowLemmas
+pub mod ContentLemmas
 pub mod EvenLemmas
 pub mod OrderLemmas
 pub mod SegmentLemmas

@@ -6,8 +6,8 @@ use Rattle.rv_core.specs.declared.image.Segment.{Segment}
 use Rattle.rv_core.specs.declared.regions.Region.TheVariants.{Flash, Spm, Ram}
 use Rattle.rv_core.specs.Regions.{region_start, region_size}
 use Rattle.rv_core.specs.Images.{LiesIn, IsSegment, AreLoadable}
-use Rattle.image_rows.specs.Rows.{Spot, row_room}
-use Rattle.image_rows.proofs.ContentLemmas.{row_length}
+use Rattle.image_segments.specs.Rows.{Spot, row_room}
+use Rattle.image_segments.proofs.ContentLemmas.{row_length}
 use Rattle.image_segments.specs.Starts.{starts_behind, placed_end}
 use Rattle.image_segments.specs.Segments.{code_segment, data_segment, Data, spots_in, values_in, present, low_segments, ram_segments, all_segments, segments_of, FitSegments}
 use Rattle.image_segments.proofs.AppendLemmas.{put_more}

@@ -12,12 +12,12 @@ use Rattle.low_ir.specs.declared.object.Storage.{Storage}
 use Rattle.low_ir.specs.declared.object.Storage.TheVariants.{Constant as Fixed', Global, Local}
 use Rattle.low_ir.specs.Kinds.{kind_bytes, width_of}
 use Rattle.low_ir.specs.Code.{Object}
-use Rattle.image_rows.specs.declared.rows.Row.{Row}
-use Rattle.image_rows.specs.declared.rows.Row.TheVariants.{Constants, Scratchpad, SmallLocals, SmallGlobals, LargeGlobals, LargeLocals}
-use Rattle.image_rows.specs.Rows.{small_room, Spot, spot_of, addresses, row_by, row_of, row_number, row_room}
-use Rattle.image_rows.specs.Laws.{Lies}
-use Rattle.image_rows.proofs.RowLemmas.{lies}
-use Rattle.image_rows.proofs.ContentLemmas.{element_stands}
+use Rattle.image_segments.specs.declared.rows.Row.{Row}
+use Rattle.image_segments.specs.declared.rows.Row.TheVariants.{Constants, Scratchpad, SmallLocals, SmallGlobals, LargeGlobals, LargeLocals}
+use Rattle.image_segments.specs.Rows.{small_room, Spot, spot_of, addresses, row_by, row_of, row_number, row_room}
+use Rattle.image_segments.specs.RowLaws.{Lies}
+use Rattle.image_segments.proofs.RowLemmas.{lies}
+use Rattle.image_segments.proofs.ContentLemmas.{element_stands}
 use Rattle.image_segments.specs.Starts.{starts_behind}
 use Rattle.image_segments.specs.Segments.{Data, spots_in, row_segment, values_in, all_segments, segments_of, FitSegments}
 use Rattle.image_segments.proofs.EvenLemmas.{spots_below, spot_here}

@@ -1,4 +1,7 @@
+pub mod Rows
+pub mod Contents
+pub mod RowLaws
 pub mod Starts
 pub mod Segments
 pub mod Views
-pub mod Laws
+pub mod SegmentLaws

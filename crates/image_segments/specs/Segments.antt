@@ -4,8 +4,8 @@ use Rattle.rv_core.specs.declared.image.Segment.{Segment}
 use Rattle.rv_core.specs.declared.regions.Region.TheVariants.{Spm, Ram}
 use Rattle.rv_core.specs.Regions.{region_start, region_size}
 use Rattle.low_ir.specs.Code.{Object}
-use Rattle.image_rows.specs.Rows.{Spot, spots, row_room}
-use Rattle.image_rows.specs.Contents.{row_bytes}
+use Rattle.image_segments.specs.Rows.{Spot, spots, row_room}
+use Rattle.image_segments.specs.Contents.{row_bytes}
 use Rattle.image_segments.specs.Starts.{constants_start, starts_behind, placed_end, FitRegions}
 
 abbrev pub code_segment : ℕ → List ℕ → Segment

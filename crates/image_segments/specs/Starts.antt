@@ -4,9 +4,9 @@ use Rattle.std.specs.Prelude.{ℕ, ◌+◌, ◌^◌, ◌≤◌, nat_lt, if◌the
 use Rattle.rv_core.specs.declared.regions.Region.{Region}
 use Rattle.rv_core.specs.declared.regions.Region.TheVariants.{Flash, Spm, Ram}
 use Rattle.rv_core.specs.Regions.{region_start, region_size}
-use Rattle.image_rows.specs.declared.rows.Row.{Row}
-use Rattle.image_rows.specs.declared.rows.Row.TheVariants.{Constants, Scratchpad, SmallLocals, SmallGlobals, LargeGlobals, LargeLocals}
-use Rattle.image_rows.specs.Rows.{Spot, row_room}
+use Rattle.image_segments.specs.declared.rows.Row.{Row}
+use Rattle.image_segments.specs.declared.rows.Row.TheVariants.{Constants, Scratchpad, SmallLocals, SmallGlobals, LargeGlobals, LargeLocals}
+use Rattle.image_segments.specs.Rows.{Spot, row_room}
 
 abbrev pub constants_start : ℕ
 constants_start = 0x7C_0000

@@ -1,10 +1,10 @@
 // Where the rows of arrays begin.
 ghost use Rattle.std.specs.Prelude.{◌≡◌, map};
 ghost use Rattle.low_ir.specs.View.{object_of};
-ghost use Rattle.image_rows.specs.Rows.{spots, HaveSizes};
+ghost use Rattle.image_segments.specs.Rows.{spots, HaveSizes};
 ghost use Rattle.image_segments.specs.Starts.{starts_behind, FitRegions};
 
-use image_rows::{Row, row_room};
+use crate::rows::{Row, row_room};
 use low_ir::object::Object;
 
 /// Where the rows of arrays begin, by row, if the frames of functions end here.

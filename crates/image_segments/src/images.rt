@@ -1,12 +1,13 @@
 // Images of code and data.
 ghost use Rattle.std.specs.Prelude.{◌≡◌, ◌≤◌, ◌<◌, ◌^◌, ◌∷◌, ◌++◌, [], true, length, slice_index, IfOk, OnOk};
-ghost use Rattle.image_rows.specs.Rows.{row_number, row_room, HaveSizes};
+ghost use Rattle.image_segments.specs.Rows.{row_number, row_room, HaveSizes};
 ghost use Rattle.image_segments.specs.Starts.{starts_behind, second_of, placed_end, FitRegions};
 ghost use Rattle.image_segments.specs.Segments.{present, code_segment, data_segment, spots_in, row_segment, values_in, low_segments, ram_segments, segments_of, FitSegments};
 ghost use Rattle.image_segments.specs.Views.{data_of};
 
 use super::beginnings::starts;
-use image_rows::{Row, row_bytes, row_room};
+use crate::rows::{Row, row_room};
+use crate::contents::row_bytes;
 use low_ir::object::Object;
 use rv_core::{Image, Segment};
 use std::alloc::Global;

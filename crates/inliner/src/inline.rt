@@ -31,11 +31,11 @@ fn inlined(alloc: Global, limit: u32, old: &High, settled: Settled) -> Result<Ca
     let Settled { making, sweeps } = settled;
     if sweeps == 0 {
         drop(making);
-        return Ok(Again.run(alloc, old)?);
+        return Again.run(alloc, old);
     }
     let Making { functions, .. } = making;
     match copied_objects(alloc, &old.objects) {
-        Ok(objects) => Ok(renumber(
+        Ok(objects) => renumber(
             alloc,
             Loose {
                 functions,
@@ -44,7 +44,7 @@ fn inlined(alloc: Global, limit: u32, old: &High, settled: Settled) -> Result<Ca
                 marks: old.marks,
                 loops: old.loops,
             },
-        )?),
+        ),
         Err(memory) => {
             drop(functions);
             Err(memory)

@@ -183,7 +183,7 @@ fn after(alloc: Global, limit: u32, f: u32, making: &mut Making) -> Result<(), M
         sizes: &making.sizes,
     };
     let (function, used) = function_made(&scope, making.used, &making.functions[f])?;
-    Ok(put_back(making, f, function, used)?)
+    put_back(making, f, function, used)
 }
 
 /// All functions of an order, one after another.

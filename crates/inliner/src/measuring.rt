@@ -69,16 +69,16 @@ fn expr_measure(expr: &Expr) -> Result<Measure, Memory>
         Expr::Variable(_) => Ok(leaf()),
         Expr::Element { index, .. } => {
             let index = expr_measure(index)?;
-            Ok(index.within()?)
+            index.within()
         }
         Expr::Unary { operand, .. } => {
             let operand = expr_measure(operand)?;
-            Ok(operand.within()?)
+            operand.within()
         }
         Expr::Binary { left, right, .. } => {
             let left = expr_measure(left)?;
             let right = expr_measure(right)?;
-            Ok(left.beside(right)?.within()?)
+            left.beside(right)?.within()
         }
     }
 }
@@ -114,7 +114,7 @@ fn and_value(all: Measure, value: &Expr) -> Result<Measure, Memory>
         operations: sum(value.operations, 1)?,
         depth: value.depth,
     };
-    Ok(all.beside(passed)?)
+    all.beside(passed)
 }
 
 /// The arrays of a call.
@@ -134,13 +134,13 @@ fn return_measure(returns: Returns, value: &Expr) -> Result<Measure, Memory>
     ensures { IfOk result (λ m. m ≡ return_measure returns (expr_of value.now)) }
 {
     match returns {
-        Returns::Kept => Ok(expr_measure(value)?.within()?),
+        Returns::Kept => expr_measure(value)?.within(),
         Returns::Written => {
             let written = expr_measure(value)?.within()?;
             let left = Measure::none().within()?;
-            Ok(written.beside(left)?.within()?)
+            written.beside(left)?.within()
         }
-        Returns::Dropped => Ok(Measure::none().within()?),
+        Returns::Dropped => Measure::none().within(),
     }
 }
 
@@ -150,43 +150,40 @@ pub fn measured(returns: Returns, statement: &Statement) -> Result<Measure, Memo
     ensures { IfOk result (λ m. m ≡ measured returns (statement_of statement.now)) }
 {
     match statement {
-        Statement::Set { value, .. } => Ok(expr_measure(value)?.within()?),
-        Statement::Put { value } => Ok(expr_measure(value)?.within()?),
-        Statement::Get { .. } => Ok(Measure::none().within()?),
+        Statement::Set { value, .. } => expr_measure(value)?.within(),
+        Statement::Put { value } => expr_measure(value)?.within(),
+        Statement::Get { .. } => Measure::none().within(),
         Statement::Keep { index, value, .. } => {
             let index = expr_measure(index)?;
             let value = expr_measure(value)?;
-            Ok(index.beside(value)?.within()?)
+            index.beside(value)?.within()
         }
-        Statement::Mark { .. } => Ok(Measure::none().within()?),
+        Statement::Mark { .. } => Measure::none().within(),
         Statement::Seq(parts) => {
             let parts = measured_all(returns, parts)?;
-            Ok(parts.within()?)
+            parts.within()
         }
         Statement::If { test, first, other } => {
             let first = measured(returns, first)?;
             let other = measured(returns, other)?;
             let test = expr_measure(test)?;
-            Ok(test.beside(first.beside(other)?)?.within()?)
+            test.beside(first.beside(other)?)?.within()
         }
         Statement::Loop { body, .. } => {
             let body = measured(returns, body)?;
-            Ok(body.within()?)
+            body.within()
         }
         Statement::Block(body) => {
             let body = measured(returns, body)?;
-            Ok(body.within()?)
+            body.within()
         }
-        Statement::Leave { .. } => Ok(Measure::none().within()?),
+        Statement::Leave { .. } => Measure::none().within(),
         Statement::Call { values, arrays, .. } => {
             let values = values_measure(values)?;
             let arrays = arrays_measure(arrays)?;
-            Ok(values.beside(arrays)?.within()?)
+            values.beside(arrays)?.within()
         }
-        Statement::Return { value } => {
-            let value = return_measure(returns, value)?;
-            Ok(value)
-        }
+        Statement::Return { value } => return_measure(returns, value),
     }
 }
 

@@ -70,11 +70,11 @@ fn moved_expr(place: &Place, expr: &Expr) -> Result<Expr, Memory>
         Expr::Variable(x) => Ok(Expr::Variable(sum(place.base, *x)?)),
         Expr::Element { array, index } => {
             let index = moved_expr(place, index)?;
-            Ok(element(alloc, moved_array(place, *array), index)?)
+            element(alloc, moved_array(place, *array), index)
         }
         Expr::Unary { operator, operand } => {
             let operand = moved_expr(place, operand)?;
-            Ok(unary(alloc, *operator, operand)?)
+            unary(alloc, *operator, operand)
         }
         Expr::Binary {
             operator,
@@ -83,7 +83,7 @@ fn moved_expr(place: &Place, expr: &Expr) -> Result<Expr, Memory>
         } => {
             let left = moved_expr(place, left)?;
             match moved_expr(place, right) {
-                Ok(right) => Ok(binary(alloc, *operator, left, right)?),
+                Ok(right) => binary(alloc, *operator, left, right),
                 Err(memory) => {
                     let_go_expr(left);
                     Err(memory)
@@ -157,7 +157,7 @@ fn ended(place: &Place, depth: u32, value: &Expr) -> Result<Statement, Memory>
         None => Ok(Statement::Leave { depth }),
         Some(variable) => {
             let value = moved_expr(place, value)?;
-            Ok(left_with(place.alloc, variable, value, depth)?)
+            left_with(place.alloc, variable, value, depth)
         }
     }
 }
@@ -186,10 +186,7 @@ pub fn moved(place: &Place, depth: u32, statement: &Statement) -> Result<Stateme
             array,
             index,
             value,
-        } => {
-            let keep = moved_keep(place, *array, index, value)?;
-            Ok(keep)
-        }
+        } => moved_keep(place, *array, index, value),
         Statement::Mark { id } => Ok(Statement::Mark { id: *id }),
         Statement::Seq(parts) => {
             let made = moved_all(place, depth, parts)?;
@@ -197,16 +194,15 @@ pub fn moved(place: &Place, depth: u32, statement: &Statement) -> Result<Stateme
         }
         Statement::If { test, first, other } => {
             let first = moved(place, depth, first)?;
-            let made = moved_if(place, depth, test, first, other)?;
-            Ok(made)
+            moved_if(place, depth, test, first, other)
         }
         Statement::Loop { id, min, max, body } => {
             let body = moved(place, depth, body)?;
-            Ok(loop_of(alloc, *id, *min, *max, body)?)
+            loop_of(alloc, *id, *min, *max, body)
         }
         Statement::Block(body) => {
             let body = moved(place, sum(depth, 1)?, body)?;
-            Ok(block(alloc, body)?)
+            block(alloc, body)
         }
         Statement::Leave { depth } => Ok(Statement::Leave { depth: *depth }),
         Statement::Call {
@@ -214,14 +210,8 @@ pub fn moved(place: &Place, depth: u32, statement: &Statement) -> Result<Stateme
             values,
             arrays,
             into,
-        } => {
-            let call = moved_call(place, *function, values, arrays, *into)?;
-            Ok(call)
-        }
-        Statement::Return { value } => {
-            let end = ended(place, depth, value)?;
-            Ok(end)
-        }
+        } => moved_call(place, *function, values, arrays, *into),
+        Statement::Return { value } => ended(place, depth, value),
     }
 }
 
@@ -238,7 +228,7 @@ fn moved_if(
 {
     match moved(place, depth, other) {
         Ok(other) => match moved_expr(place, test) {
-            Ok(test) => Ok(choice(place.alloc, test, first, other)?),
+            Ok(test) => choice(place.alloc, test, first, other),
             Err(memory) => {
                 let_go(first);
                 let_go(other);

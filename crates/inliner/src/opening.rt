@@ -32,13 +32,13 @@ pub struct Call<'a> {
 pub fn kept(call: &Call) -> Result<Statement, Memory>
     ensures { IfOk result (λ s. statement_of s ≡ call_of (site_of call.now)) }
 {
-    Ok(copied_call(
+    copied_call(
         call.alloc,
         call.function,
         call.values,
         call.arrays,
         call.into,
-    )?)
+    )
 }
 
 /// A value, written to a variable that is so many behind `base`.
@@ -82,7 +82,7 @@ fn in_block(call: &Call, base: u32, body: &Statement) -> Result<Statement, Memor
         into: call.into,
     };
     let body = moved(&place, 0, body)?;
-    Ok(block(call.alloc, body)?)
+    block(call.alloc, body)
 }
 
 /// The opening mark of the function, the values as its first variables, which stand from `base` on, and its body in a
@@ -92,7 +92,7 @@ pub fn opening(call: &Call, base: u32, body: &Statement) -> Result<Statement, Me
 {
     let body = in_block(call, base, body)?;
     match begun(call, base) {
-        Ok(parts) => Ok(seq_with(parts, body)?),
+        Ok(parts) => seq_with(parts, body),
         Err(memory) => {
             let_go(body);
             Err(memory)

@@ -27,7 +27,7 @@ fn may_open(scope: &Scope, used: Used, around: u32, call: &Call) -> Result<bool,
         None => Ok(false),
         Some(function) => {
             let sizes = scope.sizes[call.function as usize];
-            Ok(fits(scope.limit, used, around, call, function, sizes)?)
+            fits(scope.limit, used, around, call, function, sizes)
         }
     }
 }
@@ -44,19 +44,16 @@ fn any_fits(scope: &Scope, used: Used, around: u32, statement: &Statement) -> Re
         Statement::Get { .. } => Ok(false),
         Statement::Keep { .. } => Ok(false),
         Statement::Mark { .. } => Ok(false),
-        Statement::Seq(parts) => {
-            let found = any_fits_all(scope, used, sum(around, 1)?, parts)?;
-            Ok(found)
-        }
+        Statement::Seq(parts) => any_fits_all(scope, used, sum(around, 1)?, parts),
         Statement::If { first, other, .. } => {
             let around = sum(around, 1)?;
             if any_fits(scope, used, around, first)? {
                 return Ok(true);
             }
-            Ok(any_fits(scope, used, around, other)?)
+            any_fits(scope, used, around, other)
         }
-        Statement::Loop { body, .. } => Ok(any_fits(scope, used, sum(around, 1)?, body)?),
-        Statement::Block(body) => Ok(any_fits(scope, used, sum(around, 1)?, body)?),
+        Statement::Loop { body, .. } => any_fits(scope, used, sum(around, 1)?, body),
+        Statement::Block(body) => any_fits(scope, used, sum(around, 1)?, body),
         Statement::Leave { .. } => Ok(false),
         Statement::Call {
             function,
@@ -71,8 +68,7 @@ fn any_fits(scope: &Scope, used: Used, around: u32, statement: &Statement) -> Re
                 arrays,
                 into: *into,
             };
-            let found = may_open(scope, used, around, &call)?;
-            Ok(found)
+            may_open(scope, used, around, &call)
         }
         Statement::Return { .. } => Ok(false),
     }
@@ -114,7 +110,7 @@ fn is_open(alloc: Global, limit: u32, making: &Making) -> Result<bool, Memory>
         functions: &making.functions,
         sizes: &making.sizes,
     };
-    Ok(any_fits_in(&scope, making.used, &making.functions)?)
+    any_fits_in(&scope, making.used, &making.functions)
 }
 
 /// The functions of a program once no call is left that may be opened, and how often they were gone through.

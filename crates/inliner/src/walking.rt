@@ -94,7 +94,7 @@ fn opened_if(
 {
     let before = *used;
     if !fits(scope.limit, before, around, call, function, sizes)? {
-        return Ok(kept(call)?);
+        return kept(call);
     }
     let behind = used_behind(before, call, function, sizes.placed(call.into))?;
     let opened = opening(call, before.next, &function.body)?;
@@ -108,11 +108,10 @@ fn at_call(scope: &Scope, around: u32, call: &Call, used: &mut Used) -> Result<S
     ensures { IfOk result (λ s. walked (statement_of s) used.new ≡ at_call scope.now.limit used.old around (site_of call.now) (slice_get (functions_of scope.now.functions.now) call.now.function)) }
 {
     match scope.functions.get(call.function as usize) {
-        None => Ok(kept(call)?),
+        None => kept(call),
         Some(function) => {
             let sizes = scope.sizes[call.function as usize];
-            let made = opened_if(scope, around, call, function, sizes, used)?;
-            Ok(made)
+            opened_if(scope, around, call, function, sizes, used)
         }
     }
 }
@@ -130,29 +129,28 @@ pub fn opened(
 {
     let alloc = scope.alloc;
     match statement {
-        Statement::Set { .. } => Ok(copied(alloc, statement)?),
-        Statement::Put { .. } => Ok(copied(alloc, statement)?),
-        Statement::Get { .. } => Ok(copied(alloc, statement)?),
-        Statement::Keep { .. } => Ok(copied(alloc, statement)?),
-        Statement::Mark { .. } => Ok(copied(alloc, statement)?),
+        Statement::Set { .. } => copied(alloc, statement),
+        Statement::Put { .. } => copied(alloc, statement),
+        Statement::Get { .. } => copied(alloc, statement),
+        Statement::Keep { .. } => copied(alloc, statement),
+        Statement::Mark { .. } => copied(alloc, statement),
         Statement::Seq(parts) => {
             let made = opened_all(scope, sum(around, 1)?, parts, used)?;
             Ok(Statement::Seq(made))
         }
         Statement::If { test, first, other } => {
             let first = opened(scope, sum(around, 1)?, first, used)?;
-            let made = with_other(scope, sum(around, 1)?, test, first, other, used)?;
-            Ok(made)
+            with_other(scope, sum(around, 1)?, test, first, other, used)
         }
         Statement::Loop { id, min, max, body } => {
             let body = opened(scope, sum(around, 1)?, body, used)?;
-            Ok(loop_of(alloc, *id, *min, *max, body)?)
+            loop_of(alloc, *id, *min, *max, body)
         }
         Statement::Block(body) => {
             let body = opened(scope, sum(around, 1)?, body, used)?;
-            Ok(block(alloc, body)?)
+            block(alloc, body)
         }
-        Statement::Leave { .. } => Ok(copied(alloc, statement)?),
+        Statement::Leave { .. } => copied(alloc, statement),
         Statement::Call {
             function,
             values,
@@ -166,10 +164,9 @@ pub fn opened(
                 arrays,
                 into: *into,
             };
-            let made = at_call(scope, around, &call, used)?;
-            Ok(made)
+            at_call(scope, around, &call, used)
         }
-        Statement::Return { .. } => Ok(copied(alloc, statement)?),
+        Statement::Return { .. } => copied(alloc, statement),
     }
 }
 
@@ -188,7 +185,7 @@ fn with_other(
 {
     match opened(scope, around, other, used) {
         Ok(other) => match copied_expr(scope.alloc, test) {
-            Ok(test) => Ok(choice(scope.alloc, test, first, other)?),
+            Ok(test) => choice(scope.alloc, test, first, other),
             Err(memory) => {
                 let_go(first);
                 let_go(other);

@@ -2,7 +2,7 @@
 use Rattle.std.proofs.Common.{◌≡◌, ◌<◌, ℕ, zero, suc, ◌+◌, Bool, true, false, List, [], ◌∷◌, ◌++◌, length, get_or, take, Some, Option, refl, sym, ap, ◌∙◌, subst, arith, if◌then◌else◌, ⊎_elim}
 use Rattle.std.specs.Prelude.{map, nat_lt, slice_get, slice_index_or, replicate, ◌&&◌}
 use Rattle.std.specs.List.{range_with_len}
-use Rattle.std.proofs.lemmas.Bool.{and_parts, cases_eq, ltb-true}
+use Rattle.std.proofs.lemmas.Bool.{and_parts, cases_eq, le-leb, ltb-true}
 use Rattle.std.proofs.lemmas.Bool.Decides.{nat_tests}
 use Rattle.std.proofs.lemmas.List.{map-append, take_more}
 use Rattle.low_ir.specs.declared.low.Function as functions
@@ -12,7 +12,7 @@ use Rattle.low_ir.specs.declared.places.Place.TheVariants.{Register as InRegiste
 use Rattle.low_ir.specs.Code.{Instr, Call, Block, Function, Low, Note}
 use Rattle.low_ir.specs.Effects.{is_member}
 use Rattle.low_ir.specs.Live.{IsRest, place_of, CallAt}
-use Rattle.low_ir.specs.Places.{assignment, kept_in, machine_registers, no_placing, place_in, placing_of, registers_of}
+use Rattle.low_ir.specs.Places.{assignment, is_lasting, kept_in, machine_registers, no_placing, place_in, placing_of, registers_of}
 use Rattle.low_ir.specs.Spacing.{IsAssignment, is_inside}
 use Rattle.low_ir.specs.View.{function_of}
 use Rattle.image_saving.specs.Walks.{spots_in}
@@ -54,8 +54,15 @@ place_inside : (size v : ℕ) → v < size → is_inside size (place_at v) ≡ t
 place_inside size v h = by (nat_lt v machine_registers) refl
   where
     by : (b : Bool) → nat_lt v machine_registers ≡ b → is_inside size (if b then InRegister v else Slot v) ≡ true
-    by true t = t
+    by true t = let small = ltb-true v machine_registers t in le-leb v machine_registers (omega (arith, small))
     by false t = lt_test v size h
+
+place_lasts : (v : ℕ) → is_lasting (place_at v) ≡ true
+place_lasts v = by (nat_lt v machine_registers) refl
+  where
+    by : (b : Bool) → nat_lt v machine_registers ≡ b → is_lasting (if b then InRegister v else Slot v) ≡ true
+    by true t = t
+    by false t = refl
 
 -- each machine register is in the mask
 abbrev all_below : (ℕ → Bool) → ℕ → Bool
@@ -107,6 +114,8 @@ registers_assigned p f fn e =
           ap (λ pl. is_member (kept_in pl at) q) here
           ∙ ap (λ m. is_member (registers_of machine_registers m) q) (replicated (spots_in fn.blocks) at all_kept 0 (call_within fn at d call))
           ∙ all_member q (register_low v q (sym (place v h) ∙ is));
+      served = λ at v d h call n i. ap is_lasting (place v h) ∙ place_lasts v;
+      passed = λ v h has. ap is_lasting (place v h) ∙ place_lasts v;
       inside = λ v h.
           ap (is_inside (slice_index_or (map in_registers p.functions) f no_placing).slots) (place v h)
           ∙ ap (λ q. is_inside q.slots (place_at v)) here

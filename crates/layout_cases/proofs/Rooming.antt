@@ -15,7 +15,7 @@ use Rattle.low_ir.specs.Places.{Assignment, Placed, placed, place_function, plac
 use Rattle.low_ir.specs.Placings.{assignment_of, placed_of}
 use Rattle.low_ir.specs.Programs.{low_of}
 use Rattle.asm_program.specs.Frames.{frame_end}
-use Rattle.image_rows.specs.Rows.{spots, spot_of, row_room, HaveSizes}
+use Rattle.image_segments.specs.Rows.{spots, spot_of, row_room, HaveSizes}
 use Rattle.image_segments.specs.Segments.{FitSegments}
 use Rattle.image_segments.specs.Starts.{FitRegions}
 use Rattle.image_frames.specs.Needs.{written, housed, is_needed}

@@ -4,9 +4,9 @@ use Rattle.std.specs.Prelude.{slice_get, slice_index_or}
 use Rattle.std.specs.List.{range_with_len}
 use Rattle.std.proofs.lemmas.List.FromFn.{map-range_with_len_more}
 use Rattle.low_ir.specs.Places.{Placed}
-use Rattle.image_sizes.specs.Sizes.{code_size, function_sizes}
-use Rattle.claims_items.specs.declared.item.LaidItem.{LaidItem}
-use Rattle.claims_items.specs.Movables.{movable_of}
+use Rattle.image_definition.specs.Sizes.{code_size, function_sizes}
+use Rattle.claims_definition.specs.declared.item.LaidItem.{LaidItem}
+use Rattle.claims_definition.specs.Movables.{movable_of}
 use Rattle.layout_kept.specs.Items.{arrays_sized, item_sizes, sized}
 use Rattle.layout_fitting.specs.Fitted.{size_listed}
 

@@ -1,12 +1,12 @@
 // Layouts of a program that has room, and the sizes of its functions.
 ghost use Rattle.std.specs.Prelude.{◌≡◌, map, IfOk};
 ghost use Rattle.low_ir.specs.Placings.{placed_of};
-ghost use Rattle.image_sizes.specs.Sizes.{function_sizes};
-ghost use Rattle.claims_items.specs.Movables.{movable_of};
+ghost use Rattle.image_definition.specs.Sizes.{function_sizes};
+ghost use Rattle.claims_definition.specs.Movables.{movable_of};
 ghost use Rattle.layout_kept.specs.Items.{item_sizes, sized};
 ghost use Rattle.layout_fitting.specs.Fitted.{AreSizes, HasListed, IsPlaced, IsUnplaced, nothing, size_listed};
 
-use claims_items::LaidItem;
+use claims_definition::LaidItem;
 use image_fitting::{has_room, has_sizes};
 use image_memory::Placement;
 use low_ir::LowReg;

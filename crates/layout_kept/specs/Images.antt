@@ -13,10 +13,10 @@ use Rattle.image_frames.specs.Memories.{Placement}
 use Rattle.image_definition.specs.Images.{image_in}
 use Rattle.claims_definition.specs.Listed.{claims_of, placing}
 use Rattle.claims_image.specs.Images.{laid_of}
-use Rattle.claims_items.specs.Movables.{array_item, code_region, function_item, movables_of}
+use Rattle.claims_definition.specs.Movables.{array_item, code_region, function_item, movables_of}
 use Rattle.layout_kept.specs.Segments.{bytes_kept, taken_in}
 use Rattle.layout_kept.specs.Items.{array_region, instructions_in, scratchpad_size}
-use Rattle.image_sizes.specs.Sizes.{globals_size}
+use Rattle.image_definition.specs.Sizes.{globals_size}
 
 pub record AreSmall (pl : Placement) (p : Placed) : Type 0 where
   pub instructions : instructions_in pl p ≤ room p

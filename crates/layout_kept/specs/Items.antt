@@ -11,9 +11,9 @@ use Rattle.low_ir.specs.Code.{Object}
 use Rattle.low_ir.specs.Places.{Placed}
 use Rattle.image_frames.specs.Memories.{Placement}
 use Rattle.image_definition.specs.Images.{formed_in, rows_in}
-use Rattle.image_sizes.specs.Sizes.{code_size}
-use Rattle.claims_accesses.specs.Lines.{same_region}
-use Rattle.claims_items.specs.Movables.{Movable, is_local}
+use Rattle.image_definition.specs.Sizes.{code_size}
+use Rattle.claims_definition.specs.Lines.{same_region}
+use Rattle.claims_definition.specs.Movables.{Movable, is_local}
 
 -- each array has elements
 abbrev pub HasElements : Placed → Type 0

@@ -27,14 +27,14 @@ use Rattle.simulation_relation.specs.Following.{Ends}
 use Rattle.image_frames.specs.Memories.{Placement}
 use Rattle.image_definition.specs.Images.{image_in}
 use Rattle.simulation_loaded.specs.Layouts.{layout_of}
-use Rattle.image_sizes.specs.Sizes.{HasSizes, HasWords}
-use Rattle.claims_accesses.specs.Laws.{AreLines}
-use Rattle.claims_accesses.specs.Lines.{Access, access_at}
-use Rattle.claims_accesses.specs.Touches.{Touch}
-use Rattle.claims_definition.specs.Laws.{AreLoopClaims, AreRanges, HasPlaces, IsPlaceOf, Rise}
+use Rattle.image_definition.specs.Sizes.{HasSizes, HasWords}
+use Rattle.claims_definition.specs.AccessLaws.{AreLines}
+use Rattle.claims_definition.specs.Lines.{Access, access_at}
+use Rattle.claims_definition.specs.Touches.{Touch}
+use Rattle.claims_definition.specs.ClaimLaws.{AreLoopClaims, AreRanges, HasPlaces, IsPlaceOf, Rise}
 use Rattle.claims_definition.specs.Listed.{Laid, accesses_of, claims_of, functions_of, places_of, placing, regions_of, touches_at}
-use Rattle.claims_items.specs.Laws.{IsMovable}
-use Rattle.claims_items.specs.Movables.{array_item, movables_of}
+use Rattle.claims_definition.specs.MovableLaws.{IsMovable}
+use Rattle.claims_definition.specs.Movables.{array_item, movables_of}
 use Rattle.claims_definition.specs.Flows.{KeepsBounds}
 use Rattle.claims_definition.specs.Shapes.{AreShaped}
 use Rattle.layout_kept.specs.Segments.{AreFilled}

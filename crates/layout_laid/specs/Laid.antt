@@ -8,7 +8,7 @@ use Rattle.image_definition.specs.Images.{image_in}
 use Rattle.claims_definition.specs.Listed as listed
 use Rattle.claims_definition.specs.Listed.{claims_of, code_ranges, placing, places_below}
 use Rattle.claims_definition.specs.Shapes.{AreShaped}
-use Rattle.claims_items.specs.Movables.{movables_of, movable_of}
+use Rattle.claims_definition.specs.Movables.{movables_of, movable_of}
 use Rattle.claims_lists.specs.Lists.{range_of}
 use Rattle.claims_image.specs.Images.{laid_of}
 use Rattle.layout_laid.specs.declared.laid.Claimed.{Claimed}

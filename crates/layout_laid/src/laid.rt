@@ -1,5 +1,5 @@
 // A program that is laid.
-use claims_items::LaidItem;
+use claims_definition::LaidItem;
 use claims_lists::CodeRange;
 use code_flow_system::{Claims, LoopShape, Span};
 use rv_core::Image;

@@ -16,23 +16,23 @@ use Rattle.asm_program.specs.Ranges.{IsSaving, InProgram}
 use Rattle.low_places.proofs.Ways.{all_safe}
 use Rattle.low_places.proofs.Follow.{carried}
 use Rattle.asm_code.proofs.Registers.{placed_there}
-use Rattle.simulation_memory.proofs.PlacedLemmas.{placed_keeps}
+use Rattle.simulation_loaded.proofs.PlacedLemmas.{placed_keeps}
 use Rattle.image_frames.specs.Memories.{Placement, memory_of}
 use Rattle.image_frames.proofs.SavingLemmas.{saving}
 use Rattle.image_definition.specs.Images.{FitsImage, image_in, rows_in}
 use Rattle.image_definition.proofs.LaidLemmas.{image_loadable}
-use Rattle.image_sizes.specs.Sizes.{HasSizes, HasWords}
-use Rattle.image_sizes.proofs.FitLemmas.{fits as has_room}
-use Rattle.asm_room.proofs.SizeLemmas.{chosen_has_room}
+use Rattle.image_definition.specs.Sizes.{HasSizes, HasWords}
+use Rattle.image_definition.proofs.FitLemmas.{fits as has_room}
+use Rattle.asm_sound.proofs.SizeLemmas.{chosen_has_room}
 use Rattle.simulation_law.proofs.Simulated.{simulated}
-use Rattle.claims_accesses.proofs.Naming.{named}
+use Rattle.claims_definition.proofs.Naming.{named}
 use Rattle.claims_definition.specs.Listed.{Laid, claims_of, functions_of}
 use Rattle.claims_definition.proofs.Claimed.{are_claims}
 use Rattle.claims_definition.proofs.Listing.{accesses_listed}
 use Rattle.claims_definition.proofs.Marks.{places_apart, places_hold}
 use Rattle.claims_definition.proofs.Ranges.{ranges_hold}
 use Rattle.claims_definition.proofs.Regions.{regions_hold}
-use Rattle.claims_items.proofs.Movables.{array_movable, function_movable}
+use Rattle.claims_definition.proofs.Movables.{array_movable, function_movable}
 use Rattle.claims_bounds.specs.Flows.{HasFlows}
 use Rattle.claims_bounds.proofs.FlowLemmas.{flows_keep_bounds}
 use Rattle.claims_bounds.specs.Bounds.{IsBounded}
@@ -41,11 +41,11 @@ use Rattle.simulation_marks.proofs.Marks.{marks_counted}
 use Rattle.simulation_marks.proofs.Places.{marks_kept, places_many}
 use Rattle.simulation_kept.proofs.TotalLemmas.{placed_totals}
 use Rattle.simulation_kept.proofs.KeptLemmas.{claims_kept}
-use Rattle.layout_sizes.proofs.Counting.{claims_counted}
-use Rattle.layout_sizes.proofs.Filled.{all_filled}
-use Rattle.layout_sizes.proofs.Keeping.{sizes_stay}
-use Rattle.layout_sizes.proofs.Lying.{all_lie}
-use Rattle.layout_sizes.proofs.Taken.{all_small}
+use Rattle.layout_law.proofs.Counting.{claims_counted}
+use Rattle.layout_law.proofs.Filled.{all_filled}
+use Rattle.layout_law.proofs.Keeping.{sizes_stay}
+use Rattle.layout_law.proofs.Lying.{all_lie}
+use Rattle.layout_law.proofs.Taken.{all_small}
 use Rattle.claims_image.specs.Images.{HasClaims, laid_of}
 use Rattle.claims_image.proofs.Whole.{has_claims}
 use Rattle.layout_kept.specs.Kept.{IsLight, KeepsLow, Simulates}

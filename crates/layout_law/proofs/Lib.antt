@@ -1,2 +1,9 @@
+pub mod Counting
+pub mod Kept
+pub mod Lying
+pub mod Taken
+pub mod Quiet
+pub mod Filled
+pub mod Keeping
 pub mod RoomLemmas
 pub mod KeptLemmas

@@ -1,5 +1,5 @@
 // Which words get registers. Nothing is proved of it: any choice is right.
-use super::holding::has_in_itself;
+use super::holding::{has_in_itself, is_near};
 use low_ir::{Block, End, Function, Instr, Operand};
 use rv_core::Alu;
 use std::alloc::Global;
@@ -26,12 +26,18 @@ const CANDIDATES: usize = 64;
 /// How many words of a function get registers.
 const MOST: usize = 8;
 
+/// How many instructions put a word into a register.
+fn length_of(word: u32) -> u64 {
+    if is_near(word) || word & 0xfff == 0 { 1 } else { 2 }
+}
+
 impl Uses {
     fn add(&mut self, word: u32) -> Result<(), Memory> {
+        let worth = self.worth.saturating_mul(length_of(word));
         for at in 0..self.words.len() {
             if let Some(used) = self.words.get_mut(at) {
                 if used.word == word {
-                    used.uses = used.uses.saturating_add(self.worth);
+                    used.uses = used.uses.saturating_add(worth);
                     return Ok(());
                 }
             }
@@ -39,7 +45,7 @@ impl Uses {
         if self.words.len() < CANDIDATES {
             self.words.push(Used {
                 word,
-                uses: self.worth,
+                uses: worth,
             })?;
         }
         Ok(())

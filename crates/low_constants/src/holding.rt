@@ -24,7 +24,7 @@ fn register_of(first: u32, words: &[u32], word: u32) -> Option<u32>
     None
 }
 
-fn is_near(word: u32) -> bool
+pub fn is_near(word: u32) -> bool
     ensures { result ≡ room.is_near word }
 {
     word < 0x800 || word >= 0xffff_f800

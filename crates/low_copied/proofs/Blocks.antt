@@ -16,8 +16,8 @@ all_copied size out n [] (c ∷ cs) h = absurd h
 all_copied size out n (b ∷ bs) [] h = absurd h
 all_copied size out n (b ∷ bs) (c ∷ cs) h = (record { number = n; copied = h.0 }, all_copied size out (suc n) bs cs h.1)
 
-pub copied_blocks : (fn gn : Function ℕ Note) (h : FunctionCopied fn gn) → AllZip (SomeCopied fn.size h.out) fn.blocks gn.blocks
-copied_blocks fn gn h = all_copied fn.size h.out 0 fn.blocks gn.blocks h.blocks
+pub copied_blocks : (fn gn : Function ℕ Note) (h : FunctionCopied fn gn) → AllZip (SomeCopied gn.size h.out) fn.blocks gn.blocks
+copied_blocks fn gn h = all_copied gn.size h.out 0 fn.blocks gn.blocks h.blocks
 
 -- the block of a number
 pub record FoundBlock (size : ℕ) (out : Beginnings) (cs : List (Block ℕ Note)) (place n : ℕ) (b : Block ℕ Note) : Type 0 where
@@ -37,8 +37,8 @@ found_from size out n (x ∷ bs) (y ∷ cs) (suc k) b h e =
     let here : suc n + k ≡ n + suc k = omega arith in
     record { it = f.it; there = f.there; copied = subst (λ m. BlockCopied size out m b f.it) here f.copied }
 
-pub found_block : (fn gn : Function ℕ Note) (h : FunctionCopied fn gn) (k : ℕ) (b : Block ℕ Note) → slice_get fn.blocks k ≡ Some b → FoundBlock fn.size h.out gn.blocks k k b
+pub found_block : (fn gn : Function ℕ Note) (h : FunctionCopied fn gn) (k : ℕ) (b : Block ℕ Note) → slice_get fn.blocks k ≡ Some b → FoundBlock gn.size h.out gn.blocks k k b
 found_block fn gn h k b e =
-    let f = found_from fn.size h.out 0 fn.blocks gn.blocks k b h.blocks e in
+    let f = found_from gn.size h.out 0 fn.blocks gn.blocks k b h.blocks e in
     let here : 0 + k ≡ k = omega arith in
-    record { it = f.it; there = f.there; copied = subst (λ m. BlockCopied fn.size h.out m b f.it) here f.copied }
+    record { it = f.it; there = f.there; copied = subst (λ m. BlockCopied gn.size h.out m b f.it) here f.copied }

@@ -148,7 +148,7 @@ functions_room [] (g ∷ gs) h = absurd h
 functions_room (f ∷ fs) [] h = absurd h
 functions_room (f ∷ fs) (g ∷ gs) h =
     let k = functions_room fs gs h.1 in
-    let l = blocks_room f.size h.0.out f.blocks g.blocks (copied_blocks f g h.0) in
+    let l = blocks_room g.size h.0.out f.blocks g.blocks (copied_blocks f g h.0) in
     let e = sum_by-cons function_room f fs in
     let i = sum_by-cons function_room g gs in
     omega arith
@@ -171,7 +171,7 @@ module _ (f g : Block ℕ Note → ℕ) (le : (size : ℕ) (out : Beginnings) (b
   function_le [] [] h n = omega arith
   function_le [] (y ∷ gs) h n = absurd h
   function_le (x ∷ fs) [] h n = absurd h
-  function_le (x ∷ fs) (y ∷ gs) h zero = subst (λ ls. repeated f ls 0 y.blocks ≤ repeated g x.loops 0 x.blocks) (sym h.0.loops) (repeated_le x.size h.0.out x.loops 0 x.blocks y.blocks (copied_blocks x y h.0))
+  function_le (x ∷ fs) (y ∷ gs) h zero = subst (λ ls. repeated f ls 0 y.blocks ≤ repeated g x.loops 0 x.blocks) (sym h.0.loops) (repeated_le y.size h.0.out x.loops 0 x.blocks y.blocks (copied_blocks x y h.0))
   function_le (x ∷ fs) (y ∷ gs) h (suc n) = function_le fs gs h.1 n
 
 -- and where each is worth the same
@@ -188,7 +188,7 @@ module _ (f g : Block ℕ Note → ℕ) (eq : (size : ℕ) (out : Beginnings) (b
   function_eq [] [] h n = refl
   function_eq [] (y ∷ gs) h n = absurd h
   function_eq (x ∷ fs) [] h n = absurd h
-  function_eq (x ∷ fs) (y ∷ gs) h zero = ap (λ ls. repeated f ls 0 y.blocks) h.0.loops ∙ repeated_eq x.size h.0.out x.loops 0 x.blocks y.blocks (copied_blocks x y h.0)
+  function_eq (x ∷ fs) (y ∷ gs) h zero = ap (λ ls. repeated f ls 0 y.blocks) h.0.loops ∙ repeated_eq y.size h.0.out x.loops 0 x.blocks y.blocks (copied_blocks x y h.0)
   function_eq (x ∷ fs) (y ∷ gs) h (suc n) = function_eq fs gs h.1 n
 
 module _ (fs gs : List (Function ℕ Note)) (h : AllZip FunctionCopied fs gs) where

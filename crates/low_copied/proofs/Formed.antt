@@ -1,8 +1,8 @@
 -- A program without copies keeps to the low form.
-use Rattle.std.proofs.Common.{◌≡◌, ◌≢◌, ◌<◌, ℕ, zero, suc, true, List, [], ◌∷◌, length, Option, Some, None, refl, sym, ap, ◌∙◌, subst, ⊎_elim}
+use Rattle.std.proofs.Common.{◌≡◌, ◌≢◌, ◌<◌, ◌≤◌, ℕ, zero, suc, true, List, [], ◌∷◌, length, Option, Some, None, refl, sym, ap, ◌∙◌, subst, ⊎_elim, arith}
 use Rattle.std.specs.Prelude.{All, AllPairs, map, option_to_list, slice_get}
 use Rattle.std.specs.List.{AllZip}
-use Rattle.std.proofs.lemmas.List.Elements.{All-nil, All-cons, All-head, All-tail}
+use Rattle.std.proofs.lemmas.List.Elements.{All-nil, All-cons, All-head, All-tail, All-weaker}
 use Rattle.low_ir.specs.Code.{Operand, Register, Constant, Base, Fixed, Through, Address, Set, Operate, Point, Load, Store, Put, Get, Instr, Do, Call, End, Jump, Branch, Return, Block, Loop, Function, Low, Note}
 use Rattle.low_ir.specs.Formed.{AreNested, CallsBelow, HasMarkBelow, IsFunction, IsLoop, IsLow, IsThere, LeadsOn, LeadsTo, LeadsTo_as, NamesThere, RegistersWithin, UsesRegisters, addresses, base_claims, base_objects, end_operands, end_reads, is_back, mark_of, only_jump, opening, read_by, registers_in, written_by}
 use Rattle.low_ir.specs.Runs.{block_in}
@@ -48,7 +48,7 @@ function_marks : (fs gs : List (Function ℕ Note)) (f b : ℕ) → AllZip Funct
 function_marks [] [] f b h = refl
 function_marks [] (y ∷ gs) f b h = absurd h
 function_marks (x ∷ fs) [] f b h = absurd h
-function_marks (x ∷ fs) (y ∷ gs) zero b h = marks_same x.size h.0.out x.blocks y.blocks b (copied_blocks x y h.0)
+function_marks (x ∷ fs) (y ∷ gs) zero b h = marks_same y.size h.0.out x.blocks y.blocks b (copied_blocks x y h.0)
 function_marks (x ∷ fs) (y ∷ gs) (suc f) b h = function_marks fs gs f b h.1
 
 -- each block has its mark
@@ -56,7 +56,7 @@ pub mark_same : (p q : Low) → IsCopied p q → (f b : ℕ) → mark_of q f b �
 mark_same p q h f b = function_marks p.functions q.functions f b h.functions
 
 pub opening_same : (fn gn : Function ℕ Note) → FunctionCopied fn gn → opening gn ≡ opening fn
-opening_same fn gn h = marks_same fn.size h.out fn.blocks gn.blocks 0 (copied_blocks fn gn h)
+opening_same fn gn h = marks_same gn.size h.out fn.blocks gn.blocks 0 (copied_blocks fn gn h)
 
 -- registers are those of the function
 abbrev InRange : ℕ → Standing → Type 0
@@ -128,6 +128,16 @@ code_in size out end end2 (i ∷ is) at js range h all last =
     (λ (c : Omits (Follows size out end end2 is) i at js). code_in size out end end2 is c.now js (λ v w q lt. range v w (c.forgets v w q).1 lt) c.goes_on rest last))
     h
 
+-- registers are among more of them too
+within_more : (size more : ℕ) → size ≤ more → (rs : List ℕ) → All (λ r. r < size) rs → All (λ r. r < more) rs
+within_more size more le rs all = All-weaker (λ r. r < size) (λ r. r < more) (λ r lt. omega arith) rs all
+
+instr_more : (size more : ℕ) → size ≤ more → (i : Instr ℕ Note) → RegistersWithin size i → RegistersWithin more i
+instr_more size more le i h = (within_more size more le (read_by i) h.0, within_more size more le (option_to_list (written_by i)) h.1)
+
+uses_more : (size more : ℕ) → size ≤ more → (b : Block ℕ Note) → UsesRegisters size b → UsesRegisters more b
+uses_more size more le b h = (All-weaker (RegistersWithin size) (RegistersWithin more) (instr_more size more le) b.code h.0, within_more size more le (end_reads b.end) h.1)
+
 block_in_range : (size : ℕ) (out : Beginnings) (b c : Block ℕ Note) → ((n v w : ℕ) → out n v ≡ Some w → w ≡ v) → SomeCopied size out b c → UsesRegisters size b → UsesRegisters size c
 block_in_range size out b c own h uses =
     code_in size out b.end c.end b.code (out h.number) c.code (λ v w q lt. subst (λ n. n < size) (sym (own h.number v w q)) lt) h.copied.code uses.0 uses.1
@@ -186,7 +196,7 @@ block_leads size out (x ∷ bs) (y ∷ cs) zero n h leads = end_leads size out x
 block_leads size out (x ∷ bs) (y ∷ cs) (suc b) n h leads = block_leads size out bs cs b n h.1 leads
 
 leads : (fn gn : Function ℕ Note) → FunctionCopied fn gn → (b n : ℕ) → LeadsTo gn b n → LeadsTo fn b n
-leads fn gn h b n to = block_leads fn.size h.out fn.blocks gn.blocks b n (copied_blocks fn gn h) to
+leads fn gn h b n to = block_leads gn.size h.out fn.blocks gn.blocks b n (copied_blocks fn gn h) to
 
 -- a block that only jumps does so still
 jump_kept : (size : ℕ) (out : Beginnings) (c : Block ℕ Note) (k n : ℕ) → BlockCopied size out k (only_jump n) c → c ≡ only_jump n
@@ -198,7 +208,7 @@ jump_kept size out c k n h =
 back_kept : (fn gn : Function ℕ Note) → FunctionCopied fn gn → (b n : ℕ) → slice_get fn.blocks b ≡ Some (only_jump n) → slice_get gn.blocks b ≡ Some (only_jump n)
 back_kept fn gn h b n e =
     let k = found_block fn gn h b (only_jump n) e in
-    k.there ∙ ap Some (jump_kept fn.size h.out k.it b n k.copied)
+    k.there ∙ ap Some (jump_kept gn.size h.out k.it b n k.copied)
 
 loop_kept : (fn gn : Function ℕ Note) → FunctionCopied fn gn → (l : Loop) → IsLoop fn l → IsLoop gn l
 loop_kept fn gn h l loop =
@@ -217,13 +227,14 @@ module _ (p q : Low) (copied : IsCopied p q) where
         opens = λ none. k.opens (sym opens ∙ none);
         alone = λ m g b e e2. k.alone m g b (sym opens ∙ e) (sym (mark_same p q copied g b) ∙ e2);
         marks = subst (λ n. All (HasMarkBelow n) gn.blocks) (sym copied.marks)
-            (all_beside (SomeCopied fn.size h.out) (HasMarkBelow p.marks) (HasMarkBelow p.marks) (λ b c r. subst (λ o. All (λ m. m < p.marks) (option_to_list o)) (sym r.copied.mark)) fn.blocks gn.blocks (copied_blocks fn gn h) k.marks);
-        parameters = subst (λ n. All (λ r. r < n) gn.parameters) (sym h.size) (subst (All (λ r. r < fn.size)) (sym h.parameters) k.parameters);
-        registers = subst (λ n. All (UsesRegisters n) gn.blocks) (sym h.size)
-            (all_beside (SomeCopied fn.size h.out) (UsesRegisters fn.size) (UsesRegisters fn.size) (λ b c r. block_in_range fn.size h.out b c h.own r) fn.blocks gn.blocks (copied_blocks fn gn h) k.registers);
-        names = blocks_keep (NamesThere p) (NamesThere q) (names_there p q copied.objects copied.claims) fn.size h.out fn.blocks gn.blocks (copied_blocks fn gn h) k.names;
-        calls = blocks_keep (CallsBelow f) (CallsBelow f) (calls_below f) fn.size h.out fn.blocks gn.blocks (copied_blocks fn gn h) k.calls;
-        stays = λ b n to. subst (λ m. n < m) (sym (as_long (SomeCopied fn.size h.out) fn.blocks gn.blocks (copied_blocks fn gn h))) (k.stays b n (leads fn gn h b n to));
+            (all_beside (SomeCopied gn.size h.out) (HasMarkBelow p.marks) (HasMarkBelow p.marks) (λ b c r. subst (λ o. All (λ m. m < p.marks) (option_to_list o)) (sym r.copied.mark)) fn.blocks gn.blocks (copied_blocks fn gn h) k.marks);
+        parameters = within_more fn.size gn.size h.size.least gn.parameters (subst (All (λ r. r < fn.size)) (sym h.parameters) k.parameters);
+        registers =
+            all_beside (SomeCopied gn.size h.out) (UsesRegisters fn.size) (UsesRegisters gn.size)
+            (λ b c r uses. block_in_range gn.size h.out b c h.own r (uses_more fn.size gn.size h.size.least b uses)) fn.blocks gn.blocks (copied_blocks fn gn h) k.registers;
+        names = blocks_keep (NamesThere p) (NamesThere q) (names_there p q copied.objects copied.claims) gn.size h.out fn.blocks gn.blocks (copied_blocks fn gn h) k.names;
+        calls = blocks_keep (CallsBelow f) (CallsBelow f) (calls_below f) gn.size h.out fn.blocks gn.blocks (copied_blocks fn gn h) k.calls;
+        stays = λ b n to. subst (λ m. n < m) (sym (as_long (SomeCopied gn.size h.out) fn.blocks gn.blocks (copied_blocks fn gn h))) (k.stays b n (leads fn gn h b n to));
         forward = λ b n to le. subst (λ ls. is_back ls b n ≡ true) (sym h.loops) (k.forward b n (leads fn gn h b n to) le);
         loops = subst (All (IsLoop gn)) (sym h.loops) (all_loops fn.loops k.loops);
         nested = subst (AllPairs AreNested) (sym h.loops) k.nested;

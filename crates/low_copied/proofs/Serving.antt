@@ -19,7 +19,7 @@ use Rattle.low_copied.proofs.Blocks.{found_block}
 use Rattle.low_copied.proofs.Lists.{before, found}
 use Rattle.low_copied.proofs.Renamed.{dest_renamed, effects_renamed, reads_renamed}
 use Rattle.low_copied.proofs.Omitted.{value_forgotten, world_stays, writes_dest}
-use Rattle.low_copied.proofs.Stores.{Shows, all_length, both_written, copy_written, finds_rest, value_found, values_found}
+use Rattle.low_copied.proofs.Stores.{Shows, both_written, copy_written, empties_alike, finds_rest, value_found, values_found, written_longer}
 
 abbrev LowRunning : Type 0
 LowRunning = Running ℕ Note Bank
@@ -59,9 +59,9 @@ module _ (p q : Low) (copied : IsCopied p q) where
   record Top (func : ℕ) (code : Code) (end : End ℕ) (store : Bank) (code2 : Code) (end2 : End ℕ) (t : Bank) : Type 0 where
     two : Two func
     at : Standing
-    long : length t ≡ two.fn.size
+    long : length t ≡ two.gn.size
     shows : Shows at store t
-    follows : Follows two.fn.size two.same.out end end2 code at code2
+    follows : Follows two.gn.size two.same.out end end2 code at code2
 
   -- an activation that waits
   record Pending (w u : LowWaiting) : Type 0 where
@@ -73,10 +73,10 @@ module _ (p q : Low) (copied : IsCopied p q) where
     end : End ℕ
     store : Bank
     is : u ≡ record { frame = record { func = w.frame.func; code = code; end = end; store = store }; into = renamed_into into w.into }
-    long : length store ≡ two.fn.size
+    long : length store ≡ two.gn.size
     shows : Shows at w.frame.store store
-    becomes : Becomes two.fn.size w.into into at now
-    follows : Follows two.fn.size two.same.out w.frame.end end w.frame.code now code
+    becomes : Becomes two.gn.size w.into into at now
+    follows : Follows two.gn.size two.same.out w.frame.end end w.frame.code now code
 
   abbrev Waits : List LowWaiting → List LowWaiting → Type 0
   Waits [] [] = Unit {0}
@@ -107,7 +107,7 @@ module _ (p q : Low) (copied : IsCopied p q) where
   at_once r s t e h = subst (λ x. Serves r x) (sym e) h
 
   -- a block is entered
-  enter_serves : (r : LowRunning) (code : Code) (end : End ℕ) (t : Bank) (ws : List LowWaiting) (b : ℕ) (w : Two r.top.func) → length t ≡ w.fn.size → Shows (w.same.out b) r.top.store t → Waits r.below ws → (o : Option (Block ℕ Note)) → slice_get w.fn.blocks b ≡ o → Serves (enter r b o) (enter (running r code end t ws) b (slice_get w.gn.blocks b))
+  enter_serves : (r : LowRunning) (code : Code) (end : End ℕ) (t : Bank) (ws : List LowWaiting) (b : ℕ) (w : Two r.top.func) → length t ≡ w.gn.size → Shows (w.same.out b) r.top.store t → Waits r.below ws → (o : Option (Block ℕ Note)) → slice_get w.fn.blocks b ≡ o → Serves (enter r b o) (enter (running r code end t ws) b (slice_get w.gn.blocks b))
   enter_serves r code end t ws b w long shows waits None e = tt
   enter_serves r code end t ws b w long shows waits (Some bl) e =
       let k = found_block w.fn w.gn w.same b bl e in
@@ -122,7 +122,7 @@ module _ (p q : Low) (copied : IsCopied p q) where
       }
 
   -- a jump to a block from an end
-  jump_serves : (r : LowRunning) (code : Code) (end : End ℕ) (t : Bank) (ws : List LowWaiting) (b : ℕ) (w : Two r.top.func) → length t ≡ w.fn.size → Shows (w.same.out b) r.top.store t → Waits r.below ws → Serves (went_to p r b) (went_to q (running r code end t ws) b)
+  jump_serves : (r : LowRunning) (code : Code) (end : End ℕ) (t : Bank) (ws : List LowWaiting) (b : ℕ) (w : Two r.top.func) → length t ≡ w.gn.size → Shows (w.same.out b) r.top.store t → Waits r.below ws → Serves (went_to p r b) (went_to q (running r code end t ws) b)
   jump_serves r code end t ws b w long shows waits =
       let s = running r code end t ws in
       subst (λ o. Serves (enter r b (block_in o b)) (went_to q s b)) (sym w.there)
@@ -135,22 +135,23 @@ module _ (p q : Low) (copied : IsCopied p q) where
   begin_serves ws us u f w xs waits None e = tt
   begin_serves ws us u f w xs waits (Some s) e =
       let r : LowRunning = record { top = record { func = f; code = []; end = Jump 0; store = s }; below = ws; world = u } in
-      let long = all_length w.fn.parameters xs (virtual.empty w.fn.size) s e ∙ length-replicate {A = Option Value} w.fn.size None in
+      let least = length-replicate {A = Option Value} w.fn.size None in
+      let most = length-replicate {A = Option Value} w.gn.size None in
+      let grows = w.same.size.least in
+      let t = written_longer w.fn.parameters xs (virtual.empty w.fn.size) (virtual.empty w.gn.size) s (omega arith) (empties_alike w.fn.size w.gn.size) e in
       at_once (begin ws u f w.fn (Some s)) _ _
-      (ap (λ n. begin us u f w.gn (write_all virtual (Some (virtual.empty n)) w.gn.parameters xs)) w.same.size
-      ∙ ap (λ rs. begin us u f w.gn (write_all virtual (Some (virtual.empty w.fn.size)) rs xs)) w.same.parameters
-      ∙ ap (begin us u f w.gn) e)
-      (enter_serves r [] (Jump 0) s us 0 w long (λ v n h. ap (λ m. slice_index_or s m None) (sym (w.same.own 0 v n h))) waits (slice_get w.fn.blocks 0) refl)
+      (ap (λ rs. begin us u f w.gn (write_all virtual (Some (virtual.empty w.gn.size)) rs xs)) w.same.parameters ∙ ap (begin us u f w.gn) t.is)
+      (enter_serves r [] (Jump 0) t.store us 0 w (t.long ∙ most) (λ v n h. t.alike v ∙ ap (λ m. slice_index_or t.store m None) (sym (w.same.own 0 v n h))) waits (slice_get w.fn.blocks 0) refl)
 
   -- an instruction that goes on behind itself
-  do_serves : (r : LowRunning) (is : Code) (code : Code) (end : End ℕ) (t : Bank) (ws : List LowWaiting) (behind : Code) (w : Two r.top.func) (at now : Standing) (d : Option ℕ) (into : ℕ) → length t ≡ w.fn.size → Shows at r.top.store t → Becomes w.fn.size d into at now → Follows w.fn.size w.same.out r.top.end end is now behind → Waits r.below ws → (o : Option Did) → Serves (finish virtual r is d o) (finish virtual (running r code end t ws) behind (renamed_into into d) o)
+  do_serves : (r : LowRunning) (is : Code) (code : Code) (end : End ℕ) (t : Bank) (ws : List LowWaiting) (behind : Code) (w : Two r.top.func) (at now : Standing) (d : Option ℕ) (into : ℕ) → length t ≡ w.gn.size → Shows at r.top.store t → Becomes w.gn.size d into at now → Follows w.gn.size w.same.out r.top.end end is now behind → Waits r.below ws → (o : Option Did) → Serves (finish virtual r is d o) (finish virtual (running r code end t ws) behind (renamed_into into d) o)
   do_serves r is code end t ws behind w at now d into long shows becomes follows waits None = tt
   do_serves r is code end t ws behind w at now d into long shows becomes follows waits (Some did) = by_write (write_to virtual r.top.store d did.value) refl
     where
       by_write : (o : Option Bank) → write_to virtual r.top.store d did.value ≡ o → Serves (goes_on r is did.world o) (goes_on (running r code end t ws) behind did.world (write_to virtual t (renamed_into into d) did.value))
       by_write None h = tt
       by_write (Some s) h =
-          let b = both_written w.fn.size at now r.top.store s t d into did.value long becomes shows h in
+          let b = both_written w.gn.size at now r.top.store s t d into did.value long becomes shows h in
           record {
             code = behind;
             end = end;
@@ -161,7 +162,7 @@ module _ (p q : Low) (copied : IsCopied p q) where
             waits = waits;
           }
 
-  plain_serves : (r : LowRunning) (i : Plain ℕ) (is : Code) (code : Code) (end : End ℕ) (t : Bank) (ws : List LowWaiting) (w : Two r.top.func) (at : Standing) → length t ≡ w.fn.size → Shows at r.top.store t → Carries w.fn.size (Follows w.fn.size w.same.out r.top.end end is) (Do i) at code → Waits r.below ws → Serves (at_instr virtual p r (Do i) is) (at_code virtual q (running r code end t ws) code)
+  plain_serves : (r : LowRunning) (i : Plain ℕ) (is : Code) (code : Code) (end : End ℕ) (t : Bank) (ws : List LowWaiting) (w : Two r.top.func) (at : Standing) → length t ≡ w.gn.size → Shows at r.top.store t → Carries w.gn.size (Follows w.gn.size w.same.out r.top.end end is) (Do i) at code → Waits r.below ws → Serves (at_instr virtual p r (Do i) is) (at_code virtual q (running r code end t ws) code)
   plain_serves r i is code end t ws w at long shows c waits =
       let s = running r code end t ws in
       let j = renamed_plain c.name c.into i in
@@ -176,7 +177,7 @@ module _ (p q : Low) (copied : IsCopied p q) where
       (do_serves r is code end t ws c.behind w at c.now (dest i) c.into long shows c.becomes c.goes_on waits (effect_of p.claims i os r.world))
 
   -- a copy is left out
-  copy_serves : (r : LowRunning) (d : ℕ) (x : Operand ℕ) (is : Code) (code : Code) (end : End ℕ) (t : Bank) (ws : List LowWaiting) (w : Two r.top.func) (at now : Standing) → length t ≡ w.fn.size → Shows at r.top.store t → Copied d x at now → Follows w.fn.size w.same.out r.top.end end is now code → Waits r.below ws → Serves (at_instr virtual p r (Do (Set d x)) is) (Going (running r code end t ws))
+  copy_serves : (r : LowRunning) (d : ℕ) (x : Operand ℕ) (is : Code) (code : Code) (end : End ℕ) (t : Bank) (ws : List LowWaiting) (w : Two r.top.func) (at now : Standing) → length t ≡ w.gn.size → Shows at r.top.store t → Copied d x at now → Follows w.gn.size w.same.out r.top.end end is now code → Waits r.below ws → Serves (at_instr virtual p r (Do (Set d x)) is) (Going (running r code end t ws))
   copy_serves r d x is code end t ws w at now long shows copies follows waits = by_value (operand_value virtual r.top.store x) refl
     where
       by_value : (o : Option Value) → operand_value virtual r.top.store x ≡ o → Serves (finish virtual r is (Some d) (effect_of p.claims (Set d x) (values_cons o (Some [])) r.world)) (Going (running r code end t ws))
@@ -197,7 +198,7 @@ module _ (p q : Low) (copied : IsCopied p q) where
               }
 
   -- what nothing needs is left out
-  omit_serves : (r : LowRunning) (i : Instr ℕ Note) (is : Code) (code : Code) (end : End ℕ) (t : Bank) (ws : List LowWaiting) (w : Two r.top.func) (at now : Standing) (d : ℕ) → length t ≡ w.fn.size → Shows at r.top.store t → WritesOnly i d → Forgets d at now → Follows w.fn.size w.same.out r.top.end end is now code → Waits r.below ws → Serves (at_instr virtual p r i is) (Going (running r code end t ws))
+  omit_serves : (r : LowRunning) (i : Instr ℕ Note) (is : Code) (code : Code) (end : End ℕ) (t : Bank) (ws : List LowWaiting) (w : Two r.top.func) (at now : Standing) (d : ℕ) → length t ≡ w.gn.size → Shows at r.top.store t → WritesOnly i d → Forgets d at now → Follows w.gn.size w.same.out r.top.end end is now code → Waits r.below ws → Serves (at_instr virtual p r i is) (Going (running r code end t ws))
   omit_serves r (Call into f args note) is code end t ws w at now d long shows only forgets follows waits = absurd only
   omit_serves r (Do i) is code end t ws w at now d long shows only forgets follows waits =
       let into = writes_dest i d only in
@@ -232,7 +233,7 @@ module _ (p q : Low) (copied : IsCopied p q) where
       by_write None h = tt
       by_write (Some s) h =
           let k = waits.0 in
-          let b = both_written k.two.fn.size k.at k.now w.frame.store s k.store w.into k.into (Word v) k.long k.becomes k.shows h in
+          let b = both_written k.two.gn.size k.at k.now w.frame.store s k.store w.into k.into (Word v) k.long k.becomes k.shows h in
           let z : LowWaiting = record { frame = record { func = w.frame.func; code = k.code; end = k.end; store = k.store }; into = renamed_into k.into w.into } in
           record {
             code = k.code;
@@ -245,7 +246,7 @@ module _ (p q : Low) (copied : IsCopied p q) where
           }
 
   -- a call
-  call_serves : (r : LowRunning) (d : Option ℕ) (f : ℕ) (args : List (Operand ℕ)) (note : Note) (is : Code) (code : Code) (end : End ℕ) (t : Bank) (ws : List LowWaiting) (w : Two r.top.func) (at : Standing) → length t ≡ w.fn.size → Shows at r.top.store t → Carries w.fn.size (Follows w.fn.size w.same.out r.top.end end is) (Call d f args note) at code → Waits r.below ws → (o : Option LowFunction) → slice_get p.functions f ≡ o → (os : Option (List Value)) → values virtual r.top.store args ≡ os → Serves (call virtual r is d f note o os) (at_code virtual q (running r code end t ws) code)
+  call_serves : (r : LowRunning) (d : Option ℕ) (f : ℕ) (args : List (Operand ℕ)) (note : Note) (is : Code) (code : Code) (end : End ℕ) (t : Bank) (ws : List LowWaiting) (w : Two r.top.func) (at : Standing) → length t ≡ w.gn.size → Shows at r.top.store t → Carries w.gn.size (Follows w.gn.size w.same.out r.top.end end is) (Call d f args note) at code → Waits r.below ws → (o : Option LowFunction) → slice_get p.functions f ≡ o → (os : Option (List Value)) → values virtual r.top.store args ≡ os → Serves (call virtual r is d f note o os) (at_code virtual q (running r code end t ws) code)
   unfolding two
   call_serves r d f args note is code end t ws w at long shows c waits None e os e2 = tt
   call_serves r d f args note is code end t ws w at long shows c waits (Some fn) e None e2 = tt
@@ -285,7 +286,7 @@ module _ (p q : Low) (copied : IsCopied p q) where
   either_shows func w s t b1 b2 one two false = two
 
   -- the end of a block
-  branch_serves : (r : LowRunning) (code : Code) (end2 : End ℕ) (t : Bank) (ws : List LowWaiting) (c : Condition) (b1 b2 : ℕ) (w : Two r.top.func) → length t ≡ w.fn.size → Shows (w.same.out b1) r.top.store t → Shows (w.same.out b2) r.top.store t → Waits r.below ws → (o1 o2 : Option Value) → Serves (branches p r (chosen c b1 b2 o1 o2)) (branches q (running r code end2 t ws) (chosen c b1 b2 o1 o2))
+  branch_serves : (r : LowRunning) (code : Code) (end2 : End ℕ) (t : Bank) (ws : List LowWaiting) (c : Condition) (b1 b2 : ℕ) (w : Two r.top.func) → length t ≡ w.gn.size → Shows (w.same.out b1) r.top.store t → Shows (w.same.out b2) r.top.store t → Waits r.below ws → (o1 o2 : Option Value) → Serves (branches p r (chosen c b1 b2 o1 o2)) (branches q (running r code end2 t ws) (chosen c b1 b2 o1 o2))
   branch_serves r code end2 t ws c b1 b2 w long shows other waits None o2 = tt
   branch_serves r code end2 t ws c b1 b2 w long shows other waits (Some (Pointer o n)) o2 = tt
   branch_serves r code end2 t ws c b1 b2 w long shows other waits (Some (Word m)) None = tt
@@ -300,7 +301,7 @@ module _ (p q : Low) (copied : IsCopied p q) where
   fewer_shows : (at out : Standing) (s t : Bank) → Fewer at out → Shows at s t → Shows out s t
   fewer_shows at out s t fewer h v w e = h v w (fewer v w e)
 
-  end_serves : (r : LowRunning) (code : Code) (end2 : End ℕ) (t : Bank) (ws : List LowWaiting) (w : Two r.top.func) (at : Standing) (name : ℕ → ℕ) → length t ≡ w.fn.size → Shows at r.top.store t → Waits r.below ws → (end : End ℕ) → ((n : ℕ) → LeadsOn end n → Fewer at (w.same.out n)) → Finds at name (end_operands end) → Serves (at_end virtual p r end) (at_end virtual q (running r code end2 t ws) (renamed_end name end))
+  end_serves : (r : LowRunning) (code : Code) (end2 : End ℕ) (t : Bank) (ws : List LowWaiting) (w : Two r.top.func) (at : Standing) (name : ℕ → ℕ) → length t ≡ w.gn.size → Shows at r.top.store t → Waits r.below ws → (end : End ℕ) → ((n : ℕ) → LeadsOn end n → Fewer at (w.same.out n)) → Finds at name (end_operands end) → Serves (at_end virtual p r end) (at_end virtual q (running r code end2 t ws) (renamed_end name end))
   end_serves r code end2 t ws w at name long shows waits (Jump b) fewer finds = jump_serves r code end2 t ws b w long (fewer_shows at (w.same.out b) r.top.store t (fewer b refl) shows) waits
   end_serves r code end2 t ws w at name long shows waits (Branch c x y b1 b2) fewer finds =
       let s = running r code end2 t ws in
@@ -313,7 +314,7 @@ module _ (p q : Low) (copied : IsCopied p q) where
       (ap (give_back virtual (running r code end2 t ws)) (value_found at name r.top.store t shows x [] finds))
       (return_serves r code end2 t ws waits (operand_value virtual r.top.store x))
 
-  ends_serve : (r : LowRunning) (code : Code) (end2 : End ℕ) (t : Bank) (ws : List LowWaiting) (w : Two r.top.func) (at : Standing) → length t ≡ w.fn.size → Shows at r.top.store t → Ends w.same.out r.top.end end2 at code → Waits r.below ws → Serves (at_end virtual p r r.top.end) (at_code virtual q (running r code end2 t ws) code)
+  ends_serve : (r : LowRunning) (code : Code) (end2 : End ℕ) (t : Bank) (ws : List LowWaiting) (w : Two r.top.func) (at : Standing) → length t ≡ w.gn.size → Shows at r.top.store t → Ends w.same.out r.top.end end2 at code → Waits r.below ws → Serves (at_end virtual p r r.top.end) (at_code virtual q (running r code end2 t ws) code)
   ends_serve r code end2 t ws w at long shows e waits =
       let s = running r code end2 t ws in
       at_once (at_end virtual p r r.top.end) _ _ (ap (at_code virtual q s) e.done ∙ ap (at_end virtual q s) e.is)
@@ -322,27 +323,27 @@ module _ (p q : Low) (copied : IsCopied p q) where
   one_step : (r s : LowRun) → Serves r (step virtual q s) → Later r s
   one_step r s h = record { steps = 1; serves = h }
 
-  carry_serves : (r : LowRunning) (i : Instr ℕ Note) (is : Code) (code : Code) (end2 : End ℕ) (t : Bank) (ws : List LowWaiting) (w : Two r.top.func) (at : Standing) → length t ≡ w.fn.size → Shows at r.top.store t → Carries w.fn.size (Follows w.fn.size w.same.out r.top.end end2 is) i at code → Waits r.below ws → Serves (at_instr virtual p r i is) (at_code virtual q (running r code end2 t ws) code)
+  carry_serves : (r : LowRunning) (i : Instr ℕ Note) (is : Code) (code : Code) (end2 : End ℕ) (t : Bank) (ws : List LowWaiting) (w : Two r.top.func) (at : Standing) → length t ≡ w.gn.size → Shows at r.top.store t → Carries w.gn.size (Follows w.gn.size w.same.out r.top.end end2 is) i at code → Waits r.below ws → Serves (at_instr virtual p r i is) (at_code virtual q (running r code end2 t ws) code)
   carry_serves r (Do i) is code end2 t ws w at long shows c waits = plain_serves r i is code end2 t ws w at long shows c waits
   carry_serves r (Call d f args note) is code end2 t ws w at long shows c waits =
       call_serves r d f args note is code end2 t ws w at long shows c waits (slice_get p.functions f) refl (values virtual r.top.store args) refl
 
-  leave_serves : (r : LowRunning) (i : Instr ℕ Note) (is : Code) (code : Code) (end2 : End ℕ) (t : Bank) (ws : List LowWaiting) (w : Two r.top.func) (at : Standing) → length t ≡ w.fn.size → Shows at r.top.store t → LeavesOut (Follows w.fn.size w.same.out r.top.end end2 is) i at code → Waits r.below ws → Serves (at_instr virtual p r i is) (Going (running r code end2 t ws))
+  leave_serves : (r : LowRunning) (i : Instr ℕ Note) (is : Code) (code : Code) (end2 : End ℕ) (t : Bank) (ws : List LowWaiting) (w : Two r.top.func) (at : Standing) → length t ≡ w.gn.size → Shows at r.top.store t → LeavesOut (Follows w.gn.size w.same.out r.top.end end2 is) i at code → Waits r.below ws → Serves (at_instr virtual p r i is) (Going (running r code end2 t ws))
   leave_serves r i is code end2 t ws w at long shows c waits =
       subst (λ x. Serves (at_instr virtual p r x is) (Going (running r code end2 t ws))) (sym c.is)
       (copy_serves r c.into c.value is code end2 t ws w at c.now long shows c.copied c.goes_on waits)
 
-  code_serves : (r : LowRunning) (code2 : Code) (end2 : End ℕ) (t : Bank) (ws : List LowWaiting) (w : Two r.top.func) (at : Standing) → length t ≡ w.fn.size → Shows at r.top.store t → Waits r.below ws → (code : Code) → Follows w.fn.size w.same.out r.top.end end2 code at code2 → Later (at_code virtual p r code) (Going (running r code2 end2 t ws))
+  code_serves : (r : LowRunning) (code2 : Code) (end2 : End ℕ) (t : Bank) (ws : List LowWaiting) (w : Two r.top.func) (at : Standing) → length t ≡ w.gn.size → Shows at r.top.store t → Waits r.below ws → (code : Code) → Follows w.gn.size w.same.out r.top.end end2 code at code2 → Later (at_code virtual p r code) (Going (running r code2 end2 t ws))
   code_serves r code2 end2 t ws w at long shows waits [] follows =
       one_step (at_end virtual p r r.top.end) (Going (running r code2 end2 t ws)) (ends_serve r code2 end2 t ws w at long shows follows waits)
   code_serves r code2 end2 t ws w at long shows waits (i ∷ is) follows =
       ⊎_elim
-      (λ (c : Carries w.fn.size (Follows w.fn.size w.same.out r.top.end end2 is) i at code2).
+      (λ (c : Carries w.gn.size (Follows w.gn.size w.same.out r.top.end end2 is) i at code2).
       one_step (at_instr virtual p r i is) (Going (running r code2 end2 t ws)) (carry_serves r i is code2 end2 t ws w at long shows c waits))
       (⊎_elim
-      (λ (c : LeavesOut (Follows w.fn.size w.same.out r.top.end end2 is) i at code2).
+      (λ (c : LeavesOut (Follows w.gn.size w.same.out r.top.end end2 is) i at code2).
       record { steps = 0; serves = leave_serves r i is code2 end2 t ws w at long shows c waits })
-      (λ (c : Omits (Follows w.fn.size w.same.out r.top.end end2 is) i at code2).
+      (λ (c : Omits (Follows w.gn.size w.same.out r.top.end end2 is) i at code2).
       record { steps = 0; serves = omit_serves r i is code2 end2 t ws w at c.now c.into long shows c.only c.forgets c.goes_on waits }))
       follows
 

@@ -1,8 +1,8 @@
 -- Stores of two programs, written side by side.
-use Rattle.std.proofs.Common.{◌≡◌, ◌≢◌, ◌<◌, ℕ, Bool, true, false, List, [], ◌∷◌, length, Option, Some, None, refl, sym, ap, ◌∙◌, subst, ⊎_elim, arith, get_or-set_same, get_or-set_other, length-set}
+use Rattle.std.proofs.Common.{◌≡◌, ◌≢◌, ◌<◌, ◌≤◌, ℕ, zero, suc, Bool, true, false, List, [], ◌∷◌, length, Option, Some, None, refl, sym, ap, ◌∙◌, subst, ⊎_elim, arith, get_or-set_same, get_or-set_other, length-set}
 use Rattle.std.specs.Prelude.{map, slice_index_or, slice_set, nat_lt, ◌%◌, ◌^◌}
 use Rattle.std.proofs.lemmas.Bool.Decides.{nat_tests}
-use Rattle.std.proofs.lemmas.Bool.{ltb-true}
+use Rattle.std.proofs.lemmas.Bool.{cases_eq, ltb-true}
 use Rattle.low_ir.specs.Code.{Operand, Register, Constant}
 use Rattle.low_ir.specs.declared.run.Value.{Value}
 use Rattle.low_ir.specs.declared.run.Value.TheVariants.{Word}
@@ -95,23 +95,57 @@ pub finds_rest : (at : Standing) (name : ℕ → ℕ) (x : Operand ℕ) (xs : Li
 finds_rest at name (Register r) xs f = f.1
 finds_rest at name (Constant w) xs f = f
 
-set_length : (s s2 : Bank) (d : ℕ) (x : Value) (c : Bool) → set_in s d x c ≡ Some s2 → length s2 ≡ length s
-set_length s s2 d x false e = cc
-set_length s s2 d x true e =
-    let is : slice_set s d (Some x) ≡ s2 = cc in
-    ap length (sym is) ∙ length-set s d (Some x)
-
 none_all : (rs : List ℕ) (xs : List Value) (s : Bank) → write_all virtual None rs xs ≡ Some s → ⊥
 none_all [] xs s e = cc
 none_all (r ∷ rs) xs s e = cc
 
--- arguments leave a store as long as it is
-pub all_length : (rs : List ℕ) (xs : List Value) (s s2 : Bank) → write_all virtual (Some s) rs xs ≡ Some s2 → length s2 ≡ length s
-all_length [] [] s s2 e = let is : s ≡ s2 = cc in ap length (sym is)
-all_length [] (x ∷ xs) s s2 e = cc
-all_length (r ∷ rs) [] s s2 e = cc
-all_length (r ∷ rs) (x ∷ xs) s s2 e = by_write (λ s1 k. all_length rs xs s1 s2 k) (virtual.write s r x) refl e
+-- stores with the same values, of which one may be longer
+abbrev pub Alike : Bank → Bank → Type 0
+Alike s t = (v : ℕ) → slice_index_or s v None ≡ slice_index_or t v None
+
+nothing_there : (n v : ℕ) → slice_index_or (virtual.empty n) v None ≡ None
+nothing_there zero v = refl
+nothing_there (suc n) zero = refl
+nothing_there (suc n) (suc v) = nothing_there n v
+
+pub empties_alike : (m n : ℕ) → Alike (virtual.empty m) (virtual.empty n)
+empties_alike m n v = nothing_there m v ∙ sym (nothing_there n v)
+
+set_alike : (s t : Bank) (r : ℕ) (x : Value) → r < length s → r < length t → Alike s t → Alike (slice_set s r (Some x)) (slice_set t r (Some x))
+set_alike s t r x lt lt2 same v =
+    ⊎_elim
+    (λ (here : v ≡ r).
+    ap (λ n. slice_index_or (slice_set s r (Some x)) n None) here
+    ∙ get_or-set_same s r (Some x) None lt
+    ∙ sym (get_or-set_same t r (Some x) None lt2)
+    ∙ ap (λ n. slice_index_or (slice_set t r (Some x)) n None) (sym here))
+    (λ (other : v ≢ r). get_or-set_other s r v (Some x) None other ∙ same v ∙ sym (get_or-set_other t r v (Some x) None other))
+    (cases_eq v r)
+
+-- arguments were written to the longer one
+pub record Longer (rs : List ℕ) (xs : List Value) (s2 t : Bank) : Type 0 where
+  pub store : Bank
+  pub is : write_all virtual (Some t) rs xs ≡ Some store
+  pub long : length store ≡ length t
+  pub alike : Alike s2 store
+
+pub written_longer : (rs : List ℕ) (xs : List Value) (s t s2 : Bank) → length s ≤ length t → Alike s t → write_all virtual (Some s) rs xs ≡ Some s2 → Longer rs xs s2 t
+written_longer [] [] s t s2 le same e = let is : s ≡ s2 = cc in record { store = t; is = refl; long = refl; alike = subst (λ l. Alike l t) is same }
+written_longer [] (x ∷ xs) s t s2 le same e = cc
+written_longer (r ∷ rs) [] s t s2 le same e = cc
+written_longer (r ∷ rs) (x ∷ xs) s t s2 le same e = by_test (nat_lt r (length s)) refl e
   where
-    by_write : ((s1 : Bank) → write_all virtual (Some s1) rs xs ≡ Some s2 → length s2 ≡ length s1) → (o : Option Bank) → virtual.write s r x ≡ o → write_all virtual o rs xs ≡ Some s2 → length s2 ≡ length s
-    by_write rest None g k = absurd (none_all rs xs s2 k)
-    by_write rest (Some s1) g k = rest s1 k ∙ set_length s s1 r x (nat_lt r (length s)) g
+    by_test : (c : Bool) → nat_lt r (length s) ≡ c → write_all virtual (set_in s r x c) rs xs ≡ Some s2 → Longer (r ∷ rs) (x ∷ xs) s2 t
+    by_test false g k = absurd (none_all rs xs s2 k)
+    by_test true g k =
+        let lt : r < length s = ltb-true r (length s) g in
+        let lt2 : r < length t = omega arith in
+        let as_long = length-set s r (Some x) in
+        let as_long2 = length-set t r (Some x) in
+        let rest = written_longer rs xs (slice_set s r (Some x)) (slice_set t r (Some x)) s2 (omega arith) (set_alike s t r x lt lt2 same) k in
+        record {
+          store = rest.store;
+          is = ap (λ c. write_all virtual (set_in t r x c) rs xs) (lt_test r (length t) lt2) ∙ rest.is;
+          long = rest.long ∙ as_long2;
+          alike = rest.alike;
+        }

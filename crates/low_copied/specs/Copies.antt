@@ -1,5 +1,5 @@
 -- Programs of which one leaves out copies that the other makes, and what nothing needs: within a block the value of a register may stand in another one.
-use Rattle.std.specs.Prelude.{◌≡◌, ◌≢◌, ◌⊎◌, ℕ, suc, ◌<◌, List, [], ◌∷◌, Option, Some, None}
+use Rattle.std.specs.Prelude.{◌≡◌, ◌≢◌, ◌⊎◌, ℕ, suc, ◌<◌, ◌≤◌, List, [], ◌∷◌, Option, Some, None}
 use Rattle.std.specs.List.{AllZip}
 use Rattle.low_ir.specs.Code.{Operand, Register, Constant, Base, Fixed, Through, Address, Set, Operate, Point, Load, Store, Put, Get, Instr, Do, Call, End, Block, Function, Note, Low}
 use Rattle.low_ir.specs.Effects.{reads}
@@ -127,14 +127,23 @@ BlocksCopied size out n [] (c ∷ cs) = ⊥
 BlocksCopied size out n (b ∷ bs) [] = ⊥
 BlocksCopied size out n (b ∷ bs) (c ∷ cs) = BlockCopied size out n b c × BlocksCopied size out (suc n) bs cs
 
+-- so many registers a function may have in any case
+abbrev pub free_registers : ℕ
+free_registers = 256
+
+-- as many registers, or more of them, but no more than are free
+pub record Grows (size grown : ℕ) : Type 0 where
+  pub least : size ≤ grown
+  pub most : (grown ≤ size) ⊎ (grown ≤ free_registers)
+
 -- at the beginning of a block registers stand in their own places, those that it doesn't count on perhaps nowhere
 pub record FunctionCopied (fn gn : Function ℕ Note) : Type 0 where
   pub out : Beginnings
   pub own : (n v w : ℕ) → out n v ≡ Some w → w ≡ v
   pub parameters : gn.parameters ≡ fn.parameters
-  pub size : gn.size ≡ fn.size
+  pub size : Grows fn.size gn.size
   pub loops : gn.loops ≡ fn.loops
-  pub blocks : BlocksCopied fn.size out 0 fn.blocks gn.blocks
+  pub blocks : BlocksCopied gn.size out 0 fn.blocks gn.blocks
 
 pub record IsCopied (p q : Low) : Type 0 where
   pub functions : AllZip FunctionCopied p.functions q.functions

@@ -6,7 +6,7 @@ use Rattle.std.proofs.lemmas.List.{append-nil, length-map, map_more, map_push}
 use Rattle.low_ir.specs.declared.low.Block.{Block as Block'}
 use Rattle.low_ir.specs.View.{block_of}
 use Rattle.low_ir.specs.Code.{Block, End, Function, Note}
-use Rattle.low_copied.specs.Copies.{Beginnings, BlockCopied, BlocksCopied, Code, Follows, FunctionCopied}
+use Rattle.low_copied.specs.Copies.{Beginnings, BlockCopied, BlocksCopied, Code, Follows, FunctionCopied, Grows}
 use Rattle.low_copies.specs.Knowing.{IsKnown, Knowing, counted_by, stands}
 use Rattle.low_copies.specs.Making.{AreBlocks, AreBlocksSoFar, Begins, Goes, IsBlock, IsEnd, IsMade, IsReady, name_in}
 use Rattle.low_copies.proofs.Begun.{counted_own, ready_stands}
@@ -52,7 +52,7 @@ zip_more R [] (b ∷ ys) x y h r = absurd h
 zip_more R (a ∷ xs) [] x y h r = absurd h
 zip_more R (a ∷ xs) (b ∷ ys) x y h r = (h.0, zip_more R xs ys x y h.1 r)
 
-pub function_made : (fn gn : Function ℕ Note) (lasting : List Bool) (lists : List (List ℕ)) (k : Knowing) → gn.parameters ≡ fn.parameters → gn.size ≡ fn.size → gn.loops ≡ fn.loops → IsKnown fn.size lasting k → AreBlocks fn.size lists k fn.blocks gn.blocks → FunctionCopied fn gn
+pub function_made : (fn gn : Function ℕ Note) (lasting : List Bool) (lists : List (List ℕ)) (k : Knowing) → gn.parameters ≡ fn.parameters → Grows fn.size gn.size → gn.loops ≡ fn.loops → IsKnown gn.size lasting k → AreBlocks gn.size lists k fn.blocks gn.blocks → FunctionCopied fn gn
 function_made fn gn lasting lists k parameters size loops known blocks =
     record {
       out = counted_by lasting lists;

@@ -1,14 +1,12 @@
 // What becomes of each instruction of a block. Nothing is proved of it: a choice that can't be followed leaves the program as it is.
 use super::copy::{Copied, copy_at};
 use super::known::Known;
+use super::numbers::{Numbers, gives_word};
 use super::reading::{Reader, read_end, read_instr};
 use super::renaming::{only_written, writes, written};
-use low_ir::{Base, Block, End, Instr, Operand};
+use low_ir::{Block, End, Function, Instr};
 use std::alloc::Global;
 use wcc_base::Memory;
-
-/// How many registers are looked at for a value.
-const LOOKED_AT: usize = 8;
 
 /// What becomes of an instruction.
 #[derive(Clone, Copy)]
@@ -20,7 +18,7 @@ pub enum Choice {
     LeftOut,
     /// An instruction that only writes a register, which nothing reads then.
     Unread,
-    /// The value goes to another register alone.
+    /// Its value goes to this register, and lives in the block alone.
     Apart(u32),
 }
 
@@ -32,10 +30,10 @@ pub struct Behind {
     read: Vec<u64>,
     /// The next place where it is written.
     written: Vec<u64>,
-    /// The last place where the value that it has here is read where it has to stand in its own register.
-    bound: Vec<u64>,
-    /// Registers that hold values of the block alone, those that were written first in it last.
-    own: Vec<u32>,
+    /// The place of a copy of its value that is left out.
+    copied: Vec<u64>,
+    /// Registers that values may have for themselves.
+    numbers: Numbers,
     /// The first place of the block.
     first: u64,
     /// A place behind its last one, where the blocks to which it leads read what they count on.
@@ -44,13 +42,11 @@ pub struct Behind {
     at: u64,
 }
 
-/// The register that an operation, an element or a word goes to.
-fn computed(instr: &Instr) -> Option<u32> {
-    match instr {
-        Instr::Operate { into, .. } => Some(*into),
-        Instr::Load { into, .. } => Some(*into),
-        Instr::Set { into, .. } => Some(*into),
-        _ => None,
+/// Whether a copy is delivered by the instruction before it.
+pub fn is_delivered(choice: Choice) -> bool {
+    match choice {
+        Choice::Delivered => true,
+        _ => false,
     }
 }
 
@@ -75,13 +71,13 @@ impl Reader for Behind {
 }
 
 impl Behind {
-    /// Nothing is behind, of so many registers.
-    pub fn new(alloc: Global, registers: u32) -> Result<Behind, Memory> {
+    /// Nothing is behind, in a function that may have so many registers.
+    pub fn new(alloc: Global, function: &Function, registers: u32) -> Result<Behind, Memory> {
         Ok(Behind {
             read: vec![in alloc; 0u64; registers as usize]?,
             written: vec![in alloc; 0u64; registers as usize]?,
-            bound: vec![in alloc; 0u64; registers as usize]?,
-            own: Vec::new(alloc),
+            copied: vec![in alloc; 0u64; registers as usize]?,
+            numbers: Numbers::of(alloc, function, registers)?,
             first: 1,
             last: 1,
             at: 1,
@@ -93,53 +89,11 @@ impl Behind {
         if let Some(place) = self.read.get_mut(register as usize) {
             *place = 0;
         }
-        if let Some(place) = self.written.get_mut(register as usize) {
-            *place = at;
-        }
-        if let Some(place) = self.bound.get_mut(register as usize) {
+        if let Some(place) = self.copied.get_mut(register as usize) {
             *place = 0;
         }
-    }
-
-    /// A value is read that is best in its own register, or has to be there.
-    fn bind(&mut self, operand: Operand) {
-        let at = self.at;
-        if let Operand::Register(register) = operand {
-            if let Some(place) = self.bound.get_mut(register as usize) {
-                *place = at;
-            }
-        }
-    }
-
-    fn bind_base(&mut self, base: Base) {
-        if let Base::Pointer { register, .. } = base {
-            self.bind(Operand::Register(register));
-        }
-    }
-
-    fn bind_all(&mut self, operands: &[Operand]) {
-        for operand in operands {
-            self.bind(*operand);
-        }
-    }
-
-    /// Pointers, copies, and what is handed on.
-    fn bind_instr(&mut self, instr: &Instr) {
-        match instr {
-            Instr::Set { value, .. } => self.bind(*value),
-            Instr::Operate { .. } => {}
-            Instr::Point { address, .. } => self.bind_base(address.base),
-            Instr::Load { address, .. } => self.bind_base(address.base),
-            Instr::Store { address, .. } => self.bind_base(address.base),
-            Instr::Put { value } => self.bind(*value),
-            Instr::Get { .. } => {}
-            Instr::Call { arguments, .. } => self.bind_all(arguments),
-        }
-    }
-
-    fn bind_end(&mut self, end: End) {
-        if let End::Return { value } = end {
-            self.bind(value);
+        if let Some(place) = self.written.get_mut(register as usize) {
+            *place = at;
         }
     }
 
@@ -147,7 +101,6 @@ impl Behind {
         if let Some(register) = written(instr) {
             self.write(register);
         }
-        self.bind_instr(instr);
         read_instr(self, instr)
     }
 
@@ -214,63 +167,80 @@ impl Behind {
         }
     }
 
-    /// Whether the value that an instruction writes to a register is of the block alone.
-    fn is_own(&self, known: &Known, register: u32) -> bool {
-        let read = place_of(&self.read, register);
-        !known.is_lasting(register) && read >= self.first && read != self.last
-    }
-
-    /// Whether a register is free from here to a place, where it is written again.
-    fn is_free(&self, register: u32, place: u64) -> bool {
-        place_of(&self.read, register) < self.first && place_of(&self.written, register) >= place
-    }
-
-    /// Another register to which the value of an instruction can go: one that holds values of the block behind it, so that fewer
-    /// registers are named.
-    fn apart(&self, known: &Known, instr: &Instr) -> Option<u32> {
-        let register = computed(instr)?;
-        if !self.is_own(known, register) || place_of(&self.bound, register) >= self.first {
-            return None;
+    /// The register has a copy of its value left out, and has to keep it.
+    fn note_copied(&mut self, register: u32) {
+        let at = self.at;
+        if let Some(place) = self.copied.get_mut(register as usize) {
+            *place = at;
         }
-        let last = place_of(&self.read, register);
-        for other in self.own.iter().rev().take(LOOKED_AT) {
-            if *other != register && self.is_free(*other, last) {
-                return Some(*other);
+    }
+
+    /// Whether the value that is written to a register lives in the block alone, and may have another register.
+    fn lives_here(&self, known: &Known, register: u32) -> bool {
+        !known.is_lasting(register)
+            && place_of(&self.read, register) != self.last
+            && place_of(&self.copied, register) < self.first
+    }
+
+    /// What becomes of a value that is no copy.
+    fn choice_of_value(&mut self, known: &Known, instr: &Instr) -> Choice {
+        match written(instr) {
+            None => Choice::Stays,
+            Some(register) => {
+                if !gives_word(instr) || !self.lives_here(known, register) {
+                    return Choice::Stays;
+                }
+                match self.numbers.next(register) {
+                    None => Choice::Stays,
+                    Some(place) => Choice::Apart(place),
+                }
             }
         }
-        None
     }
 
-    /// An instruction that is no copy writes to its own register, or to another one alone.
-    fn place(&mut self, known: &Known, instr: &Instr) -> Result<Choice, Memory> {
-        if let Some(other) = self.apart(known, instr) {
-            self.write(other);
-            return Ok(Choice::Apart(other));
+    fn choice_of_copy(&mut self, known: &Known, code: &[Instr], at: usize, copy: Copied) -> Choice {
+        let choice = self.choice(known, code, at, copy);
+        if let Choice::LeftOut = choice {
+            self.note_copied(copy.source);
         }
-        if let Some(register) = written(instr) {
-            if self.is_own(known, register) {
-                self.own.push(register)?;
+        choice
+    }
+
+    /// What becomes of the instruction at a place, which may deliver to a copy behind it.
+    fn choice_at(
+        &mut self,
+        known: &Known,
+        code: &[Instr],
+        at: usize,
+        delivers: bool,
+        instr: &Instr,
+    ) -> Choice {
+        match copy_at(code, at) {
+            Some(copy) => self.choice_of_copy(known, code, at, copy),
+            None => {
+                if delivers {
+                    Choice::Stays
+                } else {
+                    self.choice_of_value(known, instr)
+                }
             }
         }
-        Ok(Choice::Stays)
     }
 
-    /// What becomes of the instruction at a place. One that is left out reads nothing.
+    /// The same, as it is passed. One that is left out reads nothing.
     fn pass_at(
         &mut self,
         known: &Known,
         code: &[Instr],
         at: usize,
+        delivers: bool,
         instr: &Instr,
     ) -> Result<Choice, Memory> {
         if let Some(register) = self.unread(known, instr) {
             self.write(register);
             return Ok(Choice::Unread);
         }
-        let choice = match copy_at(code, at) {
-            None => self.place(known, instr)?,
-            Some(copy) => self.choice(known, code, at, copy),
-        };
+        let choice = self.choice_at(known, code, at, delivers, instr);
         self.pass(instr)?;
         Ok(choice)
     }
@@ -289,13 +259,13 @@ impl Behind {
         self.at = self.last;
         self.lead_on(lists, block.end)?;
         self.at = self.at.wrapping_sub(1);
-        self.bind_end(block.end);
         read_end(self, block.end)?;
-        self.own.clear();
+        let mut delivers = false;
         for at in (0..places).rev() {
             self.at = self.at.wrapping_sub(1);
             if let Some(instr) = block.code.get(at) {
-                let new = self.pass_at(known, &block.code, at, instr)?;
+                let new = self.pass_at(known, &block.code, at, delivers, instr)?;
+                delivers = is_delivered(new);
                 if let Some(choice) = choices.get_mut(at) {
                     *choice = new;
                 }

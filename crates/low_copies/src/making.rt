@@ -1,23 +1,27 @@
 // A program without its copies.
-ghost use Rattle.std.specs.Prelude.{◌≡◌, ◌<◌, ◌+◌, true, [], ◌∷◌, Some, length, map, IfOk, IfSome, false, slice_index_or};
+ghost use Rattle.std.specs.Prelude.{◌≡◌, ◌<◌, ◌+◌, true, false, [], ◌∷◌, Some, length, map, IfOk, IfSome, slice_index_or};
 ghost use Rattle.std.specs.List.{AllZip};
 ghost use Rattle.low_ir.specs.Code.{Do, Register, Set};
 ghost use Rattle.low_ir.specs.Formed.{written_by};
 ghost use Rattle.low_ir.specs.Programs.{low_of};
 ghost use Rattle.low_ir.specs.View.{block_of, function_of, instr_of};
-ghost use Rattle.low_copied.specs.Copies.{Code, FunctionCopied, IsCopied, MayBeCopied};
+ghost use Rattle.low_copied.specs.Copies.{Code, FunctionCopied, Grows, IsCopied, MayBeCopied};
 ghost use Rattle.low_copies.specs.Knowing.{list_of};
 ghost use Rattle.low_copies.specs.Making.{AreBlocks, Continues, Goes, IsBlock, IsPut};
 
 use super::beginning::{begin, is_own, leads_on, list_at};
-use super::choices::{Behind, Choice};
+use super::choices::{Behind, Choice, is_delivered};
 use super::copy::copy_at;
 use super::counting::{Counted, counted_in};
 use super::known::Known;
+use super::numbers::wanted;
 use super::renaming::{only_written, renamed, renamed_end, writes, written};
 use low_ir::{Block, Function, Instr, Loop, Low};
 use std::alloc::Global;
 use wcc_base::Memory;
+
+/// How many registers a function may have in any case.
+const FREE: u32 = 256;
 
 /// An instruction that reads where values stand and writes to this register, behind others; or it can't be made.
 fn put(
@@ -150,13 +154,6 @@ fn choice_at(choices: &[Choice], at: usize) -> Choice {
     match choices.get(at) {
         None => Choice::Stays,
         Some(choice) => *choice,
-    }
-}
-
-fn is_delivered(choice: Choice) -> bool {
-    match choice {
-        Choice::Delivered => true,
-        _ => false,
     }
 }
 
@@ -385,16 +382,16 @@ fn block_of(
 fn blocks_of(
     alloc: Global,
     known: &mut Known,
+    behind: &mut Behind,
     registers: u32,
     lists: &[Vec<u32>],
     blocks: &[Block],
 ) -> Result<Option<Vec<Block>>, Memory>
     ensures { IfOk result (λ o. IfSome o (λ made. AreBlocks registers (map list_of lists.now) known.old (map block_of blocks.now) (map block_of made.items))) }
 {
-    let mut behind = Behind::new(alloc, registers)?;
     let mut made = Vec::new(alloc);
     for (number, block) in blocks.iter().enumerate() {
-        let Some(new) = block_of(alloc, known, &mut behind, lists, number, block)? else {
+        let Some(new) = block_of(alloc, known, behind, lists, number, block)? else {
             return Ok(None);
         };
         made.push(new)?;
@@ -422,14 +419,36 @@ fn loops_of(alloc: Global, loops: &[Loop]) -> Result<Vec<Loop>, Memory>
     Ok(same)
 }
 
+/// How many registers a function gets that has so many and wants so many more.
+fn grown(registers: u32, wanted: u32) -> u32
+    ensures { Grows registers result }
+{
+    if registers >= FREE {
+        registers
+    } else if wanted >= FREE - registers {
+        FREE
+    } else {
+        registers + wanted
+    }
+}
+
 /// A function without its copies, if it can be made.
 fn function_of(alloc: Global, function: &Function) -> Result<Option<Function>, Memory>
     ensures { IfOk result (λ o. IfSome o (λ g. FunctionCopied (function_of function.now) (function_of g))) }
 {
-    let registers = function.registers;
+    let registers = grown(function.registers, wanted(alloc, function)?);
     let Counted { lasting, lists } = counted_in(alloc, function)?;
     let mut known = Known::new(alloc, lasting, registers)?;
-    let Some(blocks) = blocks_of(alloc, &mut known, registers, &lists, &function.blocks)? else {
+    let mut behind = Behind::new(alloc, function, registers)?;
+    let Some(blocks) = blocks_of(
+        alloc,
+        &mut known,
+        &mut behind,
+        registers,
+        &lists,
+        &function.blocks,
+    )?
+    else {
         return Ok(None);
     };
     Ok(Some(Function {

@@ -8,7 +8,7 @@ use Rattle.low_ir.specs.declared.low.Function as functions
 use Rattle.low_ir.specs.declared.places.Placing as placings
 use Rattle.low_ir.specs.declared.places.Place.TheVariants.{Register as InRegister, Slot}
 use Rattle.low_ir.specs.Code.{Function, Low, Note}
-use Rattle.low_ir.specs.Places.{assignment, in_slots, no_placing, place_in, placing_of}
+use Rattle.low_ir.specs.Places.{assignment, in_slots, is_lasting, no_placing, place_in, placing_of}
 use Rattle.low_ir.specs.Spacing.{IsAssignment, is_inside}
 use Rattle.low_ir.specs.View.{function_of}
 
@@ -37,6 +37,8 @@ slots_assigned p f fn e =
     record {
       apart = λ v w v1 w1 n t same. n (slots_differ v w (sym (slot v) ∙ same ∙ slot w));
       kept = λ at v q d v1 call n i is. absurd (no_register v q (sym (slot v) ∙ is));
+      served = λ at v d v1 call n i. ap is_lasting (slot v);
+      passed = λ v v1 has. ap is_lasting (slot v);
       inside = λ v lt. ap (is_inside (slice_index_or (map in_slots p.functions) f no_placing).slots) (slot v) ∙ ap (λ q. nat_lt v q.slots) here ∙ lt_test v fn.size lt;
     }
   where

@@ -67,6 +67,16 @@ dest (Store kind a x) = None
 dest (Put x) = None
 dest (Get d) = Some d
 
+-- whether the environment performs it
+abbrev pub is_served : {R : Type 0} → Plain R → Bool
+is_served (Set d x) = false
+is_served (Operate operator d x y) = false
+is_served (Point d a) = false
+is_served (Load kind d a) = false
+is_served (Store kind a x) = false
+is_served (Put x) = true
+is_served (Get d) = true
+
 -- what an instruction did: the world behind it, and the value that goes to its register, if it has one
 pub record Did : Type 0 where
   pub world : World

@@ -1,6 +1,7 @@
 -- Which registers are live: whose values may still be read; and the places of the code between which they live.
-use Rattle.std.specs.Prelude.{◌≡◌, ◌≢◌, ◌⊎◌, ℕ, zero, suc, ◌+◌, ◌≤◌, List, [], ◌∷◌, length, Option, Some, None, slice_get}
-use Rattle.low_ir.specs.Code.{Instr, Call, Operand, End, Jump, Branch, Return, Block, Function, Note}
+use Rattle.std.specs.Prelude.{◌≡◌, ◌≢◌, ◌⊎◌, ℕ, zero, suc, ◌+◌, ◌≤◌, true, List, [], ◌∷◌, length, Option, Some, None, slice_get}
+use Rattle.low_ir.specs.Code.{Plain, Instr, Do, Call, Operand, End, Jump, Branch, Return, Block, Function, Note}
+use Rattle.low_ir.specs.Effects.{dest, is_served}
 use Rattle.low_ir.specs.Formed.{read_by, written_by, end_reads}
 
 abbrev pub Has : ℕ → List ℕ → Type 0
@@ -76,3 +77,7 @@ Together fn v w = (p : ℕ) × InInterval fn p v × InInterval fn p w
 -- at the place p is a call whose value goes to d
 abbrev pub CallAt : Function ℕ Note → ℕ → Option ℕ → Type 0
 CallAt fn p d = (f : ℕ) × (args : List (Operand ℕ)) × (note : Note) × (is : List (Instr ℕ Note)) × (end : End ℕ) × Spot fn.blocks p (Call d f args note ∷ is) end
+
+-- at the place p is an instruction that the environment performs, whose value goes to d
+abbrev pub ServedAt : Function ℕ Note → ℕ → Option ℕ → Type 0
+ServedAt fn p d = (i : Plain ℕ) × (is : List (Instr ℕ Note)) × (end : End ℕ) × (is_served i ≡ true) × (dest i ≡ d) × Spot fn.blocks p (Do i ∷ is) end

@@ -1,16 +1,27 @@
 -- Programs over places, which stand for virtual registers, and their runs.
-use Rattle.std.specs.Prelude.{ℕ, zero, suc, ◌+◌, ◌/◌, ◌%◌, ◌^◌, ◌==◌, if◌then◌else◌, nat_lt, List, [], ◌∷◌, length, map, Option, None, option_map, slice_index_or, slice_set, replicate}
+use Rattle.std.specs.Prelude.{ℕ, zero, suc, ◌+◌, ◌/◌, ◌%◌, ◌^◌, ◌==◌, Bool, true, false, if◌then◌else◌, nat_lt, List, [], ◌∷◌, length, map, Option, None, option_map, slice_index_or, slice_set, replicate}
 use Rattle.std.specs.List.{range_with_len}
 use Rattle.low_ir.specs.declared.places.Place.{Place}
 use Rattle.low_ir.specs.declared.places.Place.TheVariants.{Register as InRegister, Slot}
 use Rattle.low_ir.specs.declared.places.Placing as placings
 use Rattle.low_ir.specs.Code.{Operand, Register, Constant, Base, Fixed, Through, Address, Plain, Set, Operate, Point, Load, Store, Put, Get, Instr, Do, Call, End, Jump, Branch, Return, Block, Function, Program, Note, Low}
 use Rattle.low_ir.specs.declared.run.Value.{Value}
+use Rattle.low_ir.specs.Effects.{is_served}
 use Rattle.low_ir.specs.Runs.{Registers, Bank, Run, set_in, first, run}
 
--- how many machine registers hold values
+-- how many machine registers can hold values over calls
 abbrev pub machine_registers : ℕ
 machine_registers = 24
+
+-- the number of one more, the result register: in it values come from calls and from the environment, and go to both, so that it holds
+-- a value between these alone
+abbrev pub result_register : ℕ
+result_register = machine_registers
+
+-- a place that can hold a value over calls
+abbrev pub is_lasting : Place → Bool
+is_lasting (InRegister q) = nat_lt q machine_registers
+is_lasting (Slot k) = true
 
 -- the machine registers of an activation, and the slots of its frame
 pub record File : Type 0 where
@@ -35,6 +46,11 @@ abbrev pub write_place : File → Place → Value → Option File
 write_place s (InRegister q) x = option_map (with_registers s) (set_in s.registers q x (nat_lt q (length s.registers)))
 write_place s (Slot k) x = option_map (with_slots s) (set_in s.slots k x (nat_lt k (length s.slots)))
 
+-- the result register unset where the environment was called
+abbrev pub unset_if : Bool → File → File
+unset_if false s = s
+unset_if true s = with_registers s (slice_set s.registers result_register None)
+
 -- the registers that are kept, all others unset
 abbrev pub kept_of : List ℕ → Bank → Bank
 kept_of [] s = replicate (length s) None
@@ -45,8 +61,9 @@ abbrev pub places : Registers Place (List ℕ) File
 places = record {
   read = read_place;
   write = write_place;
+  leave = λ i s. unset_if (is_served i) s;
   keep = λ kept s. with_registers s (kept_of kept s.registers);
-  empty = λ n. record { registers = replicate machine_registers None; slots = replicate n None };
+  empty = λ n. record { registers = replicate (suc result_register) None; slots = replicate n None };
 }
 
 -- by function: the place of each register, the registers that the call at a place of the code keeps, and the number of slots

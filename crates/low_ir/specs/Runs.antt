@@ -2,16 +2,17 @@
 use Rattle.std.specs.Prelude.{ℕ, zero, suc, ◌%◌, ◌^◌, Bool, true, false, nat_lt, if◌then◌else◌, List, [], ◌∷◌, length, Option, Some, None, slice_get, slice_index_or, slice_set, replicate}
 use Rattle.rv_core.specs.declared.row.Condition.{Condition}
 use Rattle.rv_core.specs.Arithmetic.{holds}
-use Rattle.low_ir.specs.Code.{Operand, Register, Constant, Instr, Do, Call, End, Jump, Branch, Return, Block, Function, Program, Note, Low}
+use Rattle.low_ir.specs.Code.{Operand, Register, Constant, Plain, Instr, Do, Call, End, Jump, Branch, Return, Block, Function, Program, Note, Low}
 use Rattle.low_ir.specs.declared.run.Value.{Value}
 use Rattle.low_ir.specs.declared.run.Value.TheVariants.{Word, Pointer}
 use Rattle.low_ir.specs.Effects.{World, Did, start, reads, dest, effect_of, began}
 
--- how registers of kind R are read and written in a store of kind S, what a call with a note of kind K leaves of it, and a new store
--- of so many; there is no writing to a register that isn't there
+-- how registers of kind R are read and written in a store of kind S, what an instruction leaves of it before its own value comes
+-- into it, what a call with a note of kind K leaves of it, and a new store of so many; there is no writing to a register that isn't there
 pub record Registers (R K S : Type 0) : Type 0 where
   pub read : S → R → Option Value
   pub write : S → R → Value → Option S
+  pub leave : Plain R → S → S
   pub keep : K → S → S
   pub empty : ℕ → S
 
@@ -106,8 +107,12 @@ call a r is d f note (Some fn) None = Bad
 call a r is d f note (Some fn) (Some xs) =
     only_where (nat_lt f r.top.func) (begin (waiting a r.top is d note ∷ r.below) r.world f fn (write_all a (Some (a.empty fn.size)) fn.parameters xs))
 
+-- the activation on top with what an instruction leaves of its store
+abbrev pub leaving : {R K S : Type 0} → Registers R K S → Plain R → Running R K S → Running R K S
+leaving a i r = record r { top = record r.top { store = a.leave i r.top.store } }
+
 abbrev pub at_instr : {R K S : Type 0} → Registers R K S → Program R K → Running R K S → Instr R K → List (Instr R K) → Run R K S
-at_instr a p r (Do i) is = finish a r is (dest i) (effect_of p.claims i (values a r.top.store (reads i)) r.world)
+at_instr a p r (Do i) is = finish a (leaving a i r) is (dest i) (effect_of p.claims i (values a r.top.store (reads i)) r.world)
 at_instr a p r (Call d f args note) is = call a r is d f note (slice_get p.functions f) (values a r.top.store args)
 
 -- a value comes back to the activation that waits for it, or is that of the run
@@ -156,7 +161,7 @@ first_in a u main (Some fn) = begin [] u main fn (write_all a (Some (a.empty fn.
 abbrev pub first : {R K S : Type 0} → Registers R K S → Program R K → List ℕ → Run R K S
 first a p input = first_in a (start p.objects input) p.main (slice_get p.functions p.main)
 
--- virtual registers: each activation has its own, none written at first, and a call keeps them all
+-- virtual registers: each activation has its own, none written at first; instructions and calls leave them all
 abbrev pub Bank : Type 0
 Bank = List (Option Value)
 
@@ -168,6 +173,7 @@ abbrev pub virtual : Registers ℕ Note Bank
 virtual = record {
   read = λ s v. slice_index_or s v None;
   write = λ s v x. set_in s v x (nat_lt v (length s));
+  leave = λ i s. s;
   keep = λ note s. s;
   empty = λ n. replicate n None;
 }

@@ -6,8 +6,8 @@ ghost use Rattle.low_ir.specs.Spacing.{IsAssignment};
 
 use super::low::Low;
 
-/// Where the values of a virtual register stand: in one of 24 machine registers, or in a slot of the
-/// frame.
+/// Where the values of a virtual register stand: in one of 24 machine registers, in the result register, which has the number 24
+/// and holds nothing over calls, or in a slot of the frame.
 #[derive(Clone, Copy)]
 pub enum Place {
     Register(u8),

@@ -12,7 +12,7 @@ use Rattle.low_ir.specs.Places.{Assignment, place_instr, place_code, place_block
 use Rattle.low_ir.specs.Placings.{assignment_of, placed_of}
 use Rattle.asm_program.specs.Functions.{PlacedBlock, PlacedFunction}
 use Rattle.asm_program.specs.Laws.{AreWords}
-use Rattle.image_sizes.specs.Sizes.{HasWords}
+use Rattle.image_definition.specs.Sizes.{HasWords}
 use Rattle.low_layout.specs.Words.{InstrHasWords, BlockHasWords, FunctionHasWords}
 
 abbrev InBlock : PlacedBlock → Type 0

@@ -5,7 +5,7 @@ ghost use Rattle.low_ir.specs.Placings.{placed_of, placings_of};
 ghost use Rattle.image_definition.specs.Images.{FitsImage, items_in, rows_in};
 ghost use Rattle.asm_forms.specs.Laid.{IsFormed};
 ghost use Rattle.image_saving.specs.Walks.{HaveSpots};
-ghost use Rattle.image_sizes.specs.Sizes.{HasSizes};
+ghost use Rattle.image_definition.specs.Sizes.{HasSizes};
 ghost use Rattle.claims_lists.specs.Places.{IsRoomy};
 ghost use Rattle.claims_image.specs.Images.{laid_of};
 ghost use Rattle.layout_kept.specs.Kept.{KeepsLow};

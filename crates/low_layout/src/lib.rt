@@ -5,8 +5,8 @@
 //! layout (`image_making`), what its items touch (`claims_touches`), and by these the claims and the lists. Nothing is laid out
 //! twice. The time is linear in the items, but for the calls and functions for each register.
 //!
-//! Proved: [`lay`] gives what `image_definition`, `claims_definition` and `claims_items` define of the program over its
-//! places (`layout_laid`), wherever code and data keep to the bounds of `image_sizes`, or memory ran out; and the image
+//! Proved: [`lay`] gives what `image_definition` and `claims_definition` define of the program over its
+//! places (`layout_laid`), wherever code and data keep to the bounds of `image_definition`, or memory ran out; and the image
 //! and its claims then keep of the program what `layout_law` says in one record. An item's size is the same under every
 //! placement, so that one layout says what another one takes.
 #![tactic(auto)]

@@ -1,7 +1,7 @@
 // Displacements are words: each is a `u32`, which shows where it is read.
 ghost use Rattle.std.specs.Prelude.{◌<◌, ◌^◌, All};
 ghost use Rattle.low_ir.specs.Placings.{placed_of};
-ghost use Rattle.image_sizes.specs.Sizes.{HasWords};
+ghost use Rattle.image_definition.specs.Sizes.{HasWords};
 ghost use Rattle.low_layout.specs.Words.{InstrHasWords, BlockHasWords, FunctionHasWords};
 
 use low_ir::{Address, Block, Function, Instr, LowReg};

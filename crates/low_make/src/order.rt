@@ -32,17 +32,13 @@ fn callees(statement: &Statement, found: &mut Vec<u32>) -> Result<(), Memory>
         Statement::Get { .. } => Ok(()),
         Statement::Keep { .. } => Ok(()),
         Statement::Mark { .. } => Ok(()),
-        Statement::Seq(parts) => {
-            all_callees(parts, found)?;
-            Ok(())
-        }
+        Statement::Seq(parts) => all_callees(parts, found),
         Statement::If { first, other, .. } => {
             callees(first, found)?;
-            callees(other, found)?;
-            Ok(())
+            callees(other, found)
         }
-        Statement::Loop { body, .. } => Ok(callees(body, found)?),
-        Statement::Block(body) => Ok(callees(body, found)?),
+        Statement::Loop { body, .. } => callees(body, found),
+        Statement::Block(body) => callees(body, found),
         Statement::Leave { .. } => Ok(()),
         Statement::Call { function, .. } => {
             found.push(*function)?;

@@ -31,13 +31,13 @@ fn note_meant(caller: &Caller, array: Base, claim: &mut Vec<u32>) -> Result<(), 
     match array {
         Base::Object(object) => {
             if object < caller.objects {
-                return Ok(note(claim, object)?);
+                return note(claim, object);
             }
             Ok(())
         }
         Base::Parameter(parameter) => match caller.own.get(parameter as usize) {
             None => Ok(()),
-            Some(objects) => Ok(note_all(caller.alloc, caller.objects, claim, objects)?),
+            Some(objects) => note_all(caller.alloc, caller.objects, claim, objects),
         },
     }
 }
@@ -66,7 +66,7 @@ fn pass_to(
 {
     match passed.get_mut(function as usize) {
         None => Ok(()),
-        Some(claims) => Ok(pass(caller, arrays, claims)?),
+        Some(claims) => pass(caller, arrays, claims),
     }
 }
 
@@ -82,26 +82,19 @@ fn at_sites(caller: &Caller, statement: &Statement, passed: &mut Passed) -> Resu
         Statement::Get { .. } => Ok(()),
         Statement::Keep { .. } => Ok(()),
         Statement::Mark { .. } => Ok(()),
-        Statement::Seq(parts) => {
-            at_all_sites(caller, parts, passed)?;
-            Ok(())
-        }
+        Statement::Seq(parts) => at_all_sites(caller, parts, passed),
         Statement::If { first, other, .. } => {
             at_sites(caller, first, passed)?;
-            at_sites(caller, other, passed)?;
-            Ok(())
+            at_sites(caller, other, passed)
         }
-        Statement::Loop { body, .. } => Ok(at_sites(caller, body, passed)?),
-        Statement::Block(body) => Ok(at_sites(caller, body, passed)?),
+        Statement::Loop { body, .. } => at_sites(caller, body, passed),
+        Statement::Block(body) => at_sites(caller, body, passed),
         Statement::Leave { .. } => Ok(()),
         Statement::Call {
             function,
             arrays,
             ..
-        } => {
-            pass_to(caller, *function, arrays, passed)?;
-            Ok(())
-        }
+        } => pass_to(caller, *function, arrays, passed),
         Statement::Return { .. } => Ok(()),
     }
 }
@@ -122,7 +115,7 @@ pub fn copied(alloc: Global, passed: &[Claims], function: u32) -> Result<Claims,
 {
     match passed.get(function as usize) {
         None => Ok(Vec::new(alloc)),
-        Some(claims) => Ok(copies(alloc, claims)?),
+        Some(claims) => copies(alloc, claims),
     }
 }
 

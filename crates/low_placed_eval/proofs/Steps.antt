@@ -6,7 +6,7 @@ use Rattle.low_ir.specs.declared.run.Value.{Value}
 use Rattle.low_ir.specs.Code.{Instr, Do, Call, Jump, Function}
 use Rattle.low_ir.specs.Effects.{World, dest}
 use Rattle.low_ir.specs.Places.{File, Placed, places}
-use Rattle.low_ir.specs.Runs.{Run, Going, Done, Bad, write_all, enter, begin, call, only_where, waiting, first_in, finish, at_instr, at_end, at_code, step, run}
+use Rattle.low_ir.specs.Runs.{Run, Going, Done, Bad, write_all, enter, begin, call, only_where, waiting, first_in, finish, leaving, at_instr, at_end, at_code, step, run}
 use Rattle.low_eval.proofs.Effects.{effect-direct}
 use Rattle.low_placed_eval.specs.Stands.{Stands, instr_run}
 
@@ -15,7 +15,7 @@ if_ok (Ok x) P Q h f = f x h
 if_ok (Err e) P Q h f = tt
 
 at_instr-run : (p : Placed) (r : Stands) (i : Instr Place (List ℕ)) (is : List (Instr Place (List ℕ))) → at_instr places p r i is ≡ instr_run p r i is
-at_instr-run p r (Do i) is = ap (finish places r is (dest i)) (effect-direct places p.claims r.top.store i r.world)
+at_instr-run p r (Do i) is = ap (finish places (leaving places i r) is (dest i)) (effect-direct places p.claims r.top.store i r.world)
 at_instr-run p r (Call d f args note) is = refl
 
 -- a step by the instruction that is next, and a step at the end of a block

@@ -7,7 +7,7 @@ use Rattle.low_ir.specs.declared.places.Place.{Place}
 use Rattle.low_ir.specs.Code.{Plain, Instr, Do, Call}
 use Rattle.low_ir.specs.Effects.{dest}
 use Rattle.low_ir.specs.Places.{File, Placed, Placing, place_end, place_in, places}
-use Rattle.low_ir.specs.Runs.{Frame, Waiting, Running, Run, Going, Done, Bad, call, finish, values}
+use Rattle.low_ir.specs.Runs.{Frame, Waiting, Running, Run, Going, Done, Bad, call, finish, leaving, values}
 use Rattle.low_ir.specs.View.{end_of, instr_of}
 use Rattle.low_placed_eval.specs.declared.running.Running.{Running as Running'}
 use Rattle.low_placed_eval.specs.declared.stack.Frame.{Frame as Frame'}
@@ -53,7 +53,7 @@ going (Some r) = Going r
 
 -- a step by an instruction, from its operands
 abbrev pub plain_run : Placed → Stands → Plain Place → List (Instr Place (List ℕ)) → Run Place (List ℕ) File
-plain_run p r i is = finish places r is (dest i) (direct places p.claims r.top.store r.world i)
+plain_run p r i is = finish places (leaving places i r) is (dest i) (direct places p.claims r.top.store r.world i)
 
 abbrev pub instr_run : Placed → Stands → Instr Place (List ℕ) → List (Instr Place (List ℕ)) → Run Place (List ℕ) File
 instr_run p r (Do i) is = plain_run p r i is

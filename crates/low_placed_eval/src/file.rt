@@ -1,6 +1,6 @@
 // What the places of an activation hold.
-ghost use Rattle.std.specs.Prelude.{◌≡◌, ◌<◌, ◌/◌, ◌%◌, ◌^◌, ◌==◌, None, Some, map, option_map, slice_index_or, slice_set, IfOk, if◌then◌else◌};
-ghost use Rattle.low_ir.specs.Places.{kept_of, machine_registers, place_address, place_base, place_in, place_operand, places, registers_of};
+ghost use Rattle.std.specs.Prelude.{◌≡◌, ◌<◌, ◌/◌, ◌%◌, ◌^◌, ◌==◌, None, Some, map, option_map, slice_index_or, slice_set, true, IfOk, if◌then◌else◌};
+ghost use Rattle.low_ir.specs.Places.{kept_of, machine_registers, place_address, place_base, place_in, place_operand, places, registers_of, unset_if};
 ghost use Rattle.low_ir.specs.Runs.{operand_value, values, write_all, write_to};
 ghost use Rattle.low_ir.specs.View.{address_of, base_of, claim_of, operand_of};
 ghost use Rattle.low_eval.specs.Direct.{address_value, base_value, offset_value, word_value};
@@ -14,7 +14,7 @@ use std::alloc::Global;
 use std::marker::Model;
 use wcc_base::Memory;
 
-/// How many machine registers hold values.
+/// How many machine registers can hold values over calls; there is one more, the result register.
 const REGISTERS: u32 = 24;
 
 /// The machine registers, and the slots of the frame; one that holds nothing has no value.
@@ -46,7 +46,7 @@ impl File {
     pub fn new(alloc: Global, slots: u32) -> Result<File, Memory>
         ensures { IfOk result (λ f. f ≡ places.empty slots) }
     {
-        let registers = vec![in alloc; None; REGISTERS as usize]?;
+        let registers = vec![in alloc; None; REGISTERS as usize + 1]?;
         let slots = vec![in alloc; None; slots as usize]?;
         Ok(File { registers, slots })
     }
@@ -78,6 +78,16 @@ impl File {
                     true
                 }
             },
+        }
+    }
+
+    /// Forgets the result register, which the environment takes.
+    pub fn unset_result(&mut self)
+        ensures { self.new ≡ unset_if true self.old }
+    {
+        match self.registers.get_mut(REGISTERS as usize) {
+            None => {}
+            Some(held) => *held = None,
         }
     }
 

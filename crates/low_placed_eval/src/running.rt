@@ -1,9 +1,9 @@
 // Where a run over places stands, and its steps.
 ghost use Rattle.std.specs.Prelude.{◌≡◌, [], ◌∷◌, Some, None, map, option_map, IfOk, if◌then◌else◌, slice_get};
-ghost use Rattle.low_ir.specs.Code.{Jump, Store};
+ghost use Rattle.low_ir.specs.Code.{Jump, Put, Store};
 ghost use Rattle.low_ir.specs.Places.{machine_registers, place_address, place_end, place_in, place_operand, places, registers_of};
 ghost use Rattle.low_ir.specs.Placings.{placed_of};
-ghost use Rattle.low_ir.specs.Runs.{Going, at_end, call, come_back, enter, finish, first, first_in, operand_value, step, values, waiting, went_to, write_all};
+ghost use Rattle.low_ir.specs.Runs.{Going, at_end, call, come_back, enter, finish, first, first_in, leaving, operand_value, step, values, waiting, went_to, write_all};
 ghost use Rattle.low_ir.specs.View.{address_of, end_of, function_of, instr_of, operand_of};
 ghost use Rattle.low_eval.specs.Direct.{address_value, direct, loaded_from, operated, pointed, word_value, wrote_byte};
 ghost use Rattle.low_eval.specs.Progress.{did};
@@ -201,12 +201,13 @@ impl<'a> Running<'a> {
     }
 
     fn put(&mut self, value: Operand, rest: Rest<'a>) -> Result<bool, Memory>
-        ensures { IfOk result (λ goes. finish places (running_of self.old) (rest_of (table_of self.old.top.table) rest.entry) None (wrote_byte places self.old.top.file self.old.world (place_operand (place_in (table_of self.old.top.table)) (operand_of value))) ≡ going_if goes (running_of self.new)) }
+        ensures { IfOk result (λ goes. finish places (leaving places (Put (place_operand (place_in (table_of self.old.top.table)) (operand_of value))) (running_of self.old)) (rest_of (table_of self.old.top.table) rest.entry) None (wrote_byte places self.old.top.file self.old.world (place_operand (place_in (table_of self.old.top.table)) (operand_of value))) ≡ going_if goes (running_of self.new)) }
     {
         let Some(word) = self.word(value) else {
             return Ok(false);
         };
         self.world.put(word)?;
+        self.top.file.unset_result();
         self.top.rest = rest;
         Ok(true)
     }
@@ -303,6 +304,7 @@ impl<'a> Running<'a> {
             Instr::Put { value } => self.put(*value, rest),
             Instr::Get { into } => {
                 let word = self.world.get();
+                self.top.file.unset_result();
                 Ok(self.set(rest, *into, Some(Value::Word(word))))
             }
             Instr::Call {

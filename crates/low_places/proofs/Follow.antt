@@ -9,15 +9,15 @@ use Rattle.low_ir.specs.Code.{Operand, Register, Constant, Plain, Instr, Do, Cal
 use Rattle.low_ir.specs.declared.run.Began.{Began}
 use Rattle.low_ir.specs.declared.run.Value.{Value}
 use Rattle.low_ir.specs.declared.run.Value.TheVariants.{Word, Pointer}
-use Rattle.low_ir.specs.Effects.{World, Did, start, reads, dest, effect, effect_of}
+use Rattle.low_ir.specs.Effects.{World, Did, start, reads, dest, is_served, effect, effect_of}
 use Rattle.low_ir.specs.Formed.{LeadsOn, registers_in, end_operands}
 use Rattle.low_ir.specs.Runs.{Frame, Waiting, Running, Run, Going, Done, Bad, Bank, operand_value, values, values_cons, write_to, goes_on, finish, enter, block_in, went_to, write_all, begin, only_where, waiting, call, at_instr, come_back, give_back, chosen, branches, at_end, at_code, step, run, first, first_in, virtual}
 use Rattle.low_ir.specs.Turns.{KeepsLoop, KeepsLoops}
 use Rattle.low_ir.specs.Live.{Has, Live, place_of, Spot}
-use Rattle.low_ir.specs.Places.{File, Assignment, machine_registers, places, prun, place_operand, place_plain, place_end, place_code, place_blocks, place_function, placed}
+use Rattle.low_ir.specs.Places.{File, Assignment, result_register, unset_if, places, prun, place_operand, place_plain, place_end, place_code, place_blocks, place_function, placed}
 use Rattle.low_ir.specs.Spacing.{IsSafe, Carries}
-use Rattle.low_places.proofs.Stores.{Shows, Roomy, both_written, has_member, keeps, keeps_room, all_written, none_in_replicate, within}
-use Rattle.low_places.proofs.Ways.{spot_next, spot_block, placed_block, placed_function, of_function, live_next, live_read, live_end, live_into, has_first, has_next, reads_placed, dest_placed, effect_placed}
+use Rattle.low_places.proofs.Stores.{Shows, Roomy, left_read, left_roomy, both_written, has_member, keeps, keeps_room, all_written, none_in_replicate, within}
+use Rattle.low_places.proofs.Ways.{spot_next, spot_block, placed_block, placed_function, of_function, live_next, live_read, live_end, live_into, has_first, has_next, reads_placed, dest_placed, served_placed, effect_placed}
 
 abbrev LowRunning : Type 0
 LowRunning = Running ℕ Note Bank
@@ -147,7 +147,7 @@ module _ (a : Assignment) (p : Low) (safe : IsSafe a p) where
       let long : length (virtual.empty fn.size) ≡ fn.size = length-none fn.size in
       let w = all_written (a.place f) (a.slots f) fn.parameters fn.parameters xs (virtual.empty fn.size) s (places.empty (a.slots f))
       (λ v lt. k.inside v (omega arith)) (λ v w l1 l2. k.parameters v w (omega arith) (omega arith)) (λ v h. h)
-      (length-none machine_registers, length-none (a.slots f))
+      (length-none (suc result_register), length-none (a.slots f))
       (λ v x h q. absurd (none_in_replicate fn.size v x q)) e in
       let r2 : LowRunning = record { top = record { func = f; code = []; end = Jump 0; store = s }; below = lows; world = u } in
       to_place (begin lows u f fn (Some s)) _ _ (ap (begin ws u f (place_function a f fn)) w.is)
@@ -157,27 +157,40 @@ module _ (a : Assignment) (p : Low) (safe : IsSafe a p) where
       (slice_get fn.blocks 0) refl)
 
   -- an instruction that goes on behind itself
-  do_follows : (r : LowRunning) (pos : ℕ) (t : File) (ws : List PlaceWaiting) (i : Plain ℕ) (is : List (Instr ℕ Note)) → Top r.top.func (Do i ∷ is) r.top.end r.top.store pos t → Waits r.below ws → (d : Option ℕ) → dest i ≡ d → (o : Option Did) → Follows (finish virtual r is d o) (finish places (place_running r pos t ws) (place_code (a.place r.top.func) (a.kept r.top.func) (suc pos) is) (option_map (a.place r.top.func) d) o)
+  do_follows : (r : LowRunning) (pos : ℕ) (t : File) (ws : List PlaceWaiting) (i : Plain ℕ) (is : List (Instr ℕ Note)) → Top r.top.func (Do i ∷ is) r.top.end r.top.store pos t → Waits r.below ws → (d : Option ℕ) → dest i ≡ d → (o : Option Did) → Follows (finish virtual r is d o) (finish places (place_running r pos (unset_if (is_served (place_plain (a.place r.top.func) i)) t) ws) (place_code (a.place r.top.func) (a.kept r.top.func) (suc pos) is) (option_map (a.place r.top.func) d) o)
   do_follows r pos t ws i is top waits d e None = tt
   do_follows r pos t ws i is top waits d e (Some did) = by_write (write_to virtual r.top.store d did.value) refl
     where
-      by_write : (o : Option Bank) → write_to virtual r.top.store d did.value ≡ o → Follows (goes_on r is did.world o) (goes_on (place_running r pos t ws) (place_code (a.place r.top.func) (a.kept r.top.func) (suc pos) is) did.world (write_to places t (option_map (a.place r.top.func) d) did.value))
+      left : File
+      left = unset_if (is_served (place_plain (a.place r.top.func) i)) t
+
+      -- nothing that is live behind it was in the result register, but for its value
+      shows : Shows (λ v. Live top.fn.blocks is r.top.end v × (dest i ≢ Some v)) (a.place r.top.func) r.top.store left
+      shows v x h q =
+          let k = safe r.top.func top.fn top.there in
+          let small = within r.top.store v x q in
+          let size = top.size in
+          left_read (is_served (place_plain (a.place r.top.func) i)) t (a.place r.top.func v)
+          (λ s. k.served pos v i is r.top.end (omega (arith, small, size)) top.spot (sym (served_placed (a.place r.top.func) i) ∙ s) h.0 h.1)
+          ∙ top.shows v x (live_next top.fn.blocks (Do i) is r.top.end v h.1 h.0) q
+
+      by_write : (o : Option Bank) → write_to virtual r.top.store d did.value ≡ o → Follows (goes_on r is did.world o) (goes_on (place_running r pos left ws) (place_code (a.place r.top.func) (a.kept r.top.func) (suc pos) is) did.world (write_to places left (option_map (a.place r.top.func) d) did.value))
       by_write None h = tt
       by_write (Some s) h =
           let k = safe r.top.func top.fn top.there in
           let size = top.size in
-          let b = both_written (Live top.fn.blocks (Do i ∷ is) r.top.end) (Live top.fn.blocks is r.top.end) (a.place r.top.func) (a.slots r.top.func) r.top.store s t d did.value
-          (λ v lt. k.inside v (omega arith)) top.roomy
+          let b = both_written (λ v. Live top.fn.blocks is r.top.end v × (dest i ≢ Some v)) (Live top.fn.blocks is r.top.end) (a.place r.top.func) (a.slots r.top.func) r.top.store s left d did.value
+          (λ v lt. k.inside v (omega arith)) (left_roomy (a.slots r.top.func) (is_served (place_plain (a.place r.top.func) i)) t top.roomy)
           (λ v l1 live n. (
-            live_next top.fn.blocks (Do i) is r.top.end v (λ h2. n (sym e ∙ h2)) live,
+            (live, λ h2. n (sym e ∙ h2)),
             λ w l2 at. k.apart pos w v (Do i) is r.top.end (omega arith) (omega arith) top.spot (e ∙ at) live (λ same. n (at ∙ ap Some (sym same))),
           ))
-          top.shows h in
+          shows h in
           record {
             pos = suc pos;
             file = b.file;
             below = ws;
-            is = ap (goes_on (place_running r pos t ws) (place_code (a.place r.top.func) (a.kept r.top.func) (suc pos) is) did.world) b.is;
+            is = ap (goes_on (place_running r pos left ws) (place_code (a.place r.top.func) (a.kept r.top.func) (suc pos) is) did.world) b.is;
             top = record {
               fn = top.fn;
               there = top.there;
@@ -299,9 +312,9 @@ module _ (a : Assignment) (p : Low) (safe : IsSafe a p) where
   plain_follows r pos t ws i is top waits None e = tt
   plain_follows r pos t ws i is top waits (Some xs) e =
       let pl = a.place r.top.func in
-      let s = place_running r pos t ws in
       let pis = place_code pl (a.kept r.top.func) (suc pos) is in
       let pi = place_plain pl i in
+      let s = place_running r pos (unset_if (is_served pi) t) ws in
       let live = Live top.fn.blocks (Do i ∷ is) r.top.end in
       to_place (finish virtual r is (dest i) (effect p.claims i xs r.world)) _ _
       (ap (λ d. finish places s pis d (effect_of p.claims pi (values places t (reads pi)) r.world)) (dest_placed pl i)

@@ -1,13 +1,13 @@
 -- Stores of registers and of places, written side by side.
-use Rattle.std.proofs.Common.{◌≡◌, ◌≢◌, ℕ, zero, suc, ◌<◌, Bool, true, false, List, [], ◌∷◌, length, replicate, Option, Some, None, refl, sym, ap, ◌∙◌, subst, ⊎_elim, inl, inr, arith, get_or-set_same, get_or-set_other, length-set}
+use Rattle.std.proofs.Common.{◌≡◌, ◌≢◌, ℕ, zero, suc, ◌<◌, ◌≤◌, Bool, true, false, List, [], ◌∷◌, length, replicate, Option, Some, None, refl, sym, ap, ◌∙◌, subst, ⊎_elim, inl, inr, arith, get_or-set_same, get_or-set_other, length-set}
 use Rattle.std.specs.Prelude.{slice_index_or, slice_set, nat_lt, ◌==◌, if◌then◌else◌, ◌⊎◌, map, option_map}
 use Rattle.std.proofs.lemmas.List.{length-replicate}
 use Rattle.std.proofs.lemmas.Bool.Decides.{nat_tests}
-use Rattle.std.proofs.lemmas.Bool.{cases_eq, eqb-true, ltb-true}
+use Rattle.std.proofs.lemmas.Bool.{cases_eq, eqb-true, leb-true, ltb-true}
 use Rattle.low_ir.specs.declared.run.Value.{Value}
 use Rattle.low_ir.specs.Effects.{is_member}
 use Rattle.low_ir.specs.Runs.{Bank, set_in, virtual, write_to, write_all}
-use Rattle.low_ir.specs.Places.{File, machine_registers, read_place, write_place, with_registers, with_slots, kept_of, places}
+use Rattle.low_ir.specs.Places.{File, is_lasting, machine_registers, read_place, result_register, unset_if, write_place, with_registers, with_slots, kept_of, places}
 use Rattle.low_ir.specs.declared.places.Place.{Place}
 use Rattle.low_ir.specs.declared.places.Place.TheVariants.{Register as InRegister, Slot}
 use Rattle.low_ir.specs.Live.{Has}
@@ -18,7 +18,7 @@ abbrev pub Shows : (ℕ → Type 0) → (ℕ → Place) → Bank → File → Ty
 Shows P pl s t = (v : ℕ) (x : Value) → P v → slice_index_or s v None ≡ Some x → read_place t (pl v) ≡ Some x
 
 abbrev pub Roomy : ℕ → File → Type 0
-Roomy slots t = (length t.registers ≡ machine_registers) × (length t.slots ≡ slots)
+Roomy slots t = (length t.registers ≡ suc result_register) × (length t.slots ≡ slots)
 
 pub some_same : (d v : ℕ) → Some d ≡ Some v → v ≡ d
 some_same d v h = cc
@@ -42,7 +42,7 @@ pub record PlaceWritten (slots : ℕ) (t : File) (p : Place) (x : Value) : Type 
 pub place_written : (slots : ℕ) (t : File) (p : Place) (x : Value) → is_inside slots p ≡ true → Roomy slots t → PlaceWritten slots t p x
 place_written slots t (InRegister q) x h room =
     let long = room.0 in
-    let few : q < machine_registers = ltb-true q machine_registers h in
+    let few : q ≤ result_register = leb-true q result_register h in
     let lt : q < length t.registers = omega arith in
     record {
       file = with_registers t (slice_set t.registers q (Some x));
@@ -70,6 +70,18 @@ place_written slots t (Slot q) x h room =
     other : (r : Place) → r ≢ Slot q → read_place (with_slots t (slice_set t.slots q (Some x))) r ≡ read_place t r
     other (InRegister k) n = refl
     other (Slot k) n = get_or-set_other t.slots q k (Some x) None (λ e. n (ap Slot e))
+
+-- what an instruction leaves: all but the result register, where the environment performs it
+pub left_roomy : (slots : ℕ) (b : Bool) (t : File) → Roomy slots t → Roomy slots (unset_if b t)
+left_roomy slots false t room = room
+left_roomy slots true t room = (length-set t.registers result_register None ∙ room.0, room.1)
+
+pub left_read : (b : Bool) (t : File) (p : Place) → (b ≡ true → is_lasting p ≡ true) → read_place (unset_if b t) p ≡ read_place t p
+left_read false t p h = refl
+left_read true t (InRegister q) h =
+    let small = ltb-true q machine_registers (h refl) in
+    get_or-set_other t.registers result_register q None None (λ e. omega (arith, e, small))
+left_read true t (Slot k) h = refl
 
 -- a register, if one was written, and its place; the registers with Q now have their values in their places
 pub record BothWritten (Q : ℕ → Type 0) (pl : ℕ → Place) (slots : ℕ) (s s2 : Bank) (t : File) (d : Option ℕ) (x : Value) : Type 0 where

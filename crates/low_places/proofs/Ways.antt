@@ -2,10 +2,10 @@
 use Rattle.std.proofs.Common.{◌≡◌, ◌≢◌, ℕ, zero, suc, ◌+◌, List, [], ◌∷◌, ◌++◌, length, Option, Some, None, refl, sym, ap, ◌∙◌, subst, ⊎_elim, inl, inr, arith}
 use Rattle.std.specs.Prelude.{◌%◌, ◌^◌, map, option_map, slice_get}
 use Rattle.low_ir.specs.declared.places.Place.{Place}
-use Rattle.low_ir.specs.Code.{Operand, Register, Constant, Base, Fixed, Through, Address, Plain, Set, Operate, Point, Load, Store, Put, Get, Instr, Call, End, Jump, Branch, Return, Block, Function, Low, Note}
+use Rattle.low_ir.specs.Code.{Operand, Register, Constant, Base, Fixed, Through, Address, Plain, Set, Operate, Point, Load, Store, Put, Get, Instr, Do, Call, End, Jump, Branch, Return, Block, Function, Low, Note}
 use Rattle.low_ir.specs.declared.run.Value.{Value}
 use Rattle.low_ir.specs.declared.run.Value.TheVariants.{Word, Pointer}
-use Rattle.low_ir.specs.Effects.{World, Did, reads, dest, effect, base_reads, offset_reads, from_base, resolved, nothing_more, with_one, word, gives, changes, there, loaded, stored, with_objects}
+use Rattle.low_ir.specs.Effects.{World, Did, reads, dest, is_served, effect, base_reads, offset_reads, from_base, resolved, nothing_more, with_one, word, gives, changes, there, loaded, stored, with_objects}
 use Rattle.low_ir.specs.Formed.{LeadsOn, registers_in, read_by, written_by, end_reads}
 use Rattle.low_ir.specs.Live.{Has, Reaches, ReachesIn, Enters, Live, Ahead, place_of, IsRest, Spot, IsPlace, Written, Behind, Parameter, InInterval}
 use Rattle.low_ir.specs.Places.{Assignment, place_operand, place_base, place_address, place_plain, place_block, place_blocks, place_function, place_functions, placed}
@@ -21,6 +21,7 @@ safe_of a f fn h =
     record {
       apart = λ p d v i is end a b spot w live n. h.apart v d a b n (p, at_place fn p v (Behind i is end spot live), at_place fn p d (Written i is end spot w));
       kept = λ p v q g d args note is end a spot live n e. h.kept p v q d a (g, args, note, is, end, spot) n (at_place fn p v (Behind (Call d g args note) is end spot live)) e;
+      served = λ p v i is end a spot s live n. h.served p v (dest i) a (i, is, end, s, refl, spot) n (at_place fn p v (Behind (Do i) is end spot live));
       parameters = λ v w a b x y n. h.apart v w a b n (0, at_place fn 0 v (Parameter refl x), at_place fn 0 w (Parameter refl y));
       inside = h.inside;
     }
@@ -47,6 +48,10 @@ spaced_assigned a p lo hi c s f fn e =
       kept = λ at v q d v1 call n i. k.kept at v q d v1 call n
           (let a1 = (c f fn i.least v e i.from).0 in let a2 = i.above in omega arith)
           (let b1 = (c f fn i.greatest v e i.to).1 in let b2 = i.below in omega arith);
+      served = λ at v d v1 call n i. k.served at v d v1 call n
+          (let a1 = (c f fn i.least v e i.from).0 in let a2 = i.above in omega arith)
+          (let b1 = (c f fn i.greatest v e i.to).1 in let b2 = i.below in omega arith);
+      passed = k.passed;
       inside = k.inside;
     }
 
@@ -161,6 +166,15 @@ dest_placed pl (Load kind d a) = refl
 dest_placed pl (Store kind a x) = refl
 dest_placed pl (Put x) = refl
 dest_placed pl (Get d) = refl
+
+pub served_placed : (pl : ℕ → Place) (i : Plain ℕ) → is_served (place_plain pl i) ≡ is_served i
+served_placed pl (Set d x) = refl
+served_placed pl (Operate operator d x y) = refl
+served_placed pl (Point d a) = refl
+served_placed pl (Load kind d a) = refl
+served_placed pl (Store kind a x) = refl
+served_placed pl (Put x) = refl
+served_placed pl (Get d) = refl
 
 base_placed : (pl : ℕ → Place) (claims : List (List ℕ)) (base : Base ℕ) (xs : List Value) (go : ℕ → ℕ → List Value → Option Did) → from_base claims (place_base pl base) xs go ≡ from_base claims base xs go
 base_placed pl claims (Fixed o) xs go = refl

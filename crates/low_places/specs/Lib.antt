@@ -1,2 +1,4 @@
 pub mod Rounds
 pub mod Sharing
+pub mod Totals
+pub mod RoomLaws

@@ -1,12 +1,13 @@
 // Which pointers pay.
 use super::counts::{Counts, Place, others_read_by};
-use super::finding::{Candidate, Found};
-use super::flow::Flow;
-use super::forms::power_of;
-use super::lags::Lags;
-use super::map::Map;
-use super::sketch::{Draft, lines_of};
-use super::tables::{flag_at, number_at, set_number};
+use super::trial::Trial;
+use low_inductions::finding::{Candidate, Found};
+use low_inductions::flow::Flow;
+use low_inductions::lags::Lags;
+use low_sketches::forms::power_of;
+use low_sketches::map::Map;
+use low_sketches::sketch::{Draft, lines_of};
+use low_sketches::tables::{flag_at, number_at};
 use low_step_facts::Form;
 use std::alloc::Global;
 use wcc_base::Memory;
@@ -62,77 +63,6 @@ pub fn cost_of(map: &Map, flow: &Flow, form: Form, lags: &Lags) -> i64 {
     cost
 }
 
-/// What becomes dead by a choice.
-#[derive(Drop)]
-struct Dying<'a> {
-    drafts: &'a [Draft],
-    map: &'a Map,
-    writes: &'a [Vec<Place>],
-    reads: &'a mut Vec<u32>,
-    /// The registers that are read once less.
-    less: Vec<u32>,
-    /// Those that nothing reads any more.
-    unread: Vec<u32>,
-    gain: i64,
-}
-
-impl<'a> Dying<'a> {
-    fn read_less(&mut self, register: u32) -> Result<(), Memory> {
-        let reads = number_at(self.reads.as_slice(), register as usize);
-        if reads > 0 {
-            set_number(self.reads, register as usize, reads.wrapping_sub(1));
-            self.less.push(register)?;
-            if reads == 1 {
-                self.unread.push(register)?;
-            }
-        }
-        Ok(())
-    }
-
-    fn gain_at(&mut self, block: usize) {
-        self.gain = self.gain.saturating_add(self.map.times_at(block));
-    }
-
-    fn leave_out(&mut self, place: Place) -> Result<(), Memory> {
-        self.gain_at(place.block);
-        if let Some(line) = lines_of(self.drafts, place.block).get(place.at) {
-            for register in others_read_by(*line) {
-                if let Some(register) = register {
-                    self.read_less(register)?;
-                }
-            }
-        }
-        Ok(())
-    }
-
-    fn die(&mut self, register: u32) -> Result<(), Memory> {
-        if let Some(places) = self.writes.get(register as usize) {
-            for place in places {
-                self.leave_out(*place)?;
-            }
-        }
-        Ok(())
-    }
-
-    fn go_on(&mut self) -> Result<(), Memory> {
-        for _ in 0..DEAD {
-            match self.unread.pop() {
-                None => return Ok(()),
-                Some(register) => self.die(register)?,
-            }
-        }
-        Ok(())
-    }
-
-    /// As it was.
-    fn restore(&mut self) {
-        for register in &self.less {
-            let reads = number_at(self.reads.as_slice(), *register as usize);
-            set_number(self.reads, *register as usize, reads.saturating_add(1));
-        }
-    }
-}
-
 /// What is chosen from.
 #[derive(Clone, Copy)]
 pub struct Market<'a> {
@@ -147,37 +77,65 @@ fn is_chosen(candidates: &[Candidate], at: usize) -> bool {
     }
 }
 
-/// What the chosen candidates are worth.
-fn gain_of(
-    alloc: Global,
-    market: &Market<'_>,
-    found: &Found,
-    counts: &mut Counts,
-) -> Result<i64, Memory> {
-    let mut dying = Dying {
-        drafts: market.drafts,
-        map: market.map,
-        writes: counts.writes.as_slice(),
-        reads: &mut counts.reads,
-        less: Vec::new(alloc),
-        unread: Vec::new(alloc),
-        gain: 0,
-    };
-    for each in &found.uses {
-        if is_chosen(&found.candidates, each.candidate) {
-            dying.gain_at(each.block);
-            dying.read_less(each.offset)?;
+/// An instruction is left out: what it is worth; it reads nothing any more.
+fn leave_out(market: &Market<'_>, reads: &mut [u32], trial: &mut Trial, place: Place) -> i64 {
+    if let Some(line) = lines_of(market.drafts, place.block).get(place.at) {
+        for register in others_read_by(*line) {
+            if let Some(register) = register {
+                trial.read_less(reads, register);
+            }
         }
     }
-    dying.go_on()?;
-    dying.restore();
-    let mut gain = dying.gain;
+    market.map.times_at(place.block)
+}
+
+/// What the instructions are worth that write a register which nothing reads.
+fn leave_all_out(
+    market: &Market<'_>,
+    counts: &mut Counts,
+    trial: &mut Trial,
+    register: u32,
+) -> i64 {
+    let mut gain = 0i64;
+    if let Some(places) = counts.writes.get(register as usize) {
+        for place in places {
+            gain = gain.saturating_add(leave_out(market, &mut counts.reads, trial, *place));
+        }
+    }
+    gain
+}
+
+/// What the instructions are worth that die where some registers are read less.
+fn worth_of_dead(market: &Market<'_>, counts: &mut Counts, trial: &mut Trial) -> i64 {
+    let mut gain = 0i64;
+    for _ in 0..DEAD {
+        match trial.next_unread() {
+            None => return gain,
+            Some(register) => {
+                gain = gain.saturating_add(leave_all_out(market, counts, trial, register));
+            }
+        }
+    }
+    gain
+}
+
+/// What the chosen candidates are worth.
+fn gain_of(market: &Market<'_>, found: &Found, counts: &mut Counts, trial: &mut Trial) -> i64 {
+    let mut gain = 0i64;
+    for each in &found.uses {
+        if is_chosen(&found.candidates, each.candidate) {
+            gain = gain.saturating_add(market.map.times_at(each.block));
+            trial.read_less(&mut counts.reads, each.offset);
+        }
+    }
+    gain = gain.saturating_add(worth_of_dead(market, counts, trial));
+    trial.restore(&mut counts.reads);
     for candidate in &found.candidates {
         if candidate.chosen {
             gain = gain.saturating_sub(candidate.cost);
         }
     }
-    Ok(gain)
+    gain
 }
 
 fn set_chosen(found: &mut Found, at: usize, new: bool) {
@@ -203,12 +161,14 @@ fn gains_without(
     market: &Market<'_>,
     found: &mut Found,
     counts: &mut Counts,
+    trial: &mut Trial,
 ) -> Result<Vec<(i64, usize)>, Memory> {
     let mut gains = Vec::new(alloc);
     for at in 0..found.candidates.len() {
         if is_chosen(&found.candidates, at) {
             set_chosen(found, at, false);
-            gains.push((gain_of(alloc, market, found, counts)?, at))?;
+            let gain = gain_of(market, found, counts, trial);
+            gains.push((gain, at))?;
             set_chosen(found, at, true);
         }
     }
@@ -249,12 +209,12 @@ pub fn select(
     alloc: Global,
     market: &Market<'_>,
     found: &mut Found,
-    counts: &mut Counts,
+    (counts, trial): (&mut Counts, &mut Trial),
     room: u32,
 ) -> Result<(), Memory> {
     for _ in 0..ROUNDS {
-        let now = gain_of(alloc, market, found, counts)?;
-        let gains = gains_without(alloc, market, found, counts)?;
+        let now = gain_of(market, found, counts, trial);
+        let gains = gains_without(alloc, market, found, counts, trial)?;
         if !leave_out_poor(found, &gains, now) {
             let number = chosen_in(found).saturating_sub(room);
             if number == 0 {

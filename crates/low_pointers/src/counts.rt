@@ -1,8 +1,8 @@
 // How often registers are read, and where they are written.
-use super::acts::{is_pure, read_at, read_by, register_of, written};
-use super::sketch::{Draft, Line, arguments_at};
-use super::tables::add_one;
 use low_ir::Function;
+use low_sketches::acts::{is_pure, read_at, read_by, register_of, written};
+use low_sketches::sketch::{Draft, Line, arguments_at};
+use low_sketches::tables::add_one;
 use std::alloc::Global;
 use wcc_base::Memory;
 

@@ -1,17 +1,16 @@
 // Accesses through the chosen pointers.
-use super::acts::Act;
-use super::finding::{Candidate, Use};
-use super::flow::Flow;
-use super::forms::power_of;
-use super::lags::Lags;
-use super::map::Map;
-use super::sketch::{Sketch, lines_of, through};
-use super::tables::number_at;
-use super::words::Words;
+use low_inductions::finding::{Candidate, Use};
+use low_inductions::flow::Flow;
+use low_inductions::lags::Lags;
 use low_ir::{Address, Base, Operand};
+use low_sketches::acts::Act;
+use low_sketches::forms::power_of;
+use low_sketches::map::Map;
+use low_sketches::sketch::{Sketch, lines_of, through, writes};
+use low_sketches::tables::number_at;
+use low_sketches::words::Words;
 use low_step_facts::{Form, Term};
 use rv_core::Alu;
-use std::alloc::Global;
 use wcc_base::Memory;
 
 /// How far back a block is read for what it sets a register to.
@@ -35,7 +34,7 @@ fn word_behind(words: &Words, sketch: &Sketch, block: usize, register: u32) -> O
     let count = lines.len();
     for back in 0..count.min(BACK) {
         if let Some(line) = lines.get(count.wrapping_sub(back).wrapping_sub(1)) {
-            if super::sketch::writes(line.act, register) {
+            if writes(line.act, register) {
                 return match line.act {
                     Act::Set { value, .. } => words.word_of(value),
                     _ => None,

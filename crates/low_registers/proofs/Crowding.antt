@@ -6,14 +6,16 @@ use Rattle.std.proofs.lemmas.List.{get_or-replicate, get_or_default, length-repl
 use Rattle.std.proofs.lemmas.List.Elements.{Contains-append_left}
 use Rattle.low_ir.specs.declared.places.Place.{Place}
 use Rattle.low_ir.specs.declared.places.Place.TheVariants.{Register as InRegister, Slot}
+use Rattle.low_ir.specs.Code.{Function, Note}
 use Rattle.low_ir.specs.Live.{Has}
-use Rattle.low_ir.specs.Places.{machine_registers}
+use Rattle.low_ir.specs.Places.{machine_registers, result_register}
 use Rattle.low_registers.specs.declared.order.Lasting.{Lasting}
 use Rattle.low_registers.specs.declared.choice.Choice.{Choice}
 use Rattle.low_registers.specs.declared.choice.Choice.TheVariants.{Free, Instead, InSlot}
+use Rattle.low_registers.specs.Briefs.{IsBrief}
 use Rattle.low_registers.specs.Orders.{AreInOrder, Covers}
 use Rattle.low_registers.specs.Spills.{AreDistinct}
-use Rattle.low_registers.specs.Scans.{AllTaken, AreCrowded, IsChoice, Scan, Scanned, evicted_by, followed, given, holder, is_over, place_of, unplaced}
+use Rattle.low_registers.specs.Scans.{AllTaken, AreCrowded, CanHold, IsChoice, Scan, Scanned, evicted_by, followed, given, holder, is_over, place_of, unplaced}
 use Rattle.low_registers.proofs.Scanning.{freed, is_evicted, is_given, is_spilled, place_same, same_register}
 
 -- who has a machine register that is taken
@@ -21,7 +23,15 @@ taken_by : (p : ℕ) (o : Option Lasting) → is_over p o ≡ false → (y : Las
 taken_by p None e = cc
 taken_by p (Some y) e = (y, refl, ltb-false y.last p e)
 
-module _ (n : ℕ) (all done : List Lasting) (s : Scan) (h : Scanned n all done s) (p : ℕ) (taken : AllTaken s p) (before : (y : Lasting) → Contains done y → y.first ≤ p) where
+can_few : (fn : Function ℕ Note) (q : ℕ) (x : Lasting) → CanHold fn q x → q ≤ result_register
+can_few fn q x (inl small) = omega (arith, small)
+can_few fn q x (inr both) = let is = both.0 in omega (arith, is)
+
+can_brief : (fn : Function ℕ Note) (q : ℕ) (x : Lasting) → CanHold fn q x → q ≡ result_register → IsBrief fn x
+can_brief fn q x (inl small) is = absurd (omega (arith, small, is))
+can_brief fn q x (inr both) is = both.1
+
+module _ (fn : Function ℕ Note) (n : ℕ) (all done : List Lasting) (s : Scan) (h : Scanned fn n all done s) (p : ℕ) (taken : AllTaken s p) (before : (y : Lasting) → Contains done y → y.first ≤ p) where
   -- a register that is done, covers p, and has one of the first m machine registers
   abbrev IsAmong : ℕ → ℕ → Type 0
   IsAmong m v = (y : Lasting) × Contains done y × (y.register ≡ v) × Covers y p × ((q : ℕ) × (q < m) × (place_of s y ≡ InRegister q))
@@ -48,7 +58,7 @@ module _ (n : ℕ) (all done : List Lasting) (s : Scan) (h : Scanned n all done 
             long = ap suc f.long;
             distinct = (
               λ k. let a = f.among y.0.register k in
-                  let same = same_register m a.4.0 (sym has.1 ∙ (place_same n all done s h y.0 a.0 (sym a.2) ∙ a.4.2)) in
+                  let same = same_register m a.4.0 (sym has.1 ∙ (place_same fn n all done s h y.0 a.0 (sym a.2) ∙ a.4.2)) in
                   let lt = a.4.1 in
                   absurd (omega (arith, same, lt)),
               f.distinct,
@@ -159,20 +169,20 @@ module _ (n : ℕ) (all : List Lasting) (order : AreInOrder n all) where
         let e = at_one a.0 i y x (omega (arith, small, lt)) lt a.2 (sym is) same in
         absurd (omega (arith, small, e))
 
-    module _ (s : Scan) (h : Scanned n all (take i all) s) where
+    module _ (fn : Function ℕ Note) (s : Scan) (h : Scanned fn n all (take i all) s) where
       abbrev more : List Lasting
       more = take i all ++ x ∷ []
 
-      free_of : (q : ℕ) → q < machine_registers → is_over x.first (holder s q) ≡ true → (y : Lasting) → Contains (take i all) y → place_of s y ≡ InRegister q → y.last < x.first
-      free_of q lt free y k e = elim (h.held y q k e) [
+      free_of : (q : ℕ) → is_over x.first (holder s q) ≡ true → (y : Lasting) → Contains (take i all) y → place_of s y ≡ InRegister q → y.last < x.first
+      free_of q free y k e = elim (h.held y q k e) [
         | inl has ↦ over_free x.first (holder s q) y free has
         | inr over ↦ let b = over.2 in let c = before over.0 over.1 in omega (arith, b, c)
       ]
 
       crowd : AllTaken s x.first → AreCrowded all x.first
-      crowd taken = crowded n all (take i all) s h x.first taken before x here (λ y k. part i y k) (omega arith, order.proper x here) new
+      crowd taken = crowded fn n all (take i all) s h x.first taken before x here (λ y k. part i y k) (omega arith, order.proper x here) new
 
-      instead : (q : ℕ) (o : Option Lasting) → holder s q ≡ o → q < machine_registers → AllTaken s x.first → Scanned n all more (given q x (evicted_by q o s))
+      instead : (q : ℕ) (o : Option Lasting) → holder s q ≡ o → q < machine_registers → AllTaken s x.first → Scanned fn n all more (given q x (evicted_by q o s))
       instead q None e lt taken = let none : true ≡ false = sym (ap (is_over x.first) e) ∙ taken q lt in cc
       instead q (Some y) e lt taken =
           let has = h.holds q y e in
@@ -181,32 +191,34 @@ module _ (n : ℕ) (all : List Lasting) (order : AreInOrder n all) where
           let late : x.first ≤ y.last = subst (λ (z : Lasting). x.first ≤ z.last) same busy.2 in
           let one = λ (a b : Lasting) (c : Contains (take i all) a) (d : Contains (take i all) b). unique a b (part i a c) (part i b d) in
           let small = λ (a : Lasting) (c : Contains (take i all) a). order.below a (part i a c) in
-          let w = is_evicted n all (take i all) s h one small q lt y e x.first (before y has.0, late) (crowd taken) in
-          is_given n all (take i all) (evicted_by q (Some y) s) w x (order.below x here) new q lt
-          (freed n all (take i all) s h one small q lt y e x.first (before y has.0, late) (crowd taken) x before)
+          let machine : q ≤ result_register = omega (arith, lt) in
+          let w = is_evicted fn n all (take i all) s h one small q machine y e x.first (before y has.0, late) (crowd taken) in
+          is_given fn n all (take i all) (evicted_by q (Some y) s) w x (order.below x here) new q machine (λ r. absurd (omega (arith, r, lt)))
+          (freed fn n all (take i all) s h one small q machine y e x.first (before y has.0, late) (crowd taken) x before)
 
-      follows : (c : Choice) → IsChoice s x c → Scanned n all more (followed c x s)
-      follows (Free q) k = is_given n all (take i all) s h x (order.below x here) new q k.0 (free_of q k.0 k.1)
+      follows : (c : Choice) → IsChoice fn s x c → Scanned fn n all more (followed c x s)
+      follows (Free q) k = is_given fn n all (take i all) s h x (order.below x here) new q (can_few fn q x k.0) (can_brief fn q x k.0) (free_of q k.1)
       follows (Instead q) k = instead q (holder s q) refl k.0 k.1
-      follows InSlot k = is_spilled n all (take i all) s h x (order.below x here) new (order.proper x here) (crowd k)
+      follows InSlot k = is_spilled fn n all (take i all) s h x (order.below x here) new (order.proper x here) (crowd k)
 
-      turn : (c : Choice) (t : Scan) → IsChoice s x c → t ≡ followed c x s → Scanned n all (take (i + 1) all) t
+      turn : (c : Choice) (t : Scan) → IsChoice fn s x c → t ≡ followed c x s → Scanned fn n all (take (i + 1) all) t
       turn c t choice e =
           let next : take (i + 1) all ≡ more = take_more all i x lt ∙ ap (λ (z : Lasting). take i all ++ z ∷ []) (sym is) in
-          subst (λ l. Scanned n all l t) (sym next) (subst (Scanned n all more) (sym e) (follows c choice))
+          subst (λ l. Scanned fn n all l t) (sym next) (subst (Scanned fn n all more) (sym e) (follows c choice))
 
   -- the same, as a loop reads the register
-  pub turn_at : (i : ℕ) (d : Lasting) → i < length all → (s : Scan) → Scanned n all (take i all) s → (c : Choice) (t : Scan) → IsChoice s (get_or all i d) c → t ≡ followed c (get_or all i d) s → Scanned n all (take (i + 1) all) t
-  turn_at i d lt s h c t choice e = turn i (get_or all i d) lt (other i d (get_or all i d) lt) s h c t choice e
+  pub turn_at : (fn : Function ℕ Note) (i : ℕ) (d : Lasting) → i < length all → (s : Scan) → Scanned fn n all (take i all) s → (c : Choice) (t : Scan) → IsChoice fn s (get_or all i d) c → t ≡ followed c (get_or all i d) s → Scanned fn n all (take (i + 1) all) t
+  turn_at fn i d lt s h c t choice e = turn i (get_or all i d) lt (other i d (get_or all i d) lt) fn s h c t choice e
 
   -- at the start nothing is done
-  pub started : (s : Scan) → s ≡ unplaced n → Scanned n all (take 0 all) s
-  started s e = subst (Scanned n all (take 0 all)) (sym e) (record {
+  pub started : (fn : Function ℕ Note) (s : Scan) → s ≡ unplaced n → Scanned fn n all (take 0 all) s
+  started fn s e = subst (Scanned fn n all (take 0 all)) (sym e) (record {
     size = length-replicate {A = Place} n (InRegister 0);
-    machine = length-replicate {A = Option Lasting} machine_registers None;
+    machine = length-replicate {A = Option Lasting} (suc result_register) None;
     apart = λ x y a b d k. absurd (omega (arith, a.1));
+    brief = λ x a e. absurd (omega (arith, a.1));
     held = λ x q a k. absurd (omega (arith, a.1));
-    holds = λ q x k. let none = sym (no_holder machine_registers q) ∙ k in cc;
+    holds = λ q x k. let none = sym (no_holder (suc result_register) q) ∙ k in cc;
     inside = λ x a. absurd (omega (arith, a.1));
     crowded = λ x k a e. absurd (omega (arith, a.1));
     others = λ v lt none. get_or-replicate n v (InRegister 0) (Slot v) lt;

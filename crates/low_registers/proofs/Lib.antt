@@ -4,5 +4,6 @@ pub mod Crowding
 pub mod Masking
 pub mod Putting
 pub mod Sweeping
+pub mod Turning
 pub mod Placed
 pub mod Gathering

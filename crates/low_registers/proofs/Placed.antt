@@ -1,26 +1,37 @@
 -- The places of a scan fit a function, and those of all functions are an assignment.
-use Rattle.std.proofs.Common.{◌≡◌, ◌≢◌, inl, inr, ℕ, ◌<◌, true, List, Option, Some, None, Contains, refl, sym, ap, ◌∙◌, subst, arith}
-use Rattle.std.specs.Prelude.{slice_index_or}
-use Rattle.std.proofs.lemmas.Bool.{ltb-true}
+use Rattle.std.proofs.Common.{◌≡◌, ◌≢◌, ◌⊎◌, inl, inr, ℕ, ◌<◌, ◌≤◌, Bool, true, false, List, [], ◌∷◌, Option, Some, None, Contains, refl, sym, ap, ◌∙◌, subst, arith}
+use Rattle.std.specs.Prelude.{◌==◌, if◌then◌else◌, slice_index_or}
+use Rattle.std.proofs.lemmas.Bool.{cases_lt, eqb-false, leb-true, lt-ltb, ltb-true}
 use Rattle.low_ir.specs.declared.places.Place.{Place}
 use Rattle.low_ir.specs.declared.places.Place.TheVariants.{Register as InRegister, Slot}
 use Rattle.low_ir.specs.Code.{Function, Low, Note}
 use Rattle.low_ir.specs.Effects.{is_member}
-use Rattle.low_ir.specs.Live.{CallAt, InInterval, IsPlace, Together}
-use Rattle.low_ir.specs.Places.{Placing, assignment, kept_in, machine_registers, place_in, registers_of}
+use Rattle.low_ir.specs.Live.{CallAt, Has, InInterval, IsPlace, ServedAt, Together}
+use Rattle.low_ir.specs.Places.{Placing, assignment, is_lasting, kept_in, machine_registers, place_in, registers_of, result_register}
 use Rattle.low_ir.specs.Spacing.{IsAssignment, is_inside}
 use Rattle.low_live.specs.declared.interval.Interval.{Interval}
 use Rattle.low_live.specs.Intervals.{AreIntervalsOf, IsIntervalOf, Spans, interval_in}
 use Rattle.low_registers.specs.declared.order.Lasting.{Lasting}
+use Rattle.low_registers.specs.Briefs.{IsBrief}
 use Rattle.low_registers.specs.Fitting.{ArePlacings, IsPlacing, IsScannedPlacing}
 use Rattle.low_registers.specs.Orders.{AreApart, AreOrdered, Covers, lasting}
 use Rattle.low_registers.specs.Scans.{AreCrowded, place_at}
 use Rattle.low_registers.specs.Spills.{HaveFewSlots, IsCrowded, SpillWhereCrowded}
 use Rattle.low_registers.proofs.Listing.{in_order, interval_of, listed, lists}
 use Rattle.low_registers.proofs.Sweeping.{call_keeps}
+use Rattle.low_registers.proofs.Turning.{call_own, served_own}
 
 not_slot : (q k : ℕ) → InRegister q ≡ Slot k → ⊥
 not_slot q k e = cc
+
+has_member : (vs : List ℕ) (v : ℕ) → Has v vs → is_member vs v ≡ true
+has_member [] v h = absurd h
+has_member (x ∷ vs) v h = by (x == v) refl (λ k. has_member vs v k) h
+  where
+    by : (b : Bool) → (x == v) ≡ b → (Has v vs → is_member vs v ≡ true) → Has v (x ∷ vs) → (if b then true else is_member vs v) ≡ true
+    by true t rest k = refl
+    by false t rest (inl e) = absurd (eqb-false x v t (sym e))
+    by false t rest (inr k) = rest k
 
 -- intervals that share a place aren't apart
 shared : (x y : Lasting) (p : ℕ) → Covers x p → Covers y p → AreApart x y → ⊥
@@ -81,16 +92,51 @@ module _ (fn : Function ℕ Note) (row : List (Option Interval)) (ls : List Last
       shared (lasting v f.interval) (lasting w g.interval) t.0 f.covers g.covers
       (h.scanned.apart (lasting v f.interval) (lasting w g.interval) (lists fn row ls intervals ordered v f.interval a f.is) (lists fn row ls intervals ordered w g.interval b g.is) d (sym (places_are v) ∙ (e ∙ places_are w)))
 
-  machine : (x : Lasting) (q : ℕ) → Contains ls x → place_at h.scan.places x.register ≡ InRegister q → q < machine_registers
-  machine x q k e = ltb-true q machine_registers (sym (ap (is_inside h.scan.slots) e) ∙ h.scanned.inside x k)
+  machine : (x : Lasting) (q : ℕ) → Contains ls x → place_at h.scan.places x.register ≡ InRegister q → q ≤ result_register
+  machine x q k e = leb-true q result_register (sym (ap (is_inside h.scan.slots) e) ∙ h.scanned.inside x k)
+
+  -- a place is lasting, or it is the result register, and then the register is brief
+  lasts : (x : Lasting) (o : Place) → Contains ls x → place_at h.scan.places x.register ≡ o → (is_lasting o ≡ true) ⊎ ((o ≡ InRegister result_register) × IsBrief fn x)
+  lasts x (Slot k) there e = inl refl
+  lasts x (InRegister q) there e = by (cases_lt q machine_registers)
+    where
+      by : (q < machine_registers) ⊎ (machine_registers ≤ q) → (is_lasting (InRegister q) ≡ true) ⊎ ((InRegister q ≡ InRegister result_register) × IsBrief fn x)
+      by (inl small) = inl (lt-ltb q machine_registers small)
+      by (inr big) =
+          let few = machine x q there e in
+          let same : InRegister q ≡ InRegister result_register = let n : q ≡ result_register = omega (arith, big, few) in ap InRegister n in
+          inr (same, h.scanned.brief x there (e ∙ same))
+
+  served : (p v : ℕ) (d : Option ℕ) → v < fn.size → ServedAt fn p d → d ≢ Some v → InInterval fn p v → is_lasting (place_in pl v) ≡ true
+  served p v d lt at other i =
+      let f = found v p lt i in
+      let x = lasting v f.interval in
+      ap is_lasting (places_are v)
+      ∙ elim (lasts x (place_at h.scan.places v) (lists fn row ls intervals ordered v f.interval lt f.is) refl) [
+        | inl l ↦ l
+        | inr b ↦ absurd (other (served_own fn x b.1 p d f.covers.0 f.covers.1 at))
+      ]
 
   kept : (p v q : ℕ) (d : Option ℕ) → v < fn.size → CallAt fn p d → d ≢ Some v → InInterval fn p v → place_in pl v ≡ InRegister q → is_member (kept_in pl p) q ≡ true
-  kept p v q d lt call other i e =
-      let f = found v p lt i in
-      let c = f.covers in
-      ap (λ (ms : List ℕ). is_member (registers_of machine_registers (slice_index_or ms p 0)) q) h.masked.kept
-      ∙ call_keeps fn.size ls (in_order fn row ls intervals ordered) h.scan.places h.scanned.apart machine fn.blocks p call.0 d call.1 call.2 call.3 call.4 call.5
-      (lasting v f.interval) q (lists fn row ls intervals ordered v f.interval lt f.is) c.0 c.1 other (sym (places_are v) ∙ e)
+  kept p v q d lt call other i e = elim (lasts x (InRegister q) there place) [
+    | inl small ↦
+        ap (λ (ms : List ℕ). is_member (registers_of machine_registers (slice_index_or ms p 0)) q) h.masked.kept
+        ∙ call_keeps fn.size ls (in_order fn row ls intervals ordered) h.scan.places h.scanned.apart fn.blocks p call.0 d call.1 call.2 call.3 call.4 call.5
+        x q (ltb-true q machine_registers small) there f.covers.0 f.covers.1 other place
+    | inr b ↦ absurd (other (call_own fn x b.1 p d f.covers.0 f.covers.1 call))
+  ]
+    where
+      f : Found v p
+      f = found v p lt i
+
+      x : Lasting
+      x = lasting v f.interval
+
+      there : Contains ls x
+      there = lists fn row ls intervals ordered v f.interval lt f.is
+
+      place : place_at h.scan.places v ≡ InRegister q
+      place = sym (places_are v) ∙ e
 
   -- a register without an interval has the first machine register
   unplaced : (v : ℕ) → v < fn.size → interval_in row v ≡ None → place_at h.scan.places v ≡ InRegister 0
@@ -100,6 +146,16 @@ module _ (fn : Function ℕ Note) (row : List (Option Interval)) (ls : List Last
     where
       none : (i : Interval) → None ≡ Some i → ⊥
       none i k = cc
+
+  passed : (v : ℕ) → v < fn.size → Has v fn.parameters → is_lasting (place_in pl v) ≡ true
+  passed v lt has = ap is_lasting (places_are v) ∙ by (interval_in row v) refl
+    where
+      by : (o : Option Interval) → interval_in row v ≡ o → is_lasting (place_at h.scan.places v) ≡ true
+      by None e = ap is_lasting (unplaced v lt e)
+      by (Some j) e = elim (lasts (lasting v j) (place_at h.scan.places v) (lists fn row ls intervals ordered v j lt e) refl) [
+        | inl l ↦ l
+        | inr b ↦ let both : true ≡ false = sym (has_member fn.parameters v has) ∙ b.1.passed in cc
+      ]
 
   inside : (v : ℕ) → v < fn.size → is_inside h.scan.slots (place_at h.scan.places v) ≡ true
   inside v lt = by (interval_in row v) refl
@@ -126,6 +182,8 @@ module _ (fn : Function ℕ Note) (row : List (Option Interval)) (ls : List Last
         fits = record {
           apart = apart;
           kept = kept;
+          served = served;
+          passed = passed;
           inside = λ v lt. ap (λ m. is_inside m (place_in pl v)) slots ∙ (ap (is_inside h.scan.slots) (places_are v) ∙ inside v lt);
         };
         spills = λ v k lt e. spills v k lt (sym (places_are v) ∙ e);
@@ -134,7 +192,7 @@ module _ (fn : Function ℕ Note) (row : List (Option Interval)) (ls : List Last
 
 -- function by function
 pub assigned : (pls : List Placing) (p : Low) → ArePlacings p.functions pls → IsAssignment (assignment pls) p
-assigned pls p h f fn e = let k = (h f fn e).fits in record { apart = k.apart; kept = k.kept; inside = k.inside }
+assigned pls p h f fn e = let k = (h f fn e).fits in record { apart = k.apart; kept = k.kept; served = k.served; passed = k.passed; inside = k.inside }
 
 pub all_spill : (pls : List Placing) (p : Low) → ArePlacings p.functions pls → SpillWhereCrowded p pls
 all_spill pls p h f fn e = (h f fn e).spills

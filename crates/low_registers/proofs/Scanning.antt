@@ -1,14 +1,16 @@
 -- One turn of a scan.
 use Rattle.std.proofs.Common.{◌≡◌, ◌≢◌, ◌⊎◌, inl, inr, ℕ, ◌+◌, ◌<◌, ◌≤◌, true, List, [], ◌∷◌, ◌++◌, Option, Some, None, Contains, refl, sym, ap, ◌∙◌, subst, arith, get_or-set_other}
 use Rattle.std.specs.Prelude.{slice_index_or, slice_set}
-use Rattle.std.proofs.lemmas.Bool.{cases_eq, ltb-true, lt-ltb}
+use Rattle.std.proofs.lemmas.Bool.{cases_eq, le-leb, ltb-true, lt-ltb}
 use Rattle.std.proofs.lemmas.List.{get_or-set_same, length-set}
 use Rattle.std.proofs.lemmas.List.Elements.{Contains-append_left, Contains-push, Contains-push_cases}
 use Rattle.low_ir.specs.declared.places.Place.{Place}
 use Rattle.low_ir.specs.declared.places.Place.TheVariants.{Register as InRegister, Slot}
-use Rattle.low_ir.specs.Places.{machine_registers}
+use Rattle.low_ir.specs.Code.{Function, Note}
+use Rattle.low_ir.specs.Places.{result_register}
 use Rattle.low_ir.specs.Spacing.{is_inside}
 use Rattle.low_registers.specs.declared.order.Lasting.{Lasting}
+use Rattle.low_registers.specs.Briefs.{IsBrief}
 use Rattle.low_registers.specs.Orders.{AreApart, Covers, IsOver}
 use Rattle.low_registers.specs.Scans.{AreCrowded, Scan, Scanned, evicted_by, given, holder, place_at, place_of, spilled}
 
@@ -39,7 +41,7 @@ not_next k (Slot j) e s = let a = ltb-true j k e in let b : j ≡ k = cc in absu
 still_over : (done : List Lasting) (x y : Lasting) → IsOver done y → IsOver (done ++ x ∷ []) y
 still_over done x y h = (h.0, Contains-append_left done (x ∷ []) h.0 h.1, h.2)
 
-module _ (n : ℕ) (all done : List Lasting) (s : Scan) (h : Scanned n all done s) where
+module _ (fn : Function ℕ Note) (n : ℕ) (all done : List Lasting) (s : Scan) (h : Scanned fn n all done s) where
   -- two registers have one place where they are one
   pub place_same : (x y : Lasting) → x.register ≡ y.register → place_of s x ≡ place_of s y
   place_same x y e = ap (place_at s.places) e
@@ -57,7 +59,7 @@ module _ (n : ℕ) (all done : List Lasting) (s : Scan) (h : Scanned n all done 
     holder_other : (r : ℕ) → r ≢ q → slice_index_or (slice_set s.holders q new) r None ≡ holder s r
     holder_other r d = get_or-set_other s.holders q r new None d
 
-    holder_here : (r : ℕ) → r ≡ q → q < machine_registers → slice_index_or (slice_set s.holders q new) r None ≡ new
+    holder_here : (r : ℕ) → r ≡ q → q ≤ result_register → slice_index_or (slice_set s.holders q new) r None ≡ new
     holder_here r e small =
         let size = h.machine in
         subst (λ (u : ℕ). slice_index_or (slice_set s.holders q new) u None ≡ new) (sym e) (get_or-set_same s.holders q new None (omega (arith, size, small)))
@@ -68,7 +70,7 @@ module _ (n : ℕ) (all done : List Lasting) (s : Scan) (h : Scanned n all done 
     more = done ++ x ∷ []
 
     -- it gets a machine register that is free
-    module _ (q : ℕ) (machine : q < machine_registers) (free : (y : Lasting) → Contains done y → place_of s y ≡ InRegister q → y.last < x.first) where
+    module _ (q : ℕ) (machine : q ≤ result_register) (able : q ≡ result_register → IsBrief fn x) (free : (y : Lasting) → Contains done y → place_of s y ≡ InRegister q → y.last < x.first) where
       abbrev t : Scan
       t = given q x s
 
@@ -119,22 +121,27 @@ module _ (n : ℕ) (all done : List Lasting) (s : Scan) (h : Scanned n all done 
 
       inside : (y : Lasting) → Parts y → is_inside s.slots (place_of t y) ≡ true
       inside y (inl a) = ap (is_inside s.slots) (old y a) ∙ h.inside y a
-      inside y (inr a) = ap (is_inside s.slots) (own y a) ∙ lt-ltb q machine_registers machine
+      inside y (inr a) = ap (is_inside s.slots) (own y a) ∙ le-leb q result_register machine
 
       crowded : (y : Lasting) (k : ℕ) → Parts y → place_of t y ≡ Slot k → (p : ℕ) × Covers y p × AreCrowded all p
       crowded y k (inl a) e = h.crowded y k a (sym (old y a) ∙ e)
       crowded y k (inr a) e = absurd (slots_differ q k (sym (own y a) ∙ e))
+
+      brief : (y : Lasting) → Parts y → place_of t y ≡ InRegister result_register → IsBrief fn y
+      brief y (inl a) e = h.brief y a (sym (old y a) ∙ e)
+      brief y (inr a) e = subst (IsBrief fn) a (able (same_register q result_register (sym (own y a) ∙ e)))
 
       others : (v : ℕ) → v < n → ((y : Lasting) → Contains more y → y.register ≢ v) → place_at t.places v ≡ InRegister 0
       others v lt none =
           place_other x.register (InRegister q) v (λ e. none x (Contains-push done x) (sym e))
           ∙ h.others v lt (λ y k. none y (Contains-append_left done (x ∷ []) y k))
 
-      pub is_given : Scanned n all more t
+      pub is_given : Scanned fn n all more t
       is_given = record {
         size = length-set s.places x.register (InRegister q) ∙ h.size;
         machine = length-set s.holders q (Some x) ∙ h.machine;
         apart = λ y z a b d e. apart y z (parts y a) (parts z b) d e;
+        brief = λ y a e. brief y (parts y a) e;
         held = λ y r a e. held y r (parts y a) e;
         holds = holds;
         inside = λ y a. inside y (parts y a);
@@ -172,6 +179,10 @@ module _ (n : ℕ) (all done : List Lasting) (s : Scan) (h : Scanned n all done 
       ]
       kept y r (inr a) e = absurd (registers_differ r s.slots (sym (at y a) ∙ e))
 
+      still_brief : (y : Lasting) → Split y → place_of u y ≡ InRegister result_register → IsBrief fn y
+      still_brief y (inl a) e = h.brief y a (sym (before y a) ∙ e)
+      still_brief y (inr a) e = absurd (registers_differ result_register s.slots (sym (at y a) ∙ e))
+
       within : (y : Lasting) → Split y → is_inside (s.slots + 1) (place_of u y) ≡ true
       within y (inl a) = inside_more s.slots (place_of u y) (ap (is_inside s.slots) (before y a) ∙ h.inside y a)
       within y (inr a) = ap (is_inside (s.slots + 1)) (at y a) ∙ lt-ltb s.slots (s.slots + 1) (omega arith)
@@ -180,11 +191,12 @@ module _ (n : ℕ) (all done : List Lasting) (s : Scan) (h : Scanned n all done 
       covered y k (inl a) e = h.crowded y k a (sym (before y a) ∙ e)
       covered y k (inr a) e = subst (λ (w : Lasting). (p : ℕ) × Covers w p × AreCrowded all p) a (x.first, (omega arith, proper), crowd)
 
-      pub is_spilled : Scanned n all more u
+      pub is_spilled : Scanned fn n all more u
       is_spilled = record {
         size = length-set s.places x.register (Slot s.slots) ∙ h.size;
         machine = h.machine;
         apart = λ y z a b d e. spaced y z (split y a) (split z b) d e;
+        brief = λ y a e. still_brief y (split y a) e;
         held = λ y r a e. kept y r (split y a) e;
         holds = λ r y e. let k = h.holds r y e in (Contains-append_left done (x ∷ []) y k.0, before y k.0 ∙ k.1);
         inside = λ y a. within y (split y a);
@@ -196,7 +208,7 @@ module _ (n : ℕ) (all done : List Lasting) (s : Scan) (h : Scanned n all done 
 
   -- the holder of a machine register gets a slot
   module _ (unique : (a b : Lasting) → Contains done a → Contains done b → a.register ≡ b.register → a ≡ b) (small : (a : Lasting) → Contains done a → a.register < n)
-      (q : ℕ) (machine : q < machine_registers) (y : Lasting) (holder_is : holder s q ≡ Some y) (p : ℕ) (covers : Covers y p) (crowd : AreCrowded all p) where
+      (q : ℕ) (machine : q ≤ result_register) (y : Lasting) (holder_is : holder s q ≡ Some y) (p : ℕ) (covers : Covers y p) (crowd : AreCrowded all p) where
     abbrev w : Scan
     w = evicted_by q (Some y) s
 
@@ -223,6 +235,10 @@ module _ (n : ℕ) (all done : List Lasting) (s : Scan) (h : Scanned n all done 
     still_apart a b i j (inl f) (inr g) d e = absurd (not_next s.slots (place_of s b) (h.inside b j) (sym (kept_place b g) ∙ (sym e ∙ slot a f)))
     still_apart a b i j (inr f) (inl g) d e = absurd (not_next s.slots (place_of s a) (h.inside a i) (sym (kept_place a f) ∙ (e ∙ slot b g)))
     still_apart a b i j (inr f) (inr g) d e = h.apart a b i j d (sym (kept_place a f) ∙ (e ∙ kept_place b g))
+
+    brief_still : (a : Lasting) → Contains done a → Same a → place_of w a ≡ InRegister result_register → IsBrief fn a
+    brief_still a i (inl f) e = absurd (registers_differ result_register s.slots (sym (slot a f) ∙ e))
+    brief_still a i (inr f) e = h.brief a i (sym (kept_place a f) ∙ e)
 
     still_held : (a : Lasting) (r : ℕ) → Contains done a → Same a → place_of w a ≡ InRegister r → (holder w r ≡ Some a) ⊎ IsOver done a
     still_held a r i (inl f) e = absurd (registers_differ r s.slots (sym (slot a f) ∙ e))
@@ -253,11 +269,12 @@ module _ (n : ℕ) (all done : List Lasting) (s : Scan) (h : Scanned n all done 
     still_crowded a k i (inl f) e = subst (λ (z : Lasting). (r : ℕ) × Covers z r × AreCrowded all r) (unique y a is_done i (sym f)) (p, covers, crowd)
     still_crowded a k i (inr f) e = h.crowded a k i (sym (kept_place a f) ∙ e)
 
-    pub is_evicted : Scanned n all done w
+    pub is_evicted : Scanned fn n all done w
     is_evicted = record {
       size = length-set s.places y.register (Slot s.slots) ∙ h.size;
       machine = length-set s.holders q None ∙ h.machine;
       apart = λ a b i j d e. still_apart a b i j (same a) (same b) d e;
+      brief = λ a i e. brief_still a i (same a) e;
       held = λ a r i e. still_held a r i (same a) e;
       holds = still_holds;
       inside = λ a i. still_inside a i (same a);

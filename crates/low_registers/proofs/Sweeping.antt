@@ -13,7 +13,8 @@ use Rattle.low_ir.specs.Places.{machine_registers, registers_of}
 use Rattle.low_registers.specs.declared.order.Lasting.{Lasting}
 use Rattle.low_registers.specs.Orders.{AreApart, AreInOrder, IsOver}
 use Rattle.low_registers.specs.Scans.{place_at}
-use Rattle.low_registers.specs.Masks.{Sweep, begun, begun_from, blocks_masks, code_masks, code_swept, held_at, held_by, instr_mask, instr_swept, keeps, mask_below, names, unswept}
+use Rattle.low_registers.specs.Briefs.{names}
+use Rattle.low_registers.specs.Masks.{Sweep, begun, begun_from, blocks_masks, code_masks, code_swept, held_at, held_by, instr_mask, instr_swept, keeps, mask_below, unswept}
 use Rattle.low_registers.proofs.Crowding.{before, new, part}
 use Rattle.low_registers.proofs.Masking.{kept}
 use Rattle.low_registers.proofs.Putting.{length-code_masks}
@@ -44,11 +45,10 @@ none_held (suc m) (suc q) = none_held m q
 
 -- what a sweep goes by
 module _ (n : ℕ) (all : List Lasting) (order : AreInOrder n all) (places : List Place)
-    (apart : (x y : Lasting) → Contains all x → Contains all y → x.register ≢ y.register → place_at places x.register ≡ place_at places y.register → AreApart x y)
-    (machine : (x : Lasting) (q : ℕ) → Contains all x → place_at places x.register ≡ InRegister q → q < machine_registers) where
-  -- the first i intervals have begun: each has its machine register, or had it
+    (apart : (x y : Lasting) → Contains all x → Contains all y → x.register ≢ y.register → place_at places x.register ≡ place_at places y.register → AreApart x y) where
+  -- the first i intervals have begun: each has its machine register, or had it; the result register isn't asked for
   abbrev Held : ℕ → List (Option Lasting) → Type 0
-  Held i hs = (x : Lasting) (q : ℕ) → Contains (take i all) x → place_at places x.register ≡ InRegister q → (slice_index_or hs q None ≡ Some x) ⊎ IsOver (take i all) x
+  Held i hs = (x : Lasting) (q : ℕ) → q < machine_registers → Contains (take i all) x → place_at places x.register ≡ InRegister q → (slice_index_or hs q None ≡ Some x) ⊎ IsOver (take i all) x
 
   record Swept (p : ℕ) (w : Sweep) : Type 0 where
     index : ℕ
@@ -80,26 +80,25 @@ module _ (n : ℕ) (all : List Lasting) (order : AreInOrder n all) (places : Lis
       | inr e ↦ let f = before n all order i x lt is y k in let g = order.proper x here in absurd (omega (arith, e, f, g))
     ]
 
-    by_place : (o : Place) → place_at places x.register ≡ o → (y : Lasting) (r : ℕ) → Contains (take i all) y ⊎ (x ≡ y) → place_at places y.register ≡ InRegister r
+    by_place : (o : Place) → place_at places x.register ≡ o → (y : Lasting) (r : ℕ) → r < machine_registers → Contains (take i all) y ⊎ (x ≡ y) → place_at places y.register ≡ InRegister r
         → (slice_index_or (held_at o x hs) r None ≡ Some y) ⊎ IsOver (take i all ++ x ∷ []) y
-    by_place (Slot k) o y r (inl a) e = elim (h y r a e) [ inl f ↦ inl f | inr f ↦ inr (over_more y f) ]
-    by_place (Slot k) o y r (inr a) e = absurd (not_machine r k (sym o ∙ (ap (λ (z : Lasting). place_at places z.register) a ∙ e)))
-    by_place (InRegister q) o y r (inl a) e = by (cases_eq r q)
+    by_place (Slot k) o y r small (inl a) e = elim (h y r small a e) [ inl f ↦ inl f | inr f ↦ inr (over_more y f) ]
+    by_place (Slot k) o y r small (inr a) e = absurd (not_machine r k (sym o ∙ (ap (λ (z : Lasting). place_at places z.register) a ∙ e)))
+    by_place (InRegister q) o y r small (inl a) e = by (cases_eq r q)
       where
         by : (r ≡ q) ⊎ (r ≢ q) → (slice_index_or (slice_set hs q (Some x)) r None ≡ Some y) ⊎ IsOver (take i all ++ x ∷ []) y
         by (inl s) = inr (replaced q y a (e ∙ ap InRegister s) o)
-        by (inr d) = elim (h y r a e) [
+        by (inr d) = elim (h y r small a e) [
           | inl f ↦ inl (get_or-set_other hs q r (Some x) None d ∙ f)
           | inr f ↦ inr (over_more y f)
         ]
-    by_place (InRegister q) o y r (inr a) e =
+    by_place (InRegister q) o y r small (inr a) e =
         let same : r ≡ q = same_machine r q (sym e ∙ (ap (λ (z : Lasting). place_at places z.register) (sym a) ∙ o)) in
-        let small = machine x q here o in
-        inl (ap (λ m. slice_index_or (slice_set hs q (Some x)) m None) same ∙ (get_or-set_same hs q (Some x) None (omega (arith, size, small)) ∙ ap (λ (z : Lasting). Some z) a))
+        inl (ap (λ m. slice_index_or (slice_set hs q (Some x)) m None) same ∙ (get_or-set_same hs q (Some x) None (omega (arith, size, small, same)) ∙ ap (λ (z : Lasting). Some z) a))
 
     held_next : Held (i + 1) (held_by places x hs)
-    held_next = subst (λ l. (y : Lasting) (r : ℕ) → Contains l y → place_at places y.register ≡ InRegister r → (slice_index_or (held_by places x hs) r None ≡ Some y) ⊎ IsOver l y) (sym next)
-        (λ y r k e. by_place (place_at places x.register) refl y r (Contains-push_cases (take i all) x y k) e)
+    held_next = subst (λ l. (y : Lasting) (r : ℕ) → r < machine_registers → Contains l y → place_at places y.register ≡ InRegister r → (slice_index_or (held_by places x hs) r None ≡ Some y) ⊎ IsOver l y) (sym next)
+        (λ y r small k e. by_place (place_at places x.register) refl y r small (Contains-push_cases (take i all) x y k) e)
 
     size_by : (o : Place) → length (held_at o x hs) ≡ machine_registers
     size_by (InRegister q) = length-set hs q (Some x) ∙ size
@@ -153,16 +152,16 @@ module _ (n : ℕ) (all : List Lasting) (order : AreInOrder n all) (places : Lis
   begun_there p w s = begins p w.left s.index w.holders s.left s.size s.held s.early
 
   -- a call at p keeps what covers it
-  mask_keeps : (p : ℕ) (d : Option ℕ) (w : Sweep) → HasBegun p w → (x : Lasting) (q : ℕ) → Contains all x → x.first ≤ p → p ≤ x.last → d ≢ Some x.register → place_at places x.register ≡ InRegister q
+  mask_keeps : (p : ℕ) (d : Option ℕ) (w : Sweep) → HasBegun p w → (x : Lasting) (q : ℕ) → q < machine_registers → Contains all x → x.first ≤ p → p ≤ x.last → d ≢ Some x.register → place_at places x.register ≡ InRegister q
       → is_member (registers_of machine_registers (mask_below p d w.holders machine_registers)) q ≡ true
-  mask_keeps p d w b x q k first last other e =
+  mask_keeps p d w b x q small k first last other e =
       let s = b.swept in
       let cut = sym (take-append-drop s.index all) in
       let parts = Contains-append_cases (take s.index all) (drop s.index all) x (subst (λ l. Contains l x) cut k) in
       elim parts [
-        | inl a ↦ elim (s.held x q a e) [
+        | inl a ↦ elim (s.held x q small a e) [
           | inl f ↦
-              kept p d w.holders q (machine x q k e)
+              kept p d w.holders q small
               (ap (keeps p d) f ∙ and_from (nat_le p x.last) (not (names d x.register)) (le-leb p x.last last) (ap not (unnamed d x.register other)))
           | inr f ↦ let g = s.early f.0 f.1 in let o = f.2 in absurd (omega (arith, g, o, last))
         ]
@@ -246,15 +245,15 @@ module _ (n : ℕ) (all : List Lasting) (order : AreInOrder n all) (places : Lis
     index = 0;
     left = refl;
     size = length-replicate {A = Option Lasting} machine_registers None;
-    held = λ x q k e. absurd (omega (arith, k.1));
+    held = λ x q small k e. absurd (omega (arith, k.1));
     early = λ x k. absurd (omega (arith, k.1));
   }
 
   -- a call at the place p of these blocks keeps the machine register of a register whose interval covers p
   pub call_keeps : (bs : List (Block ℕ Note)) (p f : ℕ) (d : Option ℕ) (args : List (Operand ℕ)) (note : Note) (is : List (Instr ℕ Note)) (end : End ℕ) → Spot bs p (Call d f args note ∷ is) end
-      → (x : Lasting) (q : ℕ) → Contains all x → x.first ≤ p → p ≤ x.last → d ≢ Some x.register → place_at places x.register ≡ InRegister q
+      → (x : Lasting) (q : ℕ) → q < machine_registers → Contains all x → x.first ≤ p → p ≤ x.last → d ≢ Some x.register → place_at places x.register ≡ InRegister q
       → is_member (registers_of machine_registers (slice_index_or (blocks_masks places 0 (unswept all) bs) p 0)) q ≡ true
-  call_keeps bs p f d args note is end spot x q k first last other e =
+  call_keeps bs p f d args note is end spot x q small k first last other e =
       let b = block_at 0 (unswept all) bs spot.number spot.block spot.there swept_first in
       let c = mask_at (0 + place_of bs spot.number) b.sweep spot.block.code is (Call d f args note) spot.behind spot.code b.swept in
       let at = spot.at in
@@ -264,4 +263,4 @@ module _ (n : ℕ) (all : List Lasting) (order : AreInOrder n all) (places : Lis
       ∙ (b.masks_are spot.behind (rest_within spot.block.code is (Call d f args note) spot.behind spot.code)
       ∙ (c.mask ∙ ap (λ m. instr_mask places m c.sweep (Call d f args note)) here)) in
       let swept = subst (λ m. Swept m c.sweep) here c.swept in
-      ap (λ m. is_member (registers_of machine_registers m) q) mask ∙ mask_keeps p d (begun places p c.sweep) (begun_there p c.sweep swept) x q k first last other e
+      ap (λ m. is_member (registers_of machine_registers m) q) mask ∙ mask_keeps p d (begun places p c.sweep) (begun_there p c.sweep swept) x q small k first last other e

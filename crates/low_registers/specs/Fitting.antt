@@ -28,7 +28,7 @@ pub record IsMaskedPlacing (fn : Function ℕ Note) (order : List Lasting) (s : 
 
 pub record IsScannedPlacing (fn : Function ℕ Note) (order : List Lasting) (pl : Placing) : Type 0 where
   pub scan : Scan
-  pub scanned : Scanned fn.size order order scan
+  pub scanned : Scanned fn fn.size order order scan
   pub few : scan.slots ≤ fn.size
   pub masked : IsMaskedPlacing fn order scan pl
 

@@ -1,20 +1,17 @@
 -- The machine registers that calls keep.
-use Rattle.std.specs.Prelude.{ℕ, zero, suc, ◌+◌, ◌*◌, ◌%◌, ◌^◌, ◌==◌, ◌&&◌, not, nat_le, bit_or, Bool, false, if◌then◌else◌, List, [], ◌∷◌, ◌++◌, length, replicate, Option, Some, None, slice_index_or, slice_set}
+use Rattle.std.specs.Prelude.{ℕ, zero, suc, ◌+◌, ◌*◌, ◌%◌, ◌^◌, ◌&&◌, not, nat_le, bit_or, Bool, false, if◌then◌else◌, List, [], ◌∷◌, ◌++◌, length, replicate, Option, Some, None, slice_index_or, slice_set}
 use Rattle.low_ir.specs.declared.places.Place.{Place}
 use Rattle.low_ir.specs.declared.places.Place.TheVariants.{Register as InRegister, Slot}
 use Rattle.low_ir.specs.Code.{Instr, Do, Call, Block, Note}
 use Rattle.low_ir.specs.Places.{machine_registers}
 use Rattle.low_registers.specs.declared.order.Lasting.{Lasting}
+use Rattle.low_registers.specs.Briefs.{names}
 use Rattle.low_registers.specs.Scans.{place_at}
 
 -- by machine register, whose interval in it began last; and the intervals that are still to begin, in order
 pub record Sweep : Type 0 where
   pub holders : List (Option Lasting)
   pub left : List Lasting
-
-abbrev pub names : Option ℕ → ℕ → Bool
-names None v = false
-names (Some d) v = d == v
 
 -- a call at the place p whose value goes to d keeps the register of x
 abbrev pub keeps : ℕ → Option ℕ → Option Lasting → Bool

@@ -1,13 +1,15 @@
 -- A scan over the registers in the order in which their intervals begin.
-use Rattle.std.specs.Prelude.{◌≡◌, ◌≢◌, ◌⊎◌, ℕ, ◌+◌, ◌<◌, nat_lt, Bool, true, false, List, length, replicate, Option, Some, None, Contains, slice_index_or, slice_set}
+use Rattle.std.specs.Prelude.{◌≡◌, ◌≢◌, ◌⊎◌, ℕ, suc, ◌+◌, ◌<◌, nat_lt, Bool, true, false, List, length, replicate, Option, Some, None, Contains, slice_index_or, slice_set}
 use Rattle.low_ir.specs.declared.places.Place.{Place}
 use Rattle.low_ir.specs.declared.places.Place.TheVariants.{Register as InRegister, Slot}
+use Rattle.low_ir.specs.Code.{Function, Note}
 use Rattle.low_ir.specs.Live.{Has}
-use Rattle.low_ir.specs.Places.{machine_registers}
+use Rattle.low_ir.specs.Places.{machine_registers, result_register}
 use Rattle.low_ir.specs.Spacing.{is_inside}
 use Rattle.low_registers.specs.declared.order.Lasting.{Lasting}
 use Rattle.low_registers.specs.declared.choice.Choice.{Choice}
 use Rattle.low_registers.specs.declared.choice.Choice.TheVariants.{Free, Instead, InSlot}
+use Rattle.low_registers.specs.Briefs.{IsBrief}
 use Rattle.low_registers.specs.Spills.{AreDistinct}
 use Rattle.low_registers.specs.Orders.{AreApart, Covers, IsOver}
 
@@ -34,11 +36,15 @@ is_free s p q = is_over p (holder s q)
 abbrev pub AllTaken : Scan → ℕ → Type 0
 AllTaken s p = (q : ℕ) → q < machine_registers → is_free s p q ≡ false
 
--- a machine register that is free, or where none is, one that is taken from its holder, or a slot
-abbrev pub IsChoice : Scan → Lasting → Choice → Type 0
-IsChoice s x (Free q) = (q < machine_registers) × (is_free s x.first q ≡ true)
-IsChoice s x (Instead q) = (q < machine_registers) × AllTaken s x.first
-IsChoice s x InSlot = AllTaken s x.first
+-- a machine register that can hold a register: the result register only what is brief
+abbrev pub CanHold : Function ℕ Note → ℕ → Lasting → Type 0
+CanHold fn q x = (q < machine_registers) ⊎ ((q ≡ result_register) × IsBrief fn x)
+
+-- a machine register that is free; or where none is that lasts, one that is taken from its holder, or a slot
+abbrev pub IsChoice : Function ℕ Note → Scan → Lasting → Choice → Type 0
+IsChoice fn s x (Free q) = CanHold fn q x × (is_free s x.first q ≡ true)
+IsChoice fn s x (Instead q) = (q < machine_registers) × AllTaken s x.first
+IsChoice fn s x InSlot = AllTaken s x.first
 
 abbrev pub given : ℕ → Lasting → Scan → Scan
 given q x s = record { places = slice_set s.places x.register (InRegister q); holders = slice_set s.holders q (Some x); slots = s.slots }
@@ -62,7 +68,7 @@ followed InSlot x s = spilled x.register s
 
 -- no register has a place, which is then any machine register
 abbrev pub unplaced : ℕ → Scan
-unplaced n = record { places = replicate n (InRegister 0); holders = replicate machine_registers None; slots = 0 }
+unplaced n = record { places = replicate n (InRegister 0); holders = replicate (suc result_register) None; slots = 0 }
 
 -- registers whose intervals cover p, more than there are machine registers
 pub record AreCrowded (all : List Lasting) (p : ℕ) : Type 0 where
@@ -75,10 +81,11 @@ abbrev pub place_of : Scan → Lasting → Place
 place_of s x = place_at s.places x.register
 
 -- of all these, those that are done have places
-pub record Scanned (n : ℕ) (all done : List Lasting) (s : Scan) : Type 0 where
+pub record Scanned (fn : Function ℕ Note) (n : ℕ) (all done : List Lasting) (s : Scan) : Type 0 where
   pub size : length s.places ≡ n
-  pub machine : length s.holders ≡ machine_registers
+  pub machine : length s.holders ≡ suc result_register
   pub apart : (x y : Lasting) → Contains done x → Contains done y → x.register ≢ y.register → place_of s x ≡ place_of s y → AreApart x y
+  pub brief : (x : Lasting) → Contains done x → place_of s x ≡ InRegister result_register → IsBrief fn x
   -- who has a machine register, or had it before another one that began behind the end of its interval
   pub held : (x : Lasting) (q : ℕ) → Contains done x → place_of s x ≡ InRegister q → (holder s q ≡ Some x) ⊎ IsOver done x
   pub holds : (q : ℕ) (x : Lasting) → holder s q ≡ Some x → Contains done x × (place_of s x ≡ InRegister q)

@@ -46,7 +46,7 @@ fn placing_in(
     ensures { IfOk result (λ p. IsScannedPlacing (function_of function.now) order.now (placing_of p)) }
 {
     let tastes = Tastes::new(alloc, function, order, known)?;
-    let scan = scan_all(alloc, order, function.registers, &tastes)?;
+    let scan = scan_all(alloc, order, function, &tastes)?;
     let placing = masked(alloc, function, order, scan)?;
     Ok(placing)
 }

@@ -14,9 +14,11 @@
 #![tactic(auto)]
 
 mod allocation;
+mod briefs;
 mod choice;
 mod masks;
 mod order;
+mod results;
 mod scan;
 mod tastes;
 

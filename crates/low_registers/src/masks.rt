@@ -2,7 +2,8 @@
 ghost use Rattle.std.specs.Prelude.{◌≡◌, ◌++◌, ◌∷◌, [], List, drop, length, map, None, IfOk, OnOk};
 ghost use Rattle.low_ir.specs.Places.{machine_registers};
 ghost use Rattle.low_ir.specs.View.{block_of, instr_of};
-ghost use Rattle.low_registers.specs.Masks.{begun, begun_from, blocks_masks, code_masks, code_swept, held_at, instr_mask, instr_swept, keeps, mask_below, names, unswept};
+ghost use Rattle.low_registers.specs.Briefs.{names};
+ghost use Rattle.low_registers.specs.Masks.{begun, begun_from, blocks_masks, code_masks, code_swept, held_at, instr_mask, instr_swept, keeps, mask_below, unswept};
 ghost use Rattle.low_registers.specs.Views.{sweep_by, sweep_of};
 
 use super::order::Lasting;
@@ -37,7 +38,7 @@ fn hold(holders: &mut Vec<Option<Lasting>>, place: Place, new: Lasting)
     }
 }
 
-fn names(into: Option<u32>, register: u32) -> bool
+pub fn names(into: Option<u32>, register: u32) -> bool
     ensures { result ≡ names into register }
 {
     match into {

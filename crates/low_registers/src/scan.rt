@@ -1,20 +1,26 @@
 // A scan over the registers in the order in which their intervals begin.
-ghost use Rattle.std.specs.Prelude.{◌≡◌, ◌<◌, ◌≤◌, ◌+◌, ◌^◌, true, false, length, None, IfNone, IfOk, IfSome, slice_index_or, slice_set};
+ghost use Rattle.std.specs.Prelude.{◌≡◌, ◌<◌, ◌≤◌, ◌+◌, ◌^◌, ℕ, true, false, length, None, IfNone, IfOk, IfSome, slice_index_or, slice_set};
 ghost use Rattle.low_ir.specs.declared.places.Place.TheVariants as places;
+ghost use Rattle.low_ir.specs.Code.{Function, Note};
 ghost use Rattle.low_ir.specs.Places.{machine_registers};
+ghost use Rattle.low_ir.specs.View.{function_of};
+ghost use Rattle.low_registers.specs.Briefs.{IsBrief, blocks_turns};
 ghost use Rattle.low_registers.specs.Orders.{AreInOrder};
 ghost use Rattle.low_registers.specs.Scans.{AllTaken, IsChoice, Scanned, evicted, followed, given, is_free, is_over, place_at, spilled, unplaced};
 
+use super::briefs::{Turn, is_brief, turns};
 use super::choice::Choice;
 use super::order::Lasting;
 use super::tastes::{Tastes, has};
-use low_ir::{Place, Placing};
+use low_ir::{Function as Code, Place, Placing};
 use std::alloc::Global;
 use std::marker::Model;
 use wcc_base::Memory;
 
-/// How many machine registers hold values.
+/// How many machine registers can hold values over calls.
 const MACHINE: u8 = 24;
+/// One more, which can't.
+const RESULT: u8 = 24;
 
 /// The places so far. A register without an interval stands in no one's way, and may have any place.
 #[derive(Drop)]
@@ -85,7 +91,7 @@ impl Scan {
         ensures { IfOk result (λ s. s ≡ unplaced registers) }
     {
         let places = vec![in alloc; Place::Register(0); registers as usize]?;
-        let holders = vec![in alloc; None; usize::from(MACHINE)]?;
+        let holders = vec![in alloc; None; usize::from(RESULT) + 1]?;
         Ok(Scan {
             places,
             holders,
@@ -169,7 +175,7 @@ impl Scan {
 
     fn instead(&self, new: Lasting, tastes: &Tastes) -> Choice
         requires { AllTaken self.now new.first }
-        ensures { IsChoice self.now new result }
+        ensures { (code : Function ℕ Note) → IsChoice code self.now new result }
     {
         match self.cheapest(new, tastes) {
             Some(machine) => Choice::Instead(machine),
@@ -177,9 +183,14 @@ impl Scan {
         }
     }
 
-    fn choose(&self, new: Lasting, tastes: &Tastes) -> Choice
-        ensures { IsChoice self.now new result }
+    fn choose(&self, new: Lasting, tastes: &Tastes, brief: bool) -> Choice
+        ensures { (code : Function ℕ Note) → (brief ≡ true → IsBrief code new) → IsChoice code self.now new result }
     {
+        if brief {
+            if self.is_free(new.first, RESULT) {
+                return Choice::Free(RESULT);
+            }
+        }
         match self.free_for(new, tastes) {
             Some(machine) => Choice::Free(machine),
             None => self.instead(new, tastes),
@@ -255,20 +266,33 @@ impl Scan {
     }
 }
 
+/// Whether a register can have the result register, and that is best.
+fn is_liked(function: &Code, turns: &[Turn], tastes: &Tastes, each: Lasting) -> bool
+    requires { turns.now ≡ blocks_turns (function_of function.now).blocks }
+    ensures { result ≡ true → IsBrief (function_of function.now) each }
+{
+    if !tastes.likes_result(each.register) {
+        return false;
+    }
+    is_brief(function, turns, each)
+}
+
 /// Places for the registers of a function, in the order in which their intervals begin.
 pub fn scan_all(
     alloc: Global,
     order: &[Lasting],
-    registers: u32,
+    function: &Code,
     tastes: &Tastes,
 ) -> Result<Scan, Memory>
-    requires { AreInOrder registers order.now }
-    ensures scanned { IfOk result (Scanned registers order.now order.now) }
-    ensures slots { IfOk result (λ s. s.slots ≤ registers) }
+    requires { AreInOrder (function_of function.now).size order.now }
+    ensures scanned { IfOk result (Scanned (function_of function.now) (function_of function.now).size order.now order.now) }
+    ensures slots { IfOk result (λ s. s.slots ≤ (function_of function.now).size) }
 {
-    let mut scan = Scan::new(alloc, registers)?;
+    let turns = turns(alloc, function)?;
+    let mut scan = Scan::new(alloc, function.registers)?;
     for each in order {
-        let choice = scan.choose(*each, tastes);
+        let brief = is_liked(function, turns.as_slice(), tastes, *each);
+        let choice = scan.choose(*each, tastes, brief);
         scan.follow(choice, *each);
     }
     Ok(scan)

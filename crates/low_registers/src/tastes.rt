@@ -1,5 +1,6 @@
 // Which machine registers are good for a register, and how much it is used. Nothing is proved of it: any choice is right.
 use super::order::Lasting;
+use super::results::in_result;
 use super::scan::place_at;
 use low_ir::instruction::{Base, End, Instr, Operand};
 use low_ir::{Block, Function, Loop, Place, Placing};
@@ -40,10 +41,14 @@ pub struct Tastes {
     copies: Vec<u32>,
     /// Its interval, where it has one.
     intervals: Vec<Option<Lasting>>,
+    /// Whether it is a parameter.
+    passed: Vec<bool>,
     /// By place of the code, how many calls are before.
     calls: Vec<u32>,
     /// The machine registers that calls may change.
     changed: u32,
+    /// Whether it is best in the result register.
+    results: Vec<bool>,
 }
 
 fn bit(machine: u8) -> u32 {
@@ -110,6 +115,16 @@ fn depths(alloc: Global, loops: &[Loop], blocks: usize) -> Result<Vec<u32>, Memo
         depth = depth.wrapping_sub(number_at(&closed, block));
     }
     Ok(depths)
+}
+
+/// By block, how much a use counts there.
+pub fn worths(alloc: Global, function: &Function) -> Result<Vec<u64>, Memory> {
+    let depths = depths(alloc, &function.loops, function.blocks.len())?;
+    let mut worths = Vec::new(alloc);
+    for depth in &depths {
+        worths.push(worth_at(*depth))?;
+    }
+    Ok(worths)
 }
 
 /// By register, its interval.
@@ -330,14 +345,35 @@ impl Tastes {
             sources: vec![in alloc; NO_REGISTER; registers]?,
             copies: vec![in alloc; NO_REGISTER; registers]?,
             intervals: intervals_of(alloc, order, registers)?,
+            passed: vec![in alloc; false; registers]?,
             calls: vec![in alloc; 0u32; 1]?,
             changed: known.changed_by(&function.blocks),
+            results: Vec::new(alloc),
         };
+        for register in &function.parameters {
+            tastes.pass_in(*register);
+        }
         let depths = depths(alloc, &function.loops, function.blocks.len())?;
         for (number, block) in function.blocks.iter().enumerate() {
             tastes.read_block(known, block, worth_at(number_at(&depths, number)))?;
         }
+        let results = in_result(alloc, function, order, &tastes)?;
+        tastes.results = results;
         Ok(tastes)
+    }
+
+    /// No machine register is better for it than others.
+    pub fn is_plain(&self, register: u32) -> bool {
+        number_at(&self.wished, register as usize) == 0
+            && number_or_none(&self.sources, register) == NO_REGISTER
+            && number_or_none(&self.copies, register) == NO_REGISTER
+    }
+
+    pub fn likes_result(&self, register: u32) -> bool {
+        match self.results.get(register as usize) {
+            None => false,
+            Some(likes) => *likes,
+        }
     }
 
     fn uses(&self, register: u32) -> u64 {
@@ -379,8 +415,23 @@ impl Tastes {
         }
     }
 
+    fn pass_in(&mut self, parameter: u32) {
+        if let Some(passed) = self.passed.get_mut(parameter as usize) {
+            *passed = true;
+        }
+    }
+
+    fn is_passed(&self, register: u32) -> bool {
+        match self.passed.get(register as usize) {
+            None => false,
+            Some(passed) => *passed,
+        }
+    }
+
+    /// A call in which an interval begins gives the register its value, but where that is a parameter, which has it before.
     fn lives_over_call(&self, interval: Lasting) -> bool {
-        let before = number_at(&self.calls, interval.first.wrapping_add(1));
+        let written = if self.is_passed(interval.register) { 0 } else { 1 };
+        let before = number_at(&self.calls, interval.first.wrapping_add(written));
         let behind = number_at(&self.calls, interval.last.wrapping_add(1));
         before != behind
     }

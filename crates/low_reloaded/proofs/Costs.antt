@@ -4,30 +4,23 @@ use Rattle.std.specs.Prelude.{slice_get, sum_by}
 use Rattle.std.specs.List.{AllZip}
 use Rattle.std.proofs.Math.Nat.{mul-le-mul_left}
 use Rattle.std.proofs.lemmas.List.Sums.{sum_by-cons}
-use Rattle.low_ir.specs.declared.object.Kind.{Kind}
-use Rattle.low_ir.specs.Code.{Register, Base, Fixed, Through, Address, Set, Load, Instr, Do, Call, Block, Loop, Function, Low, Note}
-use Rattle.low_ir.specs.Room.{access_room, block_room, called, end_room, function_room, instr_room, marks_once, reaches, repeated, repeated_in, times, weight, weights}
-use Rattle.low_reloaded.specs.Facts.{Known}
-use Rattle.low_reloaded.specs.Reloads.{Becomes, BlockReloaded, Code, Follows, FunctionReloaded, IsReload, IsReloaded}
+use Rattle.low_ir.specs.Code.{Register, Set, Instr, Do, Call, End, Block, Loop, Function, Low, Note}
+use Rattle.low_ir.specs.Room.{block_room, called, end_room, function_room, instr_room, marks_once, reaches, repeated, repeated_in, times, weight, weights}
+use Rattle.low_reloaded.specs.Facts.{Known, giving}
+use Rattle.low_reloaded.proofs.Giving.{giving_room}
+use Rattle.low_reloaded.specs.Reloads.{Becomes, Beginnings, Code, Follows, FunctionReloaded, IsReload, IsReloaded}
+use Rattle.low_reloaded.proofs.Blocks.{SomeReloaded, reloaded_blocks}
 use Rattle.low_reloaded.specs.Laws.{CostsNoMore}
 
 -- a load takes at least as much as a copy
-access_some : (base : Base ℕ) (offset : Option ℕ) (n : ℕ) → 1 ≤ access_room base offset n
-access_some (Fixed o) None n = omega arith
-access_some (Fixed o) (Some r) n = omega arith
-access_some (Through r claim) offset n = omega arith
-
-load_room : (kind : Kind) (d r : ℕ) (a : Address ℕ) → instr_room {R = ℕ} {K = Note} (Do (Set d (Register r))) ≤ instr_room {R = ℕ} {K = Note} (Do (Load kind d a))
-load_room kind d r a = let k = access_some a.base a.offset a.displacement in omega arith
-
 became_room : (known : Known) (i new : Instr ℕ Note) → Becomes known i new → instr_room new ≤ instr_room i
 became_room known i new becomes =
     ⊎_elim
     (λ (same : new ≡ i). let e : instr_room new ≡ instr_room i = ap instr_room same in omega arith)
     (λ (c : IsReload known i new).
     let e : instr_room new ≡ instr_room {R = ℕ} {K = Note} (Do (Set c.into (Register c.fact.register))) = ap instr_room c.becomes in
-    let f : instr_room i ≡ instr_room {R = ℕ} {K = Note} (Do (Load c.fact.kind c.into c.fact.address)) = ap instr_room c.is in
-    let k = load_room c.fact.kind c.into c.fact.register c.fact.address in
+    let f : instr_room i ≡ instr_room {R = ℕ} {K = Note} (Do (giving c.into c.fact.source)) = ap instr_room c.is in
+    let k = giving_room c.into c.fact.register c.fact.source in
     omega arith)
     becomes
 
@@ -53,50 +46,50 @@ called_eq f g eq (Call d h args note) = ap (λ n. n + 0) (eq h)
 
 module _ (claims : List (List ℕ)) where
   -- the room of a block's rest
-  code_room : (is : Code) (known : Known) (js : Code) → Follows claims is known js → sum_by instr_room js ≤ sum_by instr_room is
-  code_room [] known js h =
-      let e : sum_by instr_room js ≡ 0 = ap (sum_by instr_room) h in
+  code_room : (out : Beginnings) (end : End ℕ) (is : Code) (known : Known) (js : Code) → Follows claims out end is known js → sum_by instr_room js ≤ sum_by instr_room is
+  code_room out end [] known js h =
+      let e : sum_by instr_room js ≡ 0 = ap (sum_by instr_room) h.0 in
       omega arith
-  code_room (i ∷ is) known js h =
+  code_room out end (i ∷ is) known js h =
       let whole = sum_by-cons instr_room i is in
-      let k = code_room is h.now h.behind h.goes_on in
+      let k = code_room out end is h.now h.behind h.goes_on in
       let e : sum_by instr_room js ≡ instr_room h.new + sum_by instr_room h.behind = ap (sum_by instr_room) h.is ∙ sum_by-cons instr_room h.new h.behind in
       let l = became_room known i h.new h.becomes in
       omega arith
 
-  code_called : (f g : ℕ → ℕ) → ((n : ℕ) → f n ≤ g n) → (is : Code) (known : Known) (js : Code) → Follows claims is known js → called f js ≤ called g is
-  code_called f g le [] known js h =
-      let e : called f js ≡ 0 = ap (called f) h in
+  code_called : (f g : ℕ → ℕ) → ((n : ℕ) → f n ≤ g n) → (out : Beginnings) (end : End ℕ) (is : Code) (known : Known) (js : Code) → Follows claims out end is known js → called f js ≤ called g is
+  code_called f g le out end [] known js h =
+      let e : called f js ≡ 0 = ap (called f) h.0 in
       omega arith
-  code_called f g le (i ∷ is) known js h =
-      let k = code_called f g le is h.now h.behind h.goes_on in
+  code_called f g le out end (i ∷ is) known js h =
+      let k = code_called f g le out end is h.now h.behind h.goes_on in
       let e : called f js ≡ called f (i ∷ []) + called f h.behind = ap (called f) h.is ∙ called_cons f h.new h.behind ∙ ap (λ n. n + called f h.behind) (became_called f known i h.new h.becomes) in
       let l = called_le f g le i in
       let m = called_cons g i is in
       omega arith
 
-  code_called_same : (f g : ℕ → ℕ) → ((n : ℕ) → f n ≡ g n) → (is : Code) (known : Known) (js : Code) → Follows claims is known js → called f js ≡ called g is
-  code_called_same f g eq [] known js h = ap (called f) h
-  code_called_same f g eq (i ∷ is) known js h =
-      let k = code_called_same f g eq is h.now h.behind h.goes_on in
+  code_called_same : (f g : ℕ → ℕ) → ((n : ℕ) → f n ≡ g n) → (out : Beginnings) (end : End ℕ) (is : Code) (known : Known) (js : Code) → Follows claims out end is known js → called f js ≡ called g is
+  code_called_same f g eq out end [] known js h = ap (called f) h.0
+  code_called_same f g eq out end (i ∷ is) known js h =
+      let k = code_called_same f g eq out end is h.now h.behind h.goes_on in
       let e : called f js ≡ called f (i ∷ []) + called f h.behind = ap (called f) h.is ∙ called_cons f h.new h.behind ∙ ap (λ n. n + called f h.behind) (became_called f known i h.new h.becomes) in
       let l = called_eq f g eq i in
       let m = called_cons g i is in
       omega arith
 
-  block_room_le : (b c : Block ℕ Note) → BlockReloaded claims b c → block_room c ≤ block_room b
-  block_room_le b c h =
-      let k = code_room b.code h.known c.code h.code in
-      let e : end_room c.end ≡ end_room b.end = ap end_room h.end in
+  block_room_le : (out : Beginnings) (b c : Block ℕ Note) → SomeReloaded claims out b c → block_room c ≤ block_room b
+  block_room_le out b c h =
+      let k = code_room out b.end b.code (out h.number) c.code h.reloaded.code in
+      let e : end_room c.end ≡ end_room b.end = ap end_room h.reloaded.end in
       omega arith
 
-  blocks_room : (bs cs : List (Block ℕ Note)) → AllZip (BlockReloaded claims) bs cs → sum_by block_room cs ≤ sum_by block_room bs
-  blocks_room [] [] h = omega arith
-  blocks_room [] (c ∷ cs) h = absurd h
-  blocks_room (b ∷ bs) [] h = absurd h
-  blocks_room (b ∷ bs) (c ∷ cs) h =
-      let k = blocks_room bs cs h.1 in
-      let l = block_room_le b c h.0 in
+  blocks_room : (out : Beginnings) (bs cs : List (Block ℕ Note)) → AllZip (SomeReloaded claims out) bs cs → sum_by block_room cs ≤ sum_by block_room bs
+  blocks_room out [] [] h = omega arith
+  blocks_room out [] (c ∷ cs) h = absurd h
+  blocks_room out (b ∷ bs) [] h = absurd h
+  blocks_room out (b ∷ bs) (c ∷ cs) h =
+      let k = blocks_room out bs cs h.1 in
+      let l = block_room_le out b c h.0 in
       let e = sum_by-cons block_room b bs in
       let f = sum_by-cons block_room c cs in
       omega arith
@@ -107,44 +100,44 @@ module _ (claims : List (List ℕ)) where
   functions_room (f ∷ fs) [] h = absurd h
   functions_room (f ∷ fs) (g ∷ gs) h =
       let k = functions_room fs gs h.1 in
-      let l = blocks_room f.blocks g.blocks h.0.blocks in
+      let l = blocks_room h.0.out f.blocks g.blocks (reloaded_blocks claims f g h.0) in
       let e = sum_by-cons function_room f fs in
       let i = sum_by-cons function_room g gs in
       omega arith
 
   -- blocks as often as they may start, where each is worth no more
-  module _ (f g : Block ℕ Note → ℕ) (le : (b c : Block ℕ Note) → BlockReloaded claims b c → f c ≤ g b) where
-    repeated_le : (loops : List Loop) (k : ℕ) (bs cs : List (Block ℕ Note)) → AllZip (BlockReloaded claims) bs cs → repeated f loops k cs ≤ repeated g loops k bs
-    repeated_le loops k [] [] h = omega arith
-    repeated_le loops k [] (c ∷ cs) h = absurd h
-    repeated_le loops k (b ∷ bs) [] h = absurd h
-    repeated_le loops k (b ∷ bs) (c ∷ cs) h =
-        let one : times loops k * f c ≤ times loops k * g b = mul-le-mul_left (times loops k) (le b c h.0) in
-        let more = repeated_le loops (suc k) bs cs h.1 in
+  module _ (f g : Block ℕ Note → ℕ) (le : (out : Beginnings) (b c : Block ℕ Note) → SomeReloaded claims out b c → f c ≤ g b) where
+    repeated_le : (out : Beginnings) (loops : List Loop) (k : ℕ) (bs cs : List (Block ℕ Note)) → AllZip (SomeReloaded claims out) bs cs → repeated f loops k cs ≤ repeated g loops k bs
+    repeated_le out loops k [] [] h = omega arith
+    repeated_le out loops k [] (c ∷ cs) h = absurd h
+    repeated_le out loops k (b ∷ bs) [] h = absurd h
+    repeated_le out loops k (b ∷ bs) (c ∷ cs) h =
+        let one : times loops k * f c ≤ times loops k * g b = mul-le-mul_left (times loops k) (le out b c h.0) in
+        let more = repeated_le out loops (suc k) bs cs h.1 in
         omega arith
 
     function_le : (fs gs : List (Function ℕ Note)) → AllZip (FunctionReloaded claims) fs gs → (n : ℕ) → repeated_in f (slice_get gs n) ≤ repeated_in g (slice_get fs n)
     function_le [] [] h n = omega arith
     function_le [] (y ∷ gs) h n = absurd h
     function_le (x ∷ fs) [] h n = absurd h
-    function_le (x ∷ fs) (y ∷ gs) h zero = subst (λ ls. repeated f ls 0 y.blocks ≤ repeated g x.loops 0 x.blocks) (sym h.0.loops) (repeated_le x.loops 0 x.blocks y.blocks h.0.blocks)
+    function_le (x ∷ fs) (y ∷ gs) h zero = subst (λ ls. repeated f ls 0 y.blocks ≤ repeated g x.loops 0 x.blocks) (sym h.0.loops) (repeated_le h.0.out x.loops 0 x.blocks y.blocks (reloaded_blocks claims x y h.0))
     function_le (x ∷ fs) (y ∷ gs) h (suc n) = function_le fs gs h.1 n
 
   -- and where each is worth the same
-  module _ (f g : Block ℕ Note → ℕ) (eq : (b c : Block ℕ Note) → BlockReloaded claims b c → f c ≡ g b) where
-    repeated_eq : (loops : List Loop) (k : ℕ) (bs cs : List (Block ℕ Note)) → AllZip (BlockReloaded claims) bs cs → repeated f loops k cs ≡ repeated g loops k bs
-    repeated_eq loops k [] [] h = refl
-    repeated_eq loops k [] (c ∷ cs) h = absurd h
-    repeated_eq loops k (b ∷ bs) [] h = absurd h
-    repeated_eq loops k (b ∷ bs) (c ∷ cs) h =
-        ap (λ n. times loops k * n + repeated f loops (suc k) cs) (eq b c h.0)
-        ∙ ap (λ n. times loops k * g b + n) (repeated_eq loops (suc k) bs cs h.1)
+  module _ (f g : Block ℕ Note → ℕ) (eq : (out : Beginnings) (b c : Block ℕ Note) → SomeReloaded claims out b c → f c ≡ g b) where
+    repeated_eq : (out : Beginnings) (loops : List Loop) (k : ℕ) (bs cs : List (Block ℕ Note)) → AllZip (SomeReloaded claims out) bs cs → repeated f loops k cs ≡ repeated g loops k bs
+    repeated_eq out loops k [] [] h = refl
+    repeated_eq out loops k [] (c ∷ cs) h = absurd h
+    repeated_eq out loops k (b ∷ bs) [] h = absurd h
+    repeated_eq out loops k (b ∷ bs) (c ∷ cs) h =
+        ap (λ n. times loops k * n + repeated f loops (suc k) cs) (eq out b c h.0)
+        ∙ ap (λ n. times loops k * g b + n) (repeated_eq out loops (suc k) bs cs h.1)
 
     function_eq : (fs gs : List (Function ℕ Note)) → AllZip (FunctionReloaded claims) fs gs → (n : ℕ) → repeated_in f (slice_get gs n) ≡ repeated_in g (slice_get fs n)
     function_eq [] [] h n = refl
     function_eq [] (y ∷ gs) h n = absurd h
     function_eq (x ∷ fs) [] h n = absurd h
-    function_eq (x ∷ fs) (y ∷ gs) h zero = ap (λ ls. repeated f ls 0 y.blocks) h.0.loops ∙ repeated_eq x.loops 0 x.blocks y.blocks h.0.blocks
+    function_eq (x ∷ fs) (y ∷ gs) h zero = ap (λ ls. repeated f ls 0 y.blocks) h.0.loops ∙ repeated_eq h.0.out x.loops 0 x.blocks y.blocks (reloaded_blocks claims x y h.0)
     function_eq (x ∷ fs) (y ∷ gs) h (suc n) = function_eq fs gs h.1 n
 
   module _ (fs gs : List (Function ℕ Note)) (h : AllZip (FunctionReloaded claims) fs gs) where
@@ -155,9 +148,9 @@ module _ (claims : List (List ℕ)) where
         let v = weights fs n in
         let k =
         function_le (λ b. block_room b + called w b.code) (λ b. block_room b + called v b.code)
-        (λ b c r.
-        let one = block_room_le b c r in
-        let more = code_called w v (weights_le n) b.code r.known c.code r.code in
+        (λ out b c r.
+        let one = block_room_le out b c r in
+        let more = code_called w v (weights_le n) out b.end b.code (out r.number) c.code r.reloaded.code in
         omega arith)
         fs gs h f in
         omega arith
@@ -168,9 +161,9 @@ module _ (claims : List (List ℕ)) where
         let w = reaches gs mark n in
         let v = reaches fs mark n in
         function_eq (λ b. marks_once b.mark mark + called w b.code) (λ b. marks_once b.mark mark + called v b.code)
-        (λ b c r.
-        ap (λ m. marks_once m mark + called w c.code) r.mark
-        ∙ ap (λ m. marks_once b.mark mark + m) (code_called_same w v (reaches_same mark n) b.code r.known c.code r.code))
+        (λ out b c r.
+        ap (λ m. marks_once m mark + called w c.code) r.reloaded.mark
+        ∙ ap (λ m. marks_once b.mark mark + m) (code_called_same w v (reaches_same mark n) out b.end b.code (out r.number) c.code r.reloaded.code))
         fs gs h f
 
 pub costs : (p q : Low) → IsReloaded p q → CostsNoMore p q

@@ -12,7 +12,7 @@ use Rattle.low_ir.specs.Code.{Address, Operand, Plain, Set, Operate, Point, Load
 use Rattle.low_ir.specs.declared.run.Value.{Value}
 use Rattle.low_ir.specs.declared.run.Value.TheVariants.{Word, Pointer}
 use Rattle.low_ir.specs.Effects.{Contents, Did, World, can_store, changes, effect, effect_of, element, gives, got, is_element, loaded, next_byte, nothing_more, only_if, put, resolved, stored, takes, there, with_element, with_objects, with_one, word}
-use Rattle.low_reloaded.specs.Facts.{AreApart, Fact, SparesElement, Touches}
+use Rattle.low_reloaded.specs.Facts.{AreApart, Loads, SparesElement, Touches}
 use Rattle.low_reloaded.proofs.Places.{Leads, Nowhere, Somewhere, Way, way}
 
 pub some_same : {A : Type 0} (x y : A) → Some x ≡ Some y → x ≡ y
@@ -99,26 +99,26 @@ get-set_other (y ∷ ys) (suc i) zero x other = refl
 get-set_other (y ∷ ys) (suc i) (suc j) x other = get-set_other ys i j x (λ e. other (ap suc e))
 
 -- arrays whose accesses are apart are two
-two_arrays : (claims : List (List ℕ)) (objects now : List Contents) (f : Fact) (kind : Kind) (a : Address ℕ) (o n w x m v : ℕ) → AreApart claims f.kind f.address.base kind a.base → loaded objects f.kind o n ≡ Some w → IsStored objects now kind x m v → Touches claims f.address.base o → Touches claims a.base x → o ≡ x → ⊥
-two_arrays claims objects now f kind a o n w x m v apart e s here there same =
+two_arrays : (claims : List (List ℕ)) (objects now : List Contents) (held : Kind) (at : Address ℕ) (kind : Kind) (a : Address ℕ) (o n w x m v : ℕ) → AreApart claims held at.base kind a.base → loaded objects held o n ≡ Some w → IsStored objects now kind x m v → Touches claims at.base o → Touches claims a.base x → o ≡ x → ⊥
+two_arrays claims objects now held at kind a o n w x m v apart e s here there same =
     ⊎_elim
-    (λ (kinds : same_kind f.kind kind ≡ false).
-    let l = is_loaded objects f.kind o n w e in
+    (λ (kinds : same_kind held kind ≡ false).
+    let l = is_loaded objects held o n w e in
     let one : l.contents ≡ s.contents = some_same l.contents s.contents (sym l.there ∙ ap (slice_get objects) same ∙ s.there) in
-    let both : kind_number f.kind ≡ kind_number kind = sym l.alike ∙ ap (λ (c : Contents). kind_number c.kind) one ∙ has_kind kind m s.contents s.element in
-    unlike (kind_number f.kind) (kind_number kind) both kinds)
-    (λ (none : (o : ℕ) → Touches claims f.address.base o → Touches claims a.base o → ⊥). none x (subst (Touches claims f.address.base) same here) there)
+    let both : kind_number held ≡ kind_number kind = sym l.alike ∙ ap (λ (c : Contents). kind_number c.kind) one ∙ has_kind kind m s.contents s.element in
+    unlike (kind_number held) (kind_number kind) both kinds)
+    (λ (none : (o : ℕ) → Touches claims at.base o → Touches claims a.base o → ⊥). none x (subst (Touches claims at.base) same here) there)
     apart
   where
     unlike : (i j : ℕ) → i ≡ j → (i == j) ≡ false → ⊥
     unlike i j e k = grind (arith, nat_tests)
 
 -- what a store leaves as it is
-stored_keeps : (claims : List (List ℕ)) (objects now : List Contents) (f : Fact) (kind : Kind) (a : Address ℕ) (o n w x m v : ℕ) → AreApart claims f.kind f.address.base kind a.base → stored objects kind x m v ≡ Some now → Touches claims f.address.base o → Touches claims a.base x → loaded objects f.kind o n ≡ Some w → loaded now f.kind o n ≡ Some w
-stored_keeps claims objects now f kind a o n w x m v apart e here touches is =
+stored_keeps : (claims : List (List ℕ)) (objects now : List Contents) (held : Kind) (at : Address ℕ) (kind : Kind) (a : Address ℕ) (o n w x m v : ℕ) → AreApart claims held at.base kind a.base → stored objects kind x m v ≡ Some now → Touches claims at.base o → Touches claims a.base x → loaded objects held o n ≡ Some w → loaded now held o n ≡ Some w
+stored_keeps claims objects now held at kind a o n w x m v apart e here touches is =
     let s = is_stored objects now kind x m v e in
-    let other = get-set_other objects x o s.new (two_arrays claims objects now f kind a o n w x m v apart is s here touches) in
-    ap (λ c. there c (element f.kind n)) (ap (λ objects. slice_get objects o) s.is ∙ other) ∙ is
+    let other = get-set_other objects x o s.new (two_arrays claims objects now held at kind a o n w x m v apart is s here touches) in
+    ap (λ c. there c (element held n)) (ap (λ objects. slice_get objects o) s.is ∙ other) ∙ is
 
 -- what was stored is loaded
 pub stored_loads : (objects now : List Contents) (kind : Kind) (o n w : ℕ) → stored objects kind o n w ≡ Some now → loaded now kind o n ≡ Some (converted kind w)
@@ -146,12 +146,12 @@ one_given (x ∷ []) u did e = ap (λ (d : Did). d.world) (some_same (record { w
 one_given (x ∷ y ∷ xs) u did e = cc
 
 -- what an instruction leaves as it is
-module _ (claims : List (List ℕ)) (u : World) (did : Did) (f : Fact) (o n w : ℕ) (touches : Touches claims f.address.base o) (is : loaded u.objects f.kind o n ≡ Some w) where
+module _ (claims : List (List ℕ)) (u : World) (did : Did) (held : Kind) (at : Address ℕ) (r o n w : ℕ) (touches : Touches claims at.base o) (is : loaded u.objects held o n ≡ Some w) where
   abbrev Stays : Type 0
-  Stays = loaded did.world.objects f.kind o n ≡ Some w
+  Stays = loaded did.world.objects held o n ≡ Some w
 
   same_stays : u.objects ≡ did.world.objects → Stays
-  same_stays e = subst (λ objects. loaded objects f.kind o n ≡ Some w) e is
+  same_stays e = subst (λ objects. loaded objects held o n ≡ Some w) e is
 
   given : (now : World) (x : Value) → gives now x ≡ Some did → now ≡ did.world
   given now x e = ap (λ (d : Did). d.world) (some_same (record { world = now; value = x }) did e)
@@ -174,14 +174,14 @@ module _ (claims : List (List ℕ)) (u : World) (did : Did) (f : Fact) (o n w : 
       let t = there_is (loaded u.objects kind x m) (λ v. gives u (Word v)) did (sym (l.goes (load_from u kind)) ∙ e) in
       same_stays (ap (λ (v : World). v.objects) (given u (Word t.value) t.goes))
 
-  store_stays : (kind : Kind) (a : Address ℕ) (v : ℕ) (os : Option (List Value)) → AreApart claims f.kind f.address.base kind a.base → Way claims a os → there os (λ xs. resolved claims a xs (store_to u kind v)) ≡ Some did → Stays
+  store_stays : (kind : Kind) (a : Address ℕ) (v : ℕ) (os : Option (List Value)) → AreApart claims held at.base kind a.base → Way claims a os → there os (λ xs. resolved claims a xs (store_to u kind v)) ≡ Some did → Stays
   store_stays kind a v os apart (Nowhere none) e = absurd (none_some did (sym (none (store_to u kind v)) ∙ e))
   store_stays kind a v os apart (Somewhere x m l) e =
       let t = there_is (stored u.objects kind x m v) (λ objects. changes (with_objects u objects)) did (sym (l.goes (store_to u kind v)) ∙ e) in
-      subst (λ objects. loaded objects f.kind o n ≡ Some w) (ap (λ (z : World). z.objects) (given (with_objects u t.value) (Word 0) t.goes))
-      (stored_keeps claims u.objects t.value f kind a o n w x m v apart t.is touches l.touches is)
+      subst (λ objects. loaded objects held o n ≡ Some w) (ap (λ (z : World). z.objects) (given (with_objects u t.value) (Word 0) t.goes))
+      (stored_keeps claims u.objects t.value held at kind a o n w x m v apart t.is touches l.touches is)
 
-  stores_stay : (kind : Kind) (a : Address ℕ) (x : Operand ℕ) (xs : List Value) → AreApart claims f.kind f.address.base kind a.base → effect claims (Store kind a x) xs u ≡ Some did → Stays
+  stores_stay : (kind : Kind) (a : Address ℕ) (x : Operand ℕ) (xs : List Value) → AreApart claims held at.base kind a.base → effect claims (Store kind a x) xs u ≡ Some did → Stays
   stores_stay kind a x [] apart e = cc
   stores_stay kind a x (Word v ∷ xs) apart e = store_stays kind a v (Some xs) apart (way claims a (Some xs)) e
   stores_stay kind a x (Pointer m l ∷ xs) apart e = cc
@@ -192,7 +192,7 @@ module _ (claims : List (List ℕ)) (u : World) (did : Did) (f : Fact) (o n w : 
   put_stays x (Pointer m l ∷ []) e = cc
   put_stays x (a ∷ b ∷ xs) e = cc
 
-  pub effect_stays : (i : Plain ℕ) (os : Option (List Value)) → SparesElement claims i f → effect_of claims i os u ≡ Some did → Stays
+  pub effect_stays : (i : Plain ℕ) (os : Option (List Value)) → SparesElement claims i (record { source = Loads held at; register = r }) → effect_of claims i os u ≡ Some did → Stays
   effect_stays i None h e = cc
   effect_stays (Set d x) (Some xs) h e = same_stays (ap (λ (v : World). v.objects) (one_given xs u did e))
   effect_stays (Operate operator d x y) (Some xs) h e = operate_stays operator d x y xs e

@@ -1,4 +1,6 @@
 pub mod Lists
+pub mod Giving
+pub mod Blocks
 pub mod Places
 pub mod Effects
 pub mod Words

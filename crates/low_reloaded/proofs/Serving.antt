@@ -1,10 +1,10 @@
 -- The run with copies in place of loads is the same run, step by step.
-use Rattle.std.proofs.Common.{◌≡◌, ◌<◌, ℕ, zero, suc, Bool, true, false, List, [], ◌∷◌, Option, Some, None, refl, sym, ap, ◌∙◌, subst, ⊎_elim}
+use Rattle.std.proofs.Common.{◌≡◌, ◌<◌, ℕ, zero, suc, Bool, true, false, List, [], ◌∷◌, Option, Some, None, refl, sym, ap, ◌∙◌, subst, ⊎_elim, inl, inr}
 use Rattle.std.specs.Prelude.{All, ◌^◌, if◌then◌else◌, nat_lt, slice_get}
 use Rattle.std.specs.List.{AllZip}
 use Rattle.rv_core.specs.declared.row.Condition.{Condition}
 use Rattle.rv_core.specs.Arithmetic.{holds}
-use Rattle.low_ir.specs.Code.{Operand, Register, Plain, Set, Load, Instr, Do, Call, End, Jump, Branch, Return, Block, Function, Low, Note}
+use Rattle.low_ir.specs.Code.{Operand, Register, Plain, Set, Instr, Do, Call, End, Jump, Branch, Return, Block, Function, Low, Note}
 use Rattle.low_ir.specs.declared.run.Began.{Began}
 use Rattle.low_ir.specs.declared.run.Value.{Value}
 use Rattle.low_ir.specs.declared.run.Value.TheVariants.{Word, Pointer}
@@ -12,10 +12,12 @@ use Rattle.low_ir.specs.Effects.{World, Did, start, reads, dest, effect_of}
 use Rattle.low_ir.specs.Runs.{Going, Done, Bad, Bank, operand_value, values, write_to, goes_on, finish, enter, block_in, went_to, write_all, begin, only_where, waiting, call, at_instr, come_back, give_back, chosen, branches, at_end, at_code, step, run, first, first_in, lrun, virtual}
 use Rattle.low_ir.specs.Turns.{IsGood, KeepsLoop, KeepsLoops}
 use Rattle.low_reloaded.proofs.Lists.{before, found}
-use Rattle.low_reloaded.specs.Facts.{Fact, Known, Knows, KnowsNothing, Learns}
-use Rattle.low_reloaded.specs.Reloads.{Becomes, BlockReloaded, Code, Follows, FunctionReloaded, IsReload, IsReloaded, Steps}
+use Rattle.low_reloaded.proofs.Giving.{dest_giving}
+use Rattle.low_reloaded.proofs.Blocks.{found_block}
+use Rattle.low_reloaded.specs.Facts.{Fact, Known, Knows, KnowsNothing, Learns, giving}
+use Rattle.low_reloaded.specs.Reloads.{Becomes, Code, Follows, FunctionReloaded, Hands, IsReload, IsReloaded, Steps}
 use Rattle.low_reloaded.proofs.Small.{LowRun, LowRunning, LowWaiting, SmallBank, SmallRun, first_small, step_small}
-use Rattle.low_reloaded.proofs.Truth.{AreTrue, copy_loads, learned, none_true}
+use Rattle.low_reloaded.proofs.Truth.{AreTrue, copy_gives, learned, none_true, traced}
 
 abbrev LowFunction : Type 0
 LowFunction = Function ℕ Note
@@ -25,13 +27,27 @@ abbrev running : LowRunning → Code → List LowWaiting → LowRunning
 running r code ws = record { top = record { func = r.top.func; code = code; end = r.top.end; store = r.top.store }; below = ws; world = r.world }
 
 module _ (p q : Low) (reloaded : IsReloaded p q) where
+  -- a function, and what became of it
+  record Two (func : ℕ) : Type 0 where
+    fn : LowFunction
+    gn : LowFunction
+    there : slice_get p.functions func ≡ Some fn
+    other : slice_get q.functions func ≡ Some gn
+    same : FunctionReloaded p.claims fn gn
+
+  two : (f : ℕ) (fn : LowFunction) → slice_get p.functions f ≡ Some fn → Two f
+  two f fn e =
+      let k = found (FunctionReloaded p.claims) p.functions q.functions f fn reloaded.functions e in
+      record { fn = fn; gn = k.it; there = e; other = k.there; same = k.related }
+
   -- an activation that waits; nothing is known when its call comes back
   record Pending (w u : LowWaiting) : Type 0 where
+    two : Two w.frame.func
     code : Code
     known : Known
     nothing : KnowsNothing known
     is : u ≡ record { frame = record { func = w.frame.func; code = code; end = w.frame.end; store = w.frame.store }; into = w.into }
-    follows : Follows p.claims w.frame.code known code
+    follows : Follows p.claims two.same.out w.frame.end w.frame.code known code
 
   abbrev Waits : List LowWaiting → List LowWaiting → Type 0
   Waits [] [] = Unit {0}
@@ -40,12 +56,13 @@ module _ (p q : Low) (reloaded : IsReloaded p q) where
   Waits (w ∷ ws) (u ∷ us) = Pending w u × Waits ws us
 
   record Rel (r : LowRunning) (s : LowRun) : Type 0 where
+    two : Two r.top.func
     code : Code
     below : List LowWaiting
     known : Known
     is : s ≡ Going (running r code below)
     all_true : AreTrue p.claims known r.top.store r.world
-    follows : Follows p.claims r.top.code known code
+    follows : Follows p.claims two.same.out r.top.end r.top.code known code
     waits : Waits r.below below
 
   abbrev Serves : LowRun → LowRun → Type 0
@@ -56,55 +73,55 @@ module _ (p q : Low) (reloaded : IsReloaded p q) where
   at_once : (r s t : LowRun) → s ≡ t → Serves r t → Serves r s
   at_once r s t e h = subst (λ x. Serves r x) (sym e) h
 
-  -- a block is entered
-  enter_serves : (r : LowRunning) (code : Code) (ws : List LowWaiting) (b : ℕ) (bs cs : List (Block ℕ Note)) → AllZip (BlockReloaded p.claims) bs cs → Waits r.below ws → (o : Option (Block ℕ Note)) → slice_get bs b ≡ o → Serves (enter r b o) (enter (running r code ws) b (slice_get cs b))
-  enter_serves r code ws b bs cs beside waits None e = tt
-  enter_serves r code ws b bs cs beside waits (Some bl) e =
-      let k = found (BlockReloaded p.claims) bs cs b bl beside e in
+  -- a block is entered, and what is known at its beginning is true
+  enter_serves : (r : LowRunning) (code : Code) (ws : List LowWaiting) (b : ℕ) (w : Two r.top.func) → AreTrue p.claims (w.same.out b) r.top.store r.world → Waits r.below ws → (o : Option (Block ℕ Note)) → slice_get w.fn.blocks b ≡ o → Serves (enter r b o) (enter (running r code ws) b (slice_get w.gn.blocks b))
+  enter_serves r code ws b w all waits None e = tt
+  enter_serves r code ws b w all waits (Some bl) e =
+      let k = found_block p.claims w.fn w.gn w.same b bl e in
       let entered : Block ℕ Note → LowRun = λ c. enter (running r code ws) b (Some c) in
       record {
+        two = w;
         code = k.it.code;
         below = ws;
-        known = k.related.known;
-        is = ap (enter (running r code ws) b) k.there ∙ ap (λ end. entered (record { mark = k.it.mark; code = k.it.code; end = end })) k.related.end;
-        all_true = none_true p.claims k.related.known _ _ k.related.nothing;
-        follows = k.related.code;
+        known = w.same.out b;
+        is = ap (enter (running r code ws) b) k.there ∙ ap (λ end. entered (record { mark = k.it.mark; code = k.it.code; end = end })) k.reloaded.end;
+        all_true = λ f knows. traced p.claims r.top.store r.world r.top.func b f (all f knows);
+        follows = k.reloaded.code;
         waits = waits;
       }
 
   -- a jump to a block
-  jump_serves : (r : LowRunning) (code : Code) (ws : List LowWaiting) (b : ℕ) → Waits r.below ws → Serves (went_to p r b) (went_to q (running r code ws) b)
-  jump_serves r code ws b waits = by_function (slice_get p.functions r.top.func) refl
-    where
-      by_function : (o : Option LowFunction) → slice_get p.functions r.top.func ≡ o → Serves (enter r b (block_in o b)) (went_to q (running r code ws) b)
-      by_function None e = tt
-      by_function (Some fn) e =
-          let k = found (FunctionReloaded p.claims) p.functions q.functions r.top.func fn reloaded.functions e in
-          at_once (enter r b (slice_get fn.blocks b)) _ _
-          (ap (λ o. enter (running r code ws) b (block_in o b)) k.there)
-          (enter_serves r code ws b fn.blocks k.it.blocks k.related.blocks waits (slice_get fn.blocks b) refl)
+  jump_serves : (r : LowRunning) (code : Code) (ws : List LowWaiting) (b : ℕ) (w : Two r.top.func) → AreTrue p.claims (w.same.out b) r.top.store r.world → Waits r.below ws → Serves (went_to p r b) (went_to q (running r code ws) b)
+  jump_serves r code ws b w all waits =
+      let s = running r code ws in
+      subst (λ o. Serves (enter r b (block_in o b)) (went_to q s b)) (sym w.there)
+      (at_once (enter r b (slice_get w.fn.blocks b)) (went_to q s b) (enter s b (slice_get w.gn.blocks b))
+      (ap (λ o. enter s b (block_in o b)) w.other)
+      (enter_serves r code ws b w all waits (slice_get w.fn.blocks b) refl))
 
   -- a function is entered with these arguments
-  begin_serves : (ws us : List LowWaiting) (u : World) (f : ℕ) (fn gn : LowFunction) (xs : List Value) → FunctionReloaded p.claims fn gn → Waits ws us → Serves (begin ws u f fn (write_all virtual (Some (virtual.empty fn.size)) fn.parameters xs)) (begin us u f gn (write_all virtual (Some (virtual.empty gn.size)) gn.parameters xs))
-  begin_serves ws us u f fn gn xs same waits =
+  begin_serves : (ws us : List LowWaiting) (u : World) (f : ℕ) (w : Two f) (xs : List Value) → Waits ws us → Serves (begin ws u f w.fn (write_all virtual (Some (virtual.empty w.fn.size)) w.fn.parameters xs)) (begin us u f w.gn (write_all virtual (Some (virtual.empty w.gn.size)) w.gn.parameters xs))
+  begin_serves ws us u f w xs waits =
       at_once _ _ _
-      (ap (λ n. begin us u f gn (write_all virtual (Some (virtual.empty n)) gn.parameters xs)) same.size
-      ∙ ap (λ rs. begin us u f gn (write_all virtual (Some (virtual.empty fn.size)) rs xs)) same.parameters)
-      (by_store (write_all virtual (Some (virtual.empty fn.size)) fn.parameters xs))
+      (ap (λ n. begin us u f w.gn (write_all virtual (Some (virtual.empty n)) w.gn.parameters xs)) w.same.size
+      ∙ ap (λ rs. begin us u f w.gn (write_all virtual (Some (virtual.empty w.fn.size)) rs xs)) w.same.parameters)
+      (by_store (write_all virtual (Some (virtual.empty w.fn.size)) w.fn.parameters xs))
     where
-      by_store : (o : Option Bank) → Serves (begin ws u f fn o) (begin us u f gn o)
+      by_store : (o : Option Bank) → Serves (begin ws u f w.fn o) (begin us u f w.gn o)
       by_store None = tt
-      by_store (Some s) = enter_serves (record { top = record { func = f; code = []; end = Jump 0; store = s }; below = ws; world = u }) [] us 0 fn.blocks gn.blocks same.blocks waits (slice_get fn.blocks 0) refl
+      by_store (Some s) =
+          enter_serves (record { top = record { func = f; code = []; end = Jump 0; store = s }; below = ws; world = u }) [] us 0 w (none_true p.claims (w.same.out 0) s u w.same.nothing) waits (slice_get w.fn.blocks 0) refl
 
   -- an instruction that goes on behind itself
-  finish_serves : (r : LowRunning) (i : Plain ℕ) (is : Code) (code behind : Code) (ws : List LowWaiting) (known now : Known) → SmallBank r.top.store → AreTrue p.claims known r.top.store r.world → Learns p.claims known (Do i) now → Follows p.claims is now behind → Waits r.below ws → (o : Option Did) → effect_of p.claims i (values virtual r.top.store (reads i)) r.world ≡ o → Serves (finish virtual r is (dest i) o) (finish virtual (running r code ws) behind (dest i) o)
-  finish_serves r i is code behind ws known now small all learns follows waits None e = tt
-  finish_serves r i is code behind ws known now small all learns follows waits (Some did) e = by_write (write_to virtual r.top.store (dest i) did.value) refl
+  finish_serves : (r : LowRunning) (i : Plain ℕ) (is : Code) (code behind : Code) (ws : List LowWaiting) (w : Two r.top.func) (known now : Known) → SmallBank r.top.store → AreTrue p.claims known r.top.store r.world → Learns p.claims known (Do i) now → Follows p.claims w.same.out r.top.end is now behind → Waits r.below ws → (o : Option Did) → effect_of p.claims i (values virtual r.top.store (reads i)) r.world ≡ o → Serves (finish virtual r is (dest i) o) (finish virtual (running r code ws) behind (dest i) o)
+  finish_serves r i is code behind ws w known now small all learns follows waits None e = tt
+  finish_serves r i is code behind ws w known now small all learns follows waits (Some did) e = by_write (write_to virtual r.top.store (dest i) did.value) refl
     where
       by_write : (o : Option Bank) → write_to virtual r.top.store (dest i) did.value ≡ o → Serves (goes_on r is did.world o) (goes_on (running r code ws) behind did.world o)
       by_write None h = tt
       by_write (Some s) h =
           record {
+            two = w;
             code = behind;
             below = ws;
             known = now;
@@ -122,18 +139,19 @@ module _ (p q : Low) (reloaded : IsReloaded p q) where
       ap (λ j. at_instr virtual q (running r code ws) j behind) same
       ∙ ap (λ claims. finish virtual (running r code ws) behind (dest i) (effect_of claims i (values virtual r.top.store (reads i)) r.world)) reloaded.claims)
       (λ (c : IsReload known (Do i) new).
-      let load : i ≡ Load c.fact.kind c.into c.fact.address = cc in
+      let source : i ≡ giving c.into c.fact.source = cc in
       ap (λ j. at_instr virtual q (running r code ws) j behind) c.becomes
       ∙ ap (λ claims. finish virtual (running r code ws) behind (Some c.into) (effect_of claims (Set c.into (Register c.fact.register)) (values virtual r.top.store (Register c.fact.register ∷ [])) r.world)) reloaded.claims
-      ∙ ap (finish virtual (running r code ws) behind (Some c.into)) (copy_loads p.claims r.top.store r.world c.fact c.into (all c.fact c.knows))
-      ∙ ap (λ j. finish virtual (running r code ws) behind (dest j) (effect_of p.claims j (values virtual r.top.store (reads j)) r.world)) (sym load))
+      ∙ ap (finish virtual (running r code ws) behind (Some c.into)) (copy_gives p.claims r.top.store r.world c.fact.source c.fact.register c.into (all c.fact c.knows))
+      ∙ ap (λ d. finish virtual (running r code ws) behind d (effect_of p.claims (giving c.into c.fact.source) (values virtual r.top.store (reads (giving c.into c.fact.source))) r.world)) (sym (dest_giving c.into c.fact.source))
+      ∙ ap (λ j. finish virtual (running r code ws) behind (dest j) (effect_of p.claims j (values virtual r.top.store (reads j)) r.world)) (sym source))
       becomes
 
-  plain_serves : (r : LowRunning) (i : Plain ℕ) (is : Code) (code : Code) (ws : List LowWaiting) (known : Known) → SmallBank r.top.store → AreTrue p.claims known r.top.store r.world → Steps p.claims (Follows p.claims is) (Do i) known code → Waits r.below ws → Serves (at_instr virtual p r (Do i) is) (at_code virtual q (running r code ws) code)
-  plain_serves r i is code ws known small all c waits =
+  plain_serves : (r : LowRunning) (i : Plain ℕ) (is : Code) (code : Code) (ws : List LowWaiting) (w : Two r.top.func) (known : Known) → SmallBank r.top.store → AreTrue p.claims known r.top.store r.world → Steps p.claims (Follows p.claims w.same.out r.top.end is) (Do i) known code → Waits r.below ws → Serves (at_instr virtual p r (Do i) is) (at_code virtual q (running r code ws) code)
+  plain_serves r i is code ws w known small all c waits =
       at_once (at_instr virtual p r (Do i) is) _ _
       (ap (at_code virtual q (running r code ws)) c.is ∙ same_effect r i c.new code c.behind ws known all c.becomes)
-      (finish_serves r i is code c.behind ws known c.now small all c.learns c.goes_on waits (effect_of p.claims i (values virtual r.top.store (reads i)) r.world) refl)
+      (finish_serves r i is code c.behind ws w known c.now small all c.learns c.goes_on waits (effect_of p.claims i (values virtual r.top.store (reads i)) r.world) refl)
 
   -- a function gives its value back
   back_serves : (u : World) (v : ℕ) (ws us : List LowWaiting) → Waits ws us → Serves (come_back virtual u ws v) (come_back virtual u us v)
@@ -149,6 +167,7 @@ module _ (p q : Low) (reloaded : IsReloaded p q) where
       by_write (Some s) =
           let k = waits.0 in
           record {
+            two = k.two;
             code = k.code;
             below = us;
             known = k.known;
@@ -163,66 +182,72 @@ module _ (p q : Low) (reloaded : IsReloaded p q) where
   call_stays d f args note known new becomes =
       ⊎_elim (λ (same : new ≡ Call d f args note). same) (λ (c : IsReload known (Call d f args note) new). absurd (unlike c.fact c.into c.is)) becomes
     where
-      unlike : (fact : Fact) (into : ℕ) → Call d f args note ≡ Do (Load fact.kind into fact.address) → ⊥
+      unlike : (fact : Fact) (into : ℕ) → Call d f args note ≡ Do (giving into fact.source) → ⊥
       unlike fact into e = cc
 
   -- nothing is known behind it
   call_forgets : (d : Option ℕ) (f : ℕ) (args : List (Operand ℕ)) (note : Note) (known now : Known) → Learns p.claims known (Call d f args note) now → KnowsNothing now
   call_forgets d f args note known now learns fact knows = ⊎_elim (λ (h : Knows known fact × ⊥). h.1) (λ (h : ⊥). h) (learns fact knows)
 
-  call_serves : (r : LowRunning) (d : Option ℕ) (f : ℕ) (args : List (Operand ℕ)) (note : Note) (is : Code) (code : Code) (ws : List LowWaiting) (known : Known) → Steps p.claims (Follows p.claims is) (Call d f args note) known code → Waits r.below ws → (o : Option LowFunction) → slice_get p.functions f ≡ o → (os : Option (List Value)) → values virtual r.top.store args ≡ os → Serves (call virtual r is d f note o os) (at_code virtual q (running r code ws) code)
-  call_serves r d f args note is code ws known c waits None e os e2 = tt
-  call_serves r d f args note is code ws known c waits (Some fn) e None e2 = tt
-  call_serves r d f args note is code ws known c waits (Some fn) e (Some xs) e2 =
+  call_serves : (r : LowRunning) (d : Option ℕ) (f : ℕ) (args : List (Operand ℕ)) (note : Note) (is : Code) (code : Code) (ws : List LowWaiting) (w : Two r.top.func) (known : Known) → Steps p.claims (Follows p.claims w.same.out r.top.end is) (Call d f args note) known code → Waits r.below ws → (o : Option LowFunction) → slice_get p.functions f ≡ o → (os : Option (List Value)) → values virtual r.top.store args ≡ os → Serves (call virtual r is d f note o os) (at_code virtual q (running r code ws) code)
+  unfolding two
+  call_serves r d f args note is code ws w known c waits None e os e2 = tt
+  call_serves r d f args note is code ws w known c waits (Some fn) e None e2 = tt
+  call_serves r d f args note is code ws w known c waits (Some fn) e (Some xs) e2 =
       let s = running r code ws in
-      let k = found (FunctionReloaded p.claims) p.functions q.functions f fn reloaded.functions e in
       at_once (call virtual r is d f note (Some fn) (Some xs)) _ _
       (ap (at_code virtual q s) c.is
       ∙ ap (λ j. at_instr virtual q s j c.behind) (call_stays d f args note known c.new c.becomes)
-      ∙ ap (λ o. call virtual s c.behind d f note o (values virtual r.top.store args)) k.there
-      ∙ ap (λ o. call virtual s c.behind d f note (Some k.it) o) e2)
-      (by_test k.it k.related (nat_lt f r.top.func))
+      ∙ ap (λ o. call virtual s c.behind d f note o (values virtual r.top.store args)) (two f fn e).other
+      ∙ ap (λ o. call virtual s c.behind d f note (Some (two f fn e).gn) o) e2)
+      (by_test (nat_lt f r.top.func))
     where
-      by_test : (gn : LowFunction) → FunctionReloaded p.claims fn gn → (b : Bool) → Serves (only_where b (begin (waiting virtual r.top is d note ∷ r.below) r.world f fn (write_all virtual (Some (virtual.empty fn.size)) fn.parameters xs))) (only_where b (begin (waiting virtual (running r code ws).top c.behind d note ∷ ws) r.world f gn (write_all virtual (Some (virtual.empty gn.size)) gn.parameters xs)))
-      by_test gn same false = tt
-      by_test gn same true =
-          begin_serves (waiting virtual r.top is d note ∷ r.below) (waiting virtual (running r code ws).top c.behind d note ∷ ws) r.world f fn gn xs same (
-            record { code = c.behind; known = c.now; nothing = call_forgets d f args note known c.now c.learns; is = refl; follows = c.goes_on },
+      by_test : (b : Bool) → Serves (only_where b (begin (waiting virtual r.top is d note ∷ r.below) r.world f fn (write_all virtual (Some (virtual.empty fn.size)) fn.parameters xs))) (only_where b (begin (waiting virtual (running r code ws).top c.behind d note ∷ ws) r.world f (two f fn e).gn (write_all virtual (Some (virtual.empty (two f fn e).gn.size)) (two f fn e).gn.parameters xs)))
+      by_test false = tt
+      by_test true =
+          begin_serves (waiting virtual r.top is d note ∷ r.below) (waiting virtual (running r code ws).top c.behind d note ∷ ws) r.world f (two f fn e) xs (
+            record { two = w; code = c.behind; known = c.now; nothing = call_forgets d f args note known c.now c.learns; is = refl; follows = c.goes_on },
             waits,
           )
 
+  -- one of two blocks
+  either_true : (func : ℕ) (w : Two func) (s : Bank) (u : World) (b1 b2 : ℕ) → AreTrue p.claims (w.same.out b1) s u → AreTrue p.claims (w.same.out b2) s u → (b : Bool) → AreTrue p.claims (w.same.out (if b then b1 else b2)) s u
+  either_true func w s u b1 b2 one two true = one
+  either_true func w s u b1 b2 one two false = two
+
   -- the end of a block
-  branch_serves : (r : LowRunning) (code : Code) (ws : List LowWaiting) (c : Condition) (b1 b2 : ℕ) → Waits r.below ws → (o1 o2 : Option Value) → Serves (branches p r (chosen c b1 b2 o1 o2)) (branches q (running r code ws) (chosen c b1 b2 o1 o2))
-  branch_serves r code ws c b1 b2 waits None o2 = tt
-  branch_serves r code ws c b1 b2 waits (Some (Pointer o n)) o2 = tt
-  branch_serves r code ws c b1 b2 waits (Some (Word m)) None = tt
-  branch_serves r code ws c b1 b2 waits (Some (Word m)) (Some (Pointer o n)) = tt
-  branch_serves r code ws c b1 b2 waits (Some (Word m)) (Some (Word n)) = jump_serves r code ws (if holds c m n then b1 else b2) waits
+  branch_serves : (r : LowRunning) (code : Code) (ws : List LowWaiting) (c : Condition) (b1 b2 : ℕ) (w : Two r.top.func) → AreTrue p.claims (w.same.out b1) r.top.store r.world → AreTrue p.claims (w.same.out b2) r.top.store r.world → Waits r.below ws → (o1 o2 : Option Value) → Serves (branches p r (chosen c b1 b2 o1 o2)) (branches q (running r code ws) (chosen c b1 b2 o1 o2))
+  branch_serves r code ws c b1 b2 w one other waits None o2 = tt
+  branch_serves r code ws c b1 b2 w one other waits (Some (Pointer o n)) o2 = tt
+  branch_serves r code ws c b1 b2 w one other waits (Some (Word m)) None = tt
+  branch_serves r code ws c b1 b2 w one other waits (Some (Word m)) (Some (Pointer o n)) = tt
+  branch_serves r code ws c b1 b2 w one other waits (Some (Word m)) (Some (Word n)) = jump_serves r code ws (if holds c m n then b1 else b2) w (either_true r.top.func w r.top.store r.world b1 b2 one other (holds c m n)) waits
 
   return_serves : (r : LowRunning) (code : Code) (ws : List LowWaiting) → Waits r.below ws → (o : Option Value) → Serves (give_back virtual r o) (give_back virtual (running r code ws) o)
   return_serves r code ws waits None = tt
   return_serves r code ws waits (Some (Pointer o n)) = tt
   return_serves r code ws waits (Some (Word v)) = back_serves r.world v r.below ws waits
 
-  end_serves : (r : LowRunning) (code : Code) (ws : List LowWaiting) → Waits r.below ws → (end : End ℕ) → Serves (at_end virtual p r end) (at_end virtual q (running r code ws) end)
-  end_serves r code ws waits (Jump b) = jump_serves r code ws b waits
-  end_serves r code ws waits (Branch c x y b1 b2) = branch_serves r code ws c b1 b2 waits (operand_value virtual r.top.store x) (operand_value virtual r.top.store y)
-  end_serves r code ws waits (Return x) = return_serves r code ws waits (operand_value virtual r.top.store x)
+  end_serves : (r : LowRunning) (code : Code) (ws : List LowWaiting) (w : Two r.top.func) (known : Known) → AreTrue p.claims known r.top.store r.world → Waits r.below ws → (end : End ℕ) → Hands w.same.out end known → Serves (at_end virtual p r end) (at_end virtual q (running r code ws) end)
+  end_serves r code ws w known all waits (Jump b) hands = jump_serves r code ws b w (λ f knows. all f (hands b refl f knows)) waits
+  end_serves r code ws w known all waits (Branch c x y b1 b2) hands =
+      branch_serves r code ws c b1 b2 w (λ f knows. all f (hands b1 (inl refl) f knows)) (λ f knows. all f (hands b2 (inr refl) f knows)) waits (operand_value virtual r.top.store x) (operand_value virtual r.top.store y)
+  end_serves r code ws w known all waits (Return x) hands = return_serves r code ws waits (operand_value virtual r.top.store x)
 
-  instr_serves : (r : LowRunning) (i : Instr ℕ Note) (is : Code) (code : Code) (ws : List LowWaiting) (known : Known) → SmallBank r.top.store → AreTrue p.claims known r.top.store r.world → Steps p.claims (Follows p.claims is) i known code → Waits r.below ws → Serves (at_instr virtual p r i is) (at_code virtual q (running r code ws) code)
-  instr_serves r (Do i) is code ws known small all c waits = plain_serves r i is code ws known small all c waits
-  instr_serves r (Call d f args note) is code ws known small all c waits =
-      call_serves r d f args note is code ws known c waits (slice_get p.functions f) refl (values virtual r.top.store args) refl
+  instr_serves : (r : LowRunning) (i : Instr ℕ Note) (is : Code) (code : Code) (ws : List LowWaiting) (w : Two r.top.func) (known : Known) → SmallBank r.top.store → AreTrue p.claims known r.top.store r.world → Steps p.claims (Follows p.claims w.same.out r.top.end is) i known code → Waits r.below ws → Serves (at_instr virtual p r i is) (at_code virtual q (running r code ws) code)
+  instr_serves r (Do i) is code ws w known small all c waits = plain_serves r i is code ws w known small all c waits
+  instr_serves r (Call d f args note) is code ws w known small all c waits =
+      call_serves r d f args note is code ws w known c waits (slice_get p.functions f) refl (values virtual r.top.store args) refl
 
-  code_serves : (r : LowRunning) (code2 : Code) (ws : List LowWaiting) (known : Known) → SmallBank r.top.store → AreTrue p.claims known r.top.store r.world → Waits r.below ws → (code : Code) → Follows p.claims code known code2 → Serves (at_code virtual p r code) (at_code virtual q (running r code2 ws) code2)
-  code_serves r code2 ws known small all waits [] follows =
-      at_once (at_end virtual p r r.top.end) _ _ (ap (at_code virtual q (running r code2 ws)) follows) (end_serves r code2 ws waits r.top.end)
-  code_serves r code2 ws known small all waits (i ∷ is) follows = instr_serves r i is code2 ws known small all follows waits
+  code_serves : (r : LowRunning) (code2 : Code) (ws : List LowWaiting) (w : Two r.top.func) (known : Known) → SmallBank r.top.store → AreTrue p.claims known r.top.store r.world → Waits r.below ws → (code : Code) → Follows p.claims w.same.out r.top.end code known code2 → Serves (at_code virtual p r code) (at_code virtual q (running r code2 ws) code2)
+  code_serves r code2 ws w known small all waits [] follows =
+      at_once (at_end virtual p r r.top.end) _ _ (ap (at_code virtual q (running r code2 ws)) follows.0) (end_serves r code2 ws w known all waits r.top.end follows.1)
+  code_serves r code2 ws w known small all waits (i ∷ is) follows = instr_serves r i is code2 ws w known small all follows waits
 
   -- one step
   step_serves : (r s : LowRun) → SmallRun r → Serves r s → Serves (step virtual p r) (step virtual q s)
   step_serves (Going r) s small h =
-      at_once (at_code virtual p r r.top.code) _ _ (ap (step virtual q) h.is) (code_serves r h.code h.below h.known small.bank h.all_true h.waits r.top.code h.follows)
+      at_once (at_code virtual p r r.top.code) _ _ (ap (step virtual q) h.is) (code_serves r h.code h.below h.two h.known small.bank h.all_true h.waits r.top.code h.follows)
   step_serves (Done v u) s small h = ap (step virtual q) h
   step_serves Bad s small h = tt
 
@@ -231,17 +256,18 @@ module _ (p q : Low) (reloaded : IsReloaded p q) where
   run_serves (suc n) r s small h = run_serves n (step virtual p r) (step virtual q s) (step_small p r small) (step_serves r s small h)
 
   first_serves : (input : List ℕ) → Serves (first virtual p input) (first virtual q input)
+  unfolding two
   first_serves input = by_main (slice_get p.functions p.main) refl
     where
       by_main : (o : Option LowFunction) → slice_get p.functions p.main ≡ o → Serves (first_in virtual (start p.objects input) p.main o) (first virtual q input)
       by_main None e = tt
       by_main (Some fn) e =
-          let k = found (FunctionReloaded p.claims) p.functions q.functions p.main fn reloaded.functions e in
+          let w = two p.main fn e in
           at_once (first_in virtual (start p.objects input) p.main (Some fn)) _ _
           (ap (λ objects. first_in virtual (start objects input) q.main (slice_get q.functions q.main)) reloaded.objects
           ∙ ap (λ m. first_in virtual (start p.objects input) m (slice_get q.functions m)) reloaded.main
-          ∙ ap (first_in virtual (start p.objects input) p.main) k.there)
-          (begin_serves [] [] (start p.objects input) p.main fn k.it [] k.related tt)
+          ∙ ap (first_in virtual (start p.objects input) p.main) w.other)
+          (begin_serves [] [] (start p.objects input) p.main w [] tt)
 
   -- the loops are the same
   loops_serve : (trace : List Began) → KeepsLoops p trace → KeepsLoops q trace

@@ -1,19 +1,17 @@
 // What is known as a block goes on.
 ghost use Rattle.std.specs.Prelude.{◌≡◌, Some, map, slice_set, IfOk, IfSome};
-ghost use Rattle.low_ir.specs.View.{address_of, claim_of, instr_of};
+ghost use Rattle.low_ir.specs.View.{claim_of, instr_of};
 ghost use Rattle.low_reloaded.specs.Facts.{Keeps, Knows, KnowsNothing, Learns};
-ghost use Rattle.low_reloads.specs.Making.{Answers, AreKept, IsAdded, fact_of, known_of};
+ghost use Rattle.low_reloads.specs.Making.{Answers, AreKept, IsAdded, fact_of, known_of, source_of};
 
-use super::facts::{Fact, stays, taught};
-use super::tests::same_load;
-use low_ir::instruction::{Address, Instr};
-use low_ir::object::Kind;
+use super::facts::{Fact, Source, same_source, stays, taught};
+use low_ir::instruction::Instr;
 use std::alloc::Global;
 use std::marker::Model;
 use wcc_base::Memory;
 
 /// How many facts are known at once.
-const FACTS: usize = 16;
+const FACTS: usize = 32;
 
 /// The newest facts.
 #[derive(Drop)]
@@ -48,14 +46,14 @@ fn left(claims: &[Vec<u32>], instr: &Instr, slot: Option<Fact>) -> Option<Fact>
     }
 }
 
-/// The register of a fact, if that is of a load of this kind from this address.
-fn answer(slot: Option<Fact>, kind: Kind, address: Address) -> Option<u32>
-    ensures { IfSome result (Answers slot kind (address_of address)) }
+/// The register of a fact, if that is of this source.
+fn answer(slot: Option<Fact>, source: Source) -> Option<u32>
+    ensures { IfSome result (Answers slot (source_of source)) }
 {
     match slot {
         None => None,
         Some(fact) => {
-            if same_load(fact.kind, fact.address, kind, address) {
+            if same_source(fact.source, source) {
                 Some(fact.register)
             } else {
                 None
@@ -98,20 +96,45 @@ impl Known {
         })
     }
 
-    /// The register that holds what a load would give, if one is known.
-    pub fn find(&self, kind: Kind, address: Address) -> Option<u32>
-        ensures { IfSome result (λ r. Knows self.now (record { kind = kind; address = address_of address; register = r })) }
+    /// The register that holds what a source would give, if one is known.
+    pub fn find(&self, source: Source) -> Option<u32>
+        ensures { IfSome result (λ r. Knows self.now (record { source = source_of source; register = r })) }
     {
         for at in 0..self.facts.len() {
-            if let Some(register) = answer(self.facts[at], kind, address) {
+            if let Some(register) = answer(self.facts[at], source) {
                 return Some(register);
             }
         }
         None
     }
 
+    /// The place behind a fact, if it is known at a place or behind it.
+    pub fn behind(&self, from: usize, fact: Fact) -> Option<usize>
+        ensures { IfSome result (λ _. Knows self.now (fact_of fact)) }
+    {
+        for at in from..self.facts.len() {
+            if let Some(register) = answer(self.facts[at], fact.source) {
+                if register == fact.register {
+                    return Some(at + 1);
+                }
+            }
+        }
+        None
+    }
+
+    /// The facts that are known.
+    pub fn list(&self, alloc: Global) -> Result<Vec<Fact>, Memory> {
+        let mut list = Vec::new(alloc);
+        for at in 0..self.facts.len() {
+            if let Some(fact) = self.facts[at] {
+                list.push(fact)?;
+            }
+        }
+        Ok(list)
+    }
+
     /// One fact more, in place of the oldest one.
-    fn add(&mut self, fact: Fact)
+    pub fn add(&mut self, fact: Fact)
         ensures { IsAdded (fact_of fact) self.old self.new }
     {
         let at = place(self.next, self.facts.len());

@@ -1,3 +1,12 @@
+pub mod FormedOperators
+pub mod FormedValues
+pub mod FormedStatements
+pub mod Distinct
+pub mod Tables
+pub mod Shapes
+pub mod Naming
+pub mod FormedFunctions
+pub mod FormedPrograms
 pub mod Amounts
 pub mod Covers
 pub mod Operators

@@ -11,7 +11,7 @@ use Rattle.low_ir.specs.Formed.{only_jump}
 use Rattle.lower_definition.specs.Operators.{Code}
 use Rattle.lower_definition.specs.Values.{Scope, Coded, operand, scaled_in, shares_from}
 use Rattle.lower_definition.specs.Statements.{Piece, before, before_by, block, call_code, get_code, keep_code, kept_value, landed, marked_by, one_block, piece, pieces, put_code, return_block, set_code, test_code}
-use Rattle.lower_events.specs.Segments.{AllInside}
+use Rattle.lower_nesting.specs.Segments.{AllInside}
 use Rattle.lower_nesting.proofs.Free.{landed_loops}
 use Rattle.lower_nesting.proofs.Loops.{all_loops_inside, inside_append, inside_wider, landed_inside, loops_inside}
 use Rattle.lower_budget.proofs.Sums.{inside_one, repeats, repeats-append, repeats_before, repeats_behind, weighted, weighted-append, weighted_landed, weighted_same, weighted_times}

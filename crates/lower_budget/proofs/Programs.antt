@@ -24,7 +24,7 @@ use Rattle.lower_origins.proofs.Visits.{ordered}
 use Rattle.lower_origins.specs.Closed.{listed}
 use Rattle.lower_origins.proofs.Numbering.{AllThere, all_there}
 use Rattle.lower_nesting.proofs.Free.{marked_free}
-use Rattle.lower_formed.proofs.Distinct.{Distinct, order_distinct}
+use Rattle.lower_budget.proofs.Distinct.{Distinct, order_distinct}
 use Rattle.lower_budget.proofs.Amounts.{amounts, statement_few, statement_nodes}
 use Rattle.lower_budget.specs.Costs.{bounded, loops_in}
 use Rattle.lower_budget.proofs.Loops.{loops_kept}

@@ -7,7 +7,7 @@ use Rattle.std.proofs.lemmas.Bool.Decides.{nat_tests}
 use Rattle.low_ir.specs.Code.{Block, End, Jump, Branch, Return, Loop, Note}
 use Rattle.lower_definition.specs.Operators.{Code}
 use Rattle.lower_definition.specs.Statements.{Piece, landed, landed_by}
-use Rattle.lower_events.specs.Segments.{AllInside}
+use Rattle.lower_nesting.specs.Segments.{AllInside}
 
 mul-assoc : (a b c : ℕ) → a * (b * c) ≡ a * b * c
 mul-assoc a b c = sym (mul_assoc a b c)

@@ -5,7 +5,7 @@ use Rattle.std.proofs.lemmas.Bool.Decides.{nat_tests}
 use Rattle.low_ir.specs.Code.{Block, Loop, Note}
 use Rattle.low_ir.specs.Room.{repeated, times}
 use Rattle.lower_definition.specs.Programs.{turned, turned_loop}
-use Rattle.lower_events.specs.Segments.{AllInside}
+use Rattle.lower_nesting.specs.Segments.{AllInside}
 use Rattle.lower_budget.proofs.Sums.{repeats, weighted}
 use Rattle.std.specs.Prelude.{max}
 

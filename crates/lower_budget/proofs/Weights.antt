@@ -24,7 +24,7 @@ use Rattle.lower_origins.proofs.Members.{member_first, member_more}
 use Rattle.lower_origins.proofs.Visits.{callee_there, falls, ordered, rank_is}
 use Rattle.lower_origins.specs.Closed.{listed}
 use Rattle.lower_origins.proofs.Numbering.{all_there, stood}
-use Rattle.lower_events.specs.Segments.{AllInside}
+use Rattle.lower_nesting.specs.Segments.{AllInside}
 use Rattle.lower_nesting.specs.Blocks.{AllOf}
 use Rattle.lower_nesting.proofs.Loops.{all_loops_inside}
 use Rattle.lower_nesting.proofs.Marks.{of_back, of_front}

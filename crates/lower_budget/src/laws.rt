@@ -1,13 +1,13 @@
-// Budgets of the low form.
-ghost use Rattle.lower_budget.specs.Costs.{
-  FunctionsAreFew,
-  LoopsAreKept,
-  MarksAreFew,
-  ReachIsBounded,
-  RegistersAreFew,
-  RoomIsBounded,
-  WeightIsBounded,
-};
+// What is proved, by calls with empty bodies.
+ghost use Rattle.lower_budget.specs.Names.{LoweredIsLow};
+ghost use Rattle.lower_budget.specs.Costs.{FunctionsAreFew, LoopsAreKept, MarksAreFew, ReachIsBounded, RegistersAreFew, RoomIsBounded, WeightIsBounded};
+
+/// What a program in the high form becomes is a program in the low form: its calls go to lower
+/// numbers, its jumps to later blocks of their function but for those of latches, its loops nest and
+/// are entered by their headers, its opening marks stand nowhere else, and all that it names is there.
+pub fn lowered_is_low()
+    ensures { LoweredIsLow }
+{}
 
 /// What a program becomes takes at most 16 machine instructions for each operation of it, and 64 for
 /// each function.

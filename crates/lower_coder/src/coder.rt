@@ -62,11 +62,11 @@ impl Coder {
         ensures { IfOk result (λ _. coded_of self.new ≡ more (coded_of self.old) (few_code few) (few_needs few)) }
     {
         match few {
-            Few::One(instr) => Ok(self.push(instr)?),
-            Few::Two(first, second) => Ok(self.push_both(first, second)?),
-            Few::Lone(instr) => Ok(self.push_lone(instr)?),
+            Few::One(instr) => self.push(instr),
+            Few::Two(first, second) => self.push_both(first, second),
+            Few::Lone(instr) => self.push_lone(instr),
             Few::Four(first, second, third, last) => match self.push_pair(first, second) {
-                Ok(()) => Ok(self.push_both(third, last)?),
+                Ok(()) => self.push_both(third, last),
                 Err(memory) => {
                     drop(third);
                     drop(last);
@@ -94,7 +94,7 @@ impl Coder {
                 return Err(memory);
             }
         }
-        Ok(self.push(second)?)
+        self.push(second)
     }
 
     fn push_both(&mut self, first: Instr, second: Instr) -> Result<(), Memory>

@@ -320,7 +320,7 @@ impl Coder {
     ) -> Result<(), Memory>
         ensures { IfOk result (λ _. coded_of self.new ≡ more (coded_of self.old) (binary_code shifts operator into self.old.free (operand_of left) (operand_of right)) (binary_needs operator)) }
     {
-        Ok(self.emit(binary(shifts, operator, into, self.free, left, right))?)
+        self.emit(binary(shifts, operator, into, self.free, left, right))
     }
 
     /// An operator before an operand, whose value goes to a register.
@@ -332,7 +332,7 @@ impl Coder {
     ) -> Result<(), Memory>
         ensures { IfOk result (λ _. coded_of self.new ≡ more (coded_of self.old) (unary_code operator into self.old.free (operand_of value)) (unary_needs operator)) }
     {
-        Ok(self.emit(unary(operator, into, self.free, value))?)
+        self.emit(unary(operator, into, self.free, value))
     }
 }
 

@@ -190,7 +190,7 @@ pub fn offset_of(
             register: None,
             displacement: bytes(kind, u64::from(word) + u64::from(index.constant)),
         }),
-        Operand::Register(register) => Ok(scaled(shares, kind, register, index, coder)?),
+        Operand::Register(register) => scaled(shares, kind, register, index, coder),
     }
 }
 
@@ -220,6 +220,6 @@ pub fn base_of(scope: &Scope, base: HighBase) -> Result<Option<Base>, Memory>
             }
             Ok(None)
         }
-        HighBase::Parameter(parameter) => Ok(through(scope, parameter)?),
+        HighBase::Parameter(parameter) => through(scope, parameter),
     }
 }

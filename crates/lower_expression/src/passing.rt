@@ -108,5 +108,5 @@ pub fn values_passed(
     for value in values {
         pass_value(scope, shares, value, arguments, coder)?;
     }
-    Ok(arrays_passed(scope, arrays, arguments, coder)?)
+    arrays_passed(scope, arrays, arguments, coder)
 }

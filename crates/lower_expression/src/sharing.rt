@@ -163,7 +163,7 @@ fn note_index(
     }
     match index_register(scope, index) {
         None => Ok(()),
-        Some(x) => Ok(note(shares, first, x, scale)?),
+        Some(x) => note(shares, first, x, scale),
     }
 }
 
@@ -179,7 +179,7 @@ pub fn shares_at(
     ensures { IfOk result (λ _. shares_of shares.new.items ≡ shares_from first (shares_of shares.old.items) (scaled_in (scope_of scope.now) (Element array (expr_of index.now)))) }
 {
     note_index(scope, index, scale_of(array.kind), first, shares)?;
-    Ok(shares_in(scope, index, first, shares)?)
+    shares_in(scope, index, first, shares)
 }
 
 /// The shares of an expression, behind others.
@@ -196,14 +196,11 @@ pub fn shares_in(
     match expr {
         Expr::Constant(_) => Ok(()),
         Expr::Variable(_) => Ok(()),
-        Expr::Element { array, index } => {
-            shares_at(scope, *array, index, first, shares)?;
-            Ok(())
-        }
-        Expr::Unary { operand, .. } => Ok(shares_in(scope, operand, first, shares)?),
+        Expr::Element { array, index } => shares_at(scope, *array, index, first, shares),
+        Expr::Unary { operand, .. } => shares_in(scope, operand, first, shares),
         Expr::Binary { left, right, .. } => {
             shares_in(scope, left, first, shares)?;
-            Ok(shares_in(scope, right, first, shares)?)
+            shares_in(scope, right, first, shares)
         }
     }
 }

@@ -83,25 +83,25 @@ pub fn tested(
     ensures { IfOk result (λ b. tested_in coder.new b ≡ after_tested (code_of coder.old) (tested (scope_of scope.now) (shares_of shares.now) (expr_of test.now) coder.old.free)) }
 {
     match test {
-        Expr::Constant(_) => Ok(unless_zero(scope, shares, test, coder)?),
-        Expr::Variable(_) => Ok(unless_zero(scope, shares, test, coder)?),
-        Expr::Element { .. } => Ok(unless_zero(scope, shares, test, coder)?),
+        Expr::Constant(_) => unless_zero(scope, shares, test, coder),
+        Expr::Variable(_) => unless_zero(scope, shares, test, coder),
+        Expr::Element { .. } => unless_zero(scope, shares, test, coder),
         Expr::Unary { operator, operand } => match operator {
             UnaryOperator::IsZero => {
                 let inner = tested(scope, shares, operand, coder)?;
                 Ok(inner.inverted())
             }
-            UnaryOperator::Negate => Ok(unless_zero(scope, shares, test, coder)?),
-            UnaryOperator::Complement => Ok(unless_zero(scope, shares, test, coder)?),
-            UnaryOperator::Convert(_) => Ok(unless_zero(scope, shares, test, coder)?),
+            UnaryOperator::Negate => unless_zero(scope, shares, test, coder),
+            UnaryOperator::Complement => unless_zero(scope, shares, test, coder),
+            UnaryOperator::Convert(_) => unless_zero(scope, shares, test, coder),
         },
         Expr::Binary {
             operator,
             left,
             right,
         } => match condition_of(*operator) {
-            None => Ok(unless_zero(scope, shares, test, coder)?),
-            Some(condition) => Ok(compared(scope, shares, condition, left, right, coder)?),
+            None => unless_zero(scope, shares, test, coder),
+            Some(condition) => compared(scope, shares, condition, left, right, coder),
         },
     }
 }

@@ -29,31 +29,23 @@ pub fn value_into(
     ensures { IfOk result (λ _. coded_of coder.new ≡ after (code_of coder.old) (value_into (scope_of scope.now) (shares_of shares.now) (expr_of expr.now) into coder.old.free)) }
 {
     match expr {
-        Expr::Constant(word) => {
-            coder.push(Instr::Set {
-                into,
-                value: Operand::Constant(*word),
-            })?;
-            Ok(())
-        }
-        Expr::Variable(x) => {
-            coder.push(Instr::Set {
-                into,
-                value: variable(scope, *x),
-            })?;
-            Ok(())
-        }
+        Expr::Constant(word) => coder.push(Instr::Set {
+            into,
+            value: Operand::Constant(*word),
+        }),
+        Expr::Variable(x) => coder.push(Instr::Set {
+            into,
+            value: variable(scope, *x),
+        }),
         Expr::Element { array, index } => {
-            element_into(scope, shares, *array, index, into, coder)?;
-            Ok(())
+            element_into(scope, shares, *array, index, into, coder)
         }
         Expr::Unary {
             operator,
             operand: inner,
         } => {
             let value = operand(scope, shares, inner, coder)?;
-            coder.unary(*operator, into, value)?;
-            Ok(())
+            coder.unary(*operator, into, value)
         }
         Expr::Binary {
             operator,
@@ -62,8 +54,7 @@ pub fn value_into(
         } => {
             let left = operand(scope, shares, left, coder)?;
             let right = operand(scope, shares, right, coder)?;
-            coder.binary(scope.shifts, *operator, into, left, right)?;
-            Ok(())
+            coder.binary(scope.shifts, *operator, into, left, right)
         }
     }
 }
@@ -90,8 +81,7 @@ fn element_into(
             coder.push(Instr::Set {
                 into,
                 value: Operand::Constant(0),
-            })?;
-            Ok(())
+            })
         }
         Some(base) => {
             let index = index_of(scope, shares, index, coder)?;
@@ -100,8 +90,7 @@ fn element_into(
                 kind: kind_of(array.kind),
                 into,
                 address: offset.at(base),
-            })?;
-            Ok(())
+            })
         }
     }
 }
@@ -133,7 +122,7 @@ pub fn operand(
 {
     match leaf(scope, expr) {
         Some(value) => Ok(value),
-        None => Ok(in_register(scope, shares, expr, coder)?),
+        None => in_register(scope, shares, expr, coder),
     }
 }
 

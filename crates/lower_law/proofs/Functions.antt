@@ -21,9 +21,9 @@ use Rattle.lower_origins.specs.Orders.{IsOrdered}
 use Rattle.lower_origins.proofs.Visits.{ordered}
 use Rattle.lower_origins.specs.Closed.{listed, listed_at}
 use Rattle.lower_origins.proofs.Numbering.{Stood, all_there, length-numbered, listed_count, number_of, stood}
-use Rattle.lower_formed.proofs.Distinct.{member_at}
-use Rattle.lower_formed.proofs.Functions.{first_mark}
-use Rattle.lower_formed.proofs.Programs.{function_at}
+use Rattle.lower_budget.proofs.Distinct.{member_at}
+use Rattle.lower_budget.proofs.FormedFunctions.{first_mark}
+use Rattle.lower_budget.proofs.FormedPrograms.{function_at}
 use Rattle.lower_budget.proofs.Loops.{loops_kept, marks_few}
 use Rattle.lower_budget.proofs.Programs.{registers_few}
 use Rattle.lower_origins.specs.Reached.{IsReached, ListsReached}

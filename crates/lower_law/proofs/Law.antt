@@ -27,7 +27,7 @@ use Rattle.low_constants.proofs.Instructions.{addresses_held}
 use Rattle.low_constants.proofs.Costs.{loops_held, reach_held, rooms_held, spared_held, words_few}
 use Rattle.lower_definition.specs.Values.{Scope}
 use Rattle.lower_definition.specs.Programs.{lowered, lowered_function}
-use Rattle.lower_formed.proofs.Programs.{is_low}
+use Rattle.lower_budget.proofs.FormedPrograms.{is_low}
 use Rattle.lower_program.specs.Kept.{IsKept}
 use Rattle.lower_program.proofs.Programs.{kept}
 use Rattle.lower_budget.specs.Costs.{marks_at}

@@ -29,7 +29,7 @@ use Rattle.lower_origins.specs.Orders.{IsOrdered}
 use Rattle.lower_origins.proofs.Visits.{ordered}
 use Rattle.lower_origins.specs.Closed.{listed}
 use Rattle.lower_origins.proofs.Numbering.{AllThere, all_there}
-use Rattle.lower_formed.proofs.Distinct.{order_distinct}
+use Rattle.lower_budget.proofs.Distinct.{order_distinct}
 use Rattle.lower_budget.specs.Costs.{bounded}
 use Rattle.lower_budget.proofs.Loops.{loops_kept}
 use Rattle.lower_budget.proofs.Programs.{distinct_less, total, total_at}

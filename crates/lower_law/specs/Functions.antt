@@ -13,9 +13,9 @@ use Rattle.lower_law.specs.Arrays.{IsAccess}
 abbrev pub AccessesOf : high.Program → Low → ℕ → high.Function → Block ℕ Note → Type 0
 AccessesOf p q f h b = All (λ (i : Instr ℕ Note). All (λ (a : Address ℕ). IsAccess p q f h a.base) (addresses i)) b.code
 
--- so many registers more a function may have than it is made with
+-- so many registers more a function may have than it is made with, and so many it may have in any case
 abbrev pub spare_registers : ℕ
-spare_registers = 8
+spare_registers = 256
 
 abbrev pub registers_of : high.Function → ℕ
 registers_of h = h.values + h.locals + h.arrays + 2 * operations h.body

@@ -6,7 +6,7 @@ use Rattle.low_ir.specs.Formed.{only_jump}
 use Rattle.lower_definition.specs.Operators.{Code}
 use Rattle.lower_definition.specs.Values.{Scope, Coded}
 use Rattle.lower_definition.specs.Statements.{Piece, before, before_by, landed, landed_by, marked_by, one_block, set_code, put_code, get_code, keep_code, call_code, kept_value, piece, pieces}
-use Rattle.lower_events.specs.Segments.{AllInside}
+use Rattle.lower_nesting.specs.Segments.{AllInside}
 
 pub inside_wider : (n m n2 m2 : ℕ) (ls : List Loop) → n2 ≤ n → n + m ≤ n2 + m2 → AllInside n m ls → AllInside n2 m2 ls
 inside_wider n m n2 m2 [] a b h = tt

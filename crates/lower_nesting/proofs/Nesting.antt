@@ -5,7 +5,7 @@ use Rattle.low_ir.specs.Code.{Block, Loop, Note}
 use Rattle.low_ir.specs.Formed.{only_jump}
 use Rattle.lower_definition.specs.Values.{Scope, Coded}
 use Rattle.lower_definition.specs.Statements.{before, before_by, landed, marked_by, one_block, set_code, put_code, get_code, keep_code, call_code, kept_value, piece, pieces}
-use Rattle.lower_events.specs.Segments.{AllInside, Inside}
+use Rattle.lower_nesting.specs.Segments.{AllInside, Inside}
 use Rattle.lower_nesting.specs.Blocks.{AllNest, Nest}
 use Rattle.lower_nesting.proofs.Free.{landed_length, landed_loops}
 use Rattle.lower_nesting.proofs.Loops.{all_loops_inside, loops_inside}

@@ -3,7 +3,7 @@ use Rattle.std.proofs.Common.{◌≡◌, ℕ, ◌+◌, ◌<◌, ◌≤◌, List,
 use Rattle.low_ir.specs.Code.{Block, End, Jump, Branch, Return, Loop, Note}
 use Rattle.lower_definition.specs.Operators.{Code}
 use Rattle.lower_definition.specs.Statements.{Piece, landed, landed_by}
-use Rattle.lower_events.specs.Segments.{AllInside, Inside}
+use Rattle.lower_nesting.specs.Segments.{AllInside, Inside}
 use Rattle.lower_nesting.specs.Blocks.{AllGo, Each, EachLoop, Goes}
 
 module _ (Q : ℕ → Block ℕ Note → Type 0) where

@@ -1,2 +1,3 @@
+pub mod Segments
 pub mod Blocks
-pub mod Laws
+pub mod NestingLaws

@@ -1,3 +1,17 @@
+pub mod Steps
+pub mod Parts
+pub mod Jumps
+pub mod Plain
+pub mod Stores
+pub mod Keeping
+pub mod Growing
+pub mod Filled
+pub mod Ends
+pub mod Statements
+pub mod Calls
+pub mod Called
+pub mod Following
+pub mod Functions
 pub mod Serving
 pub mod Start
 pub mod Programs

@@ -12,8 +12,8 @@ use Rattle.low_ir.specs.declared.run.Value.TheVariants.{Word}
 use Rattle.low_ir.specs.Effects.{start}
 use Rattle.low_ir.specs.Runs.{Bank, Done, Going, Run, at_code, at_end, begin, come_back, first, first_in, give_back, operand_value, run, step, virtual, write_all}
 use Rattle.lower_definition.specs.Programs.{lowered}
-use Rattle.lower_events.proofs.Whole.{quiet_keeps}
-use Rattle.lower_flow.specs.Following.{After, Answers, Goer}
+use Rattle.lower_nesting.proofs.Whole.{quiet_keeps}
+use Rattle.lower_program.specs.Following.{After, Answers, Goer}
 use Rattle.lower_origins.specs.Orders.{IsOrdered}
 use Rattle.lower_origins.proofs.Visits.{ordered}
 use Rattle.lower_program.specs.Kept.{IsKept, Keeps}

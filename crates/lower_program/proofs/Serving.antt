@@ -18,9 +18,9 @@ use Rattle.lower_definition.specs.Calls.{Passed, Site, all_passed, meant, number
 use Rattle.lower_definition.specs.Programs.{lowered, scope_of}
 use Rattle.lower_values.specs.Meeting.{IsClaimed}
 use Rattle.lower_values.proofs.Elements.{from_value}
-use Rattle.lower_flow.specs.Claims.{AreSound, IsSound, built}
-use Rattle.lower_flow.specs.Following.{CallDoes, Place, Serves}
-use Rattle.lower_flow.proofs.Functions.{function_does, is_here}
+use Rattle.lower_program.specs.Claims.{AreSound, IsSound, built}
+use Rattle.lower_program.specs.Following.{CallDoes, Place, Serves}
+use Rattle.lower_program.proofs.Functions.{function_does, is_here}
 use Rattle.lower_origins.proofs.Members.{member_first, member_more}
 use Rattle.lower_origins.specs.Orders.{IsOrdered}
 use Rattle.lower_origins.specs.Closed.{AreCovered, IsCovered, listed, listed_at}

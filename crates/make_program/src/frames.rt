@@ -22,23 +22,20 @@ pub fn frame_needed(statement: &Statement) -> Result<u32, Memory>
     ensures { IfOk result (λ n. n ≡ frame_needed (statement_of statement.now)) }
 {
     match statement {
-        Statement::Set { variable, .. } => Ok(sum(*variable, 1)?),
+        Statement::Set { variable, .. } => sum(*variable, 1),
         Statement::Put { .. } => Ok(0),
-        Statement::Get { into } => Ok(sum(*into, 1)?),
+        Statement::Get { into } => sum(*into, 1),
         Statement::Keep { .. } => Ok(0),
         Statement::Mark { .. } => Ok(0),
-        Statement::Seq(parts) => {
-            let needed = frame_needed_all(parts)?;
-            Ok(needed)
-        }
+        Statement::Seq(parts) => frame_needed_all(parts),
         Statement::If { first, other, .. } => {
             let needed = frame_needed(first)?;
             Ok(needed.max(frame_needed(other)?))
         }
-        Statement::Loop { body, .. } => Ok(frame_needed(body)?),
-        Statement::Block(body) => Ok(frame_needed(body)?),
+        Statement::Loop { body, .. } => frame_needed(body),
+        Statement::Block(body) => frame_needed(body),
         Statement::Leave { .. } => Ok(0),
-        Statement::Call { into, .. } => Ok(into_needed(*into)?),
+        Statement::Call { into, .. } => into_needed(*into),
         Statement::Return { .. } => Ok(0),
     }
 }

@@ -54,7 +54,7 @@ fn initial_words(alloc: Global, initial: &Initial) -> Result<Vec<u32>, Memory>
     match initial {
         Initial::Absent => Ok(Vec::new(alloc)),
         Initial::Value(value) => Ok(Vec::from_array(alloc, [word_or_zero(value)])?),
-        Initial::List { values, .. } => Ok(words_of(alloc, values)?),
+        Initial::List { values, .. } => words_of(alloc, values),
     }
 }
 

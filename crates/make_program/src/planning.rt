@@ -47,7 +47,7 @@ fn planned_functions<'a>(
         functions: offset(0, unit.functions.len())?,
     };
     let ranks = facts.ranks.of_functions.as_slice();
-    Ok(functions(alloc, &plan, &unit.variables, ranks, &unit.functions)?)
+    functions(alloc, &plan, &unit.variables, ranks, &unit.functions)
 }
 
 /// The parts of the program that a typed program becomes; its main function has the number that `main` says.

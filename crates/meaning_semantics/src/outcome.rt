@@ -5,7 +5,7 @@ ghost use Rattle.meaning_semantics.specs.State.{at_place, rule_of};
 use types_value::Undefined;
 
 /// Why a run stops before its end.
-#[derive(Clone, Copy, Debug)]
+#[derive(Clone, Copy)]
 pub enum Stop {
     /// What C leaves undefined, by the number of its rule, at the place of its expression. Rule 0 is what no
     /// typed program does.
@@ -15,7 +15,7 @@ pub enum Stop {
 }
 
 /// How a statement that ends goes on (C11 6.8.6). A return may lack a value.
-#[derive(Clone, Copy, Debug)]
+#[derive(Clone, Copy)]
 pub enum Flow {
     Onward,
     Break,
@@ -24,7 +24,7 @@ pub enum Flow {
 }
 
 /// An element of an object, found at a place of the source.
-#[derive(Clone, Copy, Debug)]
+#[derive(Clone, Copy)]
 pub struct Found {
     pub object: usize,
     pub index: usize,
@@ -32,21 +32,21 @@ pub struct Found {
 }
 
 /// The words of two operands.
-#[derive(Clone, Copy, Debug)]
+#[derive(Clone, Copy)]
 pub struct Operands {
     pub left: u32,
     pub right: u32,
 }
 
 /// An element that is assigned, and the word on the right side.
-#[derive(Clone, Copy, Debug)]
+#[derive(Clone, Copy)]
 pub struct Target {
     pub found: Found,
     pub word: u32,
 }
 
 /// The words of an element before and behind a change.
-#[derive(Clone, Copy, Debug)]
+#[derive(Clone, Copy)]
 pub struct Change {
     pub before: u32,
     pub behind: u32,

@@ -2,7 +2,7 @@
 use wcc_base::Items;
 
 /// What a run did not keep, at the place of the loop's keyword or of the restriction's pragma.
-#[derive(Clone, Copy, Debug)]
+#[derive(Clone, Copy)]
 pub enum Unkept {
     Loop { at: u32 },
     Restriction { at: u32 },

@@ -11,7 +11,7 @@ use c_tree::pragma::Pragma;
 use std::alloc::Global;
 
 /// A name, at its place.
-#[derive(Clone, Copy, Debug, PartialEq, Eq)]
+#[derive(Clone, Copy)]
 pub struct NameAt {
     pub name: NameId,
     pub at: u32,

@@ -4,13 +4,14 @@ ghost use Rattle.c_tree.specs.Tree.{AndDeclaration, AndExpr, AndLabel, AndRestri
 ghost use Rattle.c_tree.specs.View.{declaration_of, expr_of, exprs_of, external_of, items_of, object_of, param_of, row_of, statement_of};
 ghost use Rattle.parse_begun.specs.declared.refusal.Refusal.TheVariants.{Memory};
 
+use super::begun::Header;
 use super::part::{
     DeclarationPart, ExternalParts, ItemParts, ObjectPart, ObjectParts, ParamPart, ParamParts,
     Part, Parts, StatementPart,
 };
 use super::refusal::Refusal;
 use c_tree::expression::Specifier;
-use c_tree::external::External;
+use c_tree::external::{External, Function};
 use c_tree::pragma::Pragma;
 use c_tree::statement::{Item, Label};
 use std::alloc::Global;
@@ -232,6 +233,28 @@ pub fn and_restricting(front: ExternalParts, last: Pragma) -> Result<ExternalPar
     let depth = front.depth.max(1);
     let mut list = front.list;
     list.push(External::Restriction(last))?;
+    Ok(ExternalParts { list, depth })
+}
+
+/// One function more, at file level.
+#[tactic(auto, using(c_tree::proofs::Rows::row_push))]
+pub fn and_function(header: Header, body: ItemParts) -> Result<ExternalParts, Refusal>
+    requires { max header.params.depth (body.depth + 1) < 256 }
+    ensures ok { IfOk result (λ p. row_of external_of Nothing p.list.items ≡ Then (row_of external_of Nothing header.front.list.items) (trees.Function header.specifiers.items header.name.name.0 header.name.at (row_of param_of Nothing header.params.list.items) (items_of NoItem body.list.items) header.body_at header.at)) }
+    ensures err { IfErr result (λ e. e ≡ Memory) }
+{
+    let whole = header.params.depth.max(body.depth + 1) + 1;
+    let depth = header.front.depth.max(whole);
+    let mut list = header.front.list;
+    list.push(External::Function(Function {
+        specifiers: header.specifiers,
+        name: header.name.name,
+        name_at: header.name.at,
+        params: header.params.list,
+        body: body.list,
+        body_at: header.body_at,
+        at: header.at,
+    }))?;
     Ok(ExternalParts { list, depth })
 }
 

@@ -164,6 +164,12 @@ impl ObjectPart {
     }
 }
 
+impl ShapePart {
+    pub fn let_go(self) {
+        drop(self);
+    }
+}
+
 impl Parts {
     pub fn let_go(self) {
         drop(self);

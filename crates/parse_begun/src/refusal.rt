@@ -4,7 +4,7 @@ ghost use Rattle.parse_begun.specs.declared.refusal.Refusal.TheVariants.{Memory}
 use std::alloc::{AllocError, AllocFailed};
 
 /// Why a step leads nowhere.
-#[derive(Clone, Copy, Debug, PartialEq, Eq)]
+#[derive(Clone, Copy)]
 pub enum Refusal {
     Memory,
     Syntax,

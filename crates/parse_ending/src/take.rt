@@ -32,11 +32,13 @@ fn end_test(alloc: Global, test: Test, tree: Part) -> Result<State, Refusal>
                 at,
                 under,
             };
-            Ok(State::OfStatement(AtStatement::Begins, frame.boxed(alloc)?))
+            let under = frame.boxed(alloc)?;
+            Ok(State::OfStatement(AtStatement::Begins, under))
         }
         Test::OfWhile(head, under) => {
             let frame = Frames::InWhile(head, tree, under);
-            Ok(State::OfStatement(AtStatement::Begins, frame.boxed(alloc)?))
+            let under = frame.boxed(alloc)?;
+            Ok(State::OfStatement(AtStatement::Begins, under))
         }
         Test::OfDo(head, body, under) => match do_loop(alloc, head, Box::into_inner(body), tree) {
             Ok(whole) => Ok(State::OfStatement(AtStatement::Closes(whole), under)),

@@ -13,7 +13,7 @@ use c_tree::declaration::{Declaration, Initial, Object, Param};
 use c_tree::expression::{NameId, Specifier};
 use c_tree::statement::ForStart;
 use c_tree::token::TokenKind;
-use parse_begun::begun::{AtHead, AtStatement, Head, NameAt, Scope, State};
+use parse_begun::begun::{AtHead, AtStatement, Braces, Head, NameAt, Scope, State};
 use parse_begun::list::{and_declaration, and_declaring, and_expr, and_object};
 use parse_begun::part::{
     DeclarationPart, ObjectPart, ObjectParts, ParamPart, ParamParts, Part, Parts, ShapePart,
@@ -89,8 +89,13 @@ pub fn object_with(
     ensures ok { IfOk result (λ p. (object_of p.object ≡ Declared name.name.0 (shape_of shape.shape) (Listed (AndExpr (exprs_of NoExpr front.list.items) (expr_of last.tree)) false) name.at) × (p.depth ≡ max shape.depth (max front.depth last.depth) + 1)) }
     ensures err { IfErr result (λ e. e ≡ Memory) }
 {
-    let values = and_expr(front, last)?;
-    Ok(listed_object(name, shape, values, false))
+    match and_expr(front, last) {
+        Ok(values) => Ok(listed_object(name, shape, values, false)),
+        Err(refusal) => {
+            shape.let_go();
+            Err(refusal)
+        }
+    }
 }
 
 /// A declaration of objects.
@@ -181,9 +186,13 @@ pub fn end_declaration(scope: Scope, declaration: DeclarationPart) -> Result<Sta
 {
     match scope {
         Scope::AtFile(front) => Ok(State::File(and_declaring(front, declaration)?)),
-        Scope::AmongItems(front, braces) => {
-            Ok(State::Among(and_declaration(front, declaration)?, braces))
-        }
+        Scope::AmongItems(front, braces) => match and_declaration(front, declaration) {
+            Ok(items) => Ok(State::Among(items, braces)),
+            Err(refusal) => {
+                Braces::let_go(braces);
+                Err(refusal)
+            }
+        },
         Scope::AtFor(head, under) => {
             let start = StartPart {
                 start: ForStart::Declaration(declaration.declaration),

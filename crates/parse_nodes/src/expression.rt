@@ -9,37 +9,10 @@ use c_tree::expression::{
 };
 use c_tree::token::Constant;
 use parse_begun::begun::NameAt;
+use parse_begun::boxed::{three_trees, two_trees};
 use parse_begun::part::{Part, Parts};
 use parse_begun::refusal::Refusal;
 use std::alloc::Global;
-
-fn boxed(alloc: Global, tree: Expr) -> Result<Box<Expr>, Refusal>
-    ensures ok { IfOk result (λ b. b.value ≡ tree) }
-    ensures err { IfErr result (λ e. e ≡ Memory) }
-{
-    Ok(Box::new(alloc, tree)?)
-}
-
-/// Two trees in boxes, or neither.
-fn boxed_pair(alloc: Global, left: Expr, right: Expr) -> Result<(Box<Expr>, Box<Expr>), Refusal>
-    ensures left { IfOk result (λ p. p.0.value ≡ left) }
-    ensures right { IfOk result (λ p. p.1.value ≡ right) }
-    ensures err { IfErr result (λ e. e ≡ Memory) }
-{
-    match boxed(alloc, left) {
-        Ok(left) => match boxed(alloc, right) {
-            Ok(right) => Ok((left, right)),
-            Err(refusal) => {
-                drop(left);
-                Err(refusal)
-            }
-        },
-        Err(refusal) => {
-            drop(right);
-            Err(refusal)
-        }
-    }
-}
 
 pub fn name(name: NameAt) -> Part
     ensures { expr_of result.tree ≡ Name name.name.0 name.at }
@@ -77,7 +50,7 @@ pub fn paren(alloc: Global, inner: Part, at: u32) -> Result<Part, Refusal>
     ensures err { IfErr result (λ e. e ≡ Memory) }
 {
     let depth = inner.depth + 1;
-    let inner = boxed(alloc, inner.tree)?;
+    let inner = inner.into_box(alloc)?;
     Ok(Part {
         tree: Expr::Paren { inner, at },
         depth,
@@ -96,7 +69,7 @@ pub fn binary(
 {
     let depth = left.depth.max(right.depth) + 1;
     let at = left.tree.place();
-    let (left, right) = boxed_pair(alloc, left.tree, right.tree)?;
+    let (left, right) = two_trees(alloc, left, right)?;
     Ok(Part {
         tree: Expr::Binary {
             operator,
@@ -114,7 +87,7 @@ pub fn index(alloc: Global, array: NameAt, inner: Part) -> Result<Part, Refusal>
     ensures err { IfErr result (λ e. e ≡ Memory) }
 {
     let depth = inner.depth + 1;
-    let index = boxed(alloc, inner.tree)?;
+    let index = inner.into_box(alloc)?;
     Ok(Part {
         tree: Expr::Index {
             array: array.name,
@@ -132,7 +105,7 @@ pub fn postfix(alloc: Global, operator: PostfixOperator, operand: Part) -> Resul
 {
     let depth = operand.depth + 1;
     let at = operand.tree.place();
-    let operand = boxed(alloc, operand.tree)?;
+    let operand = operand.into_box(alloc)?;
     Ok(Part {
         tree: Expr::Postfix {
             operator,
@@ -154,7 +127,7 @@ pub fn prefix(
     ensures err { IfErr result (λ e. e ≡ Memory) }
 {
     let depth = operand.depth + 1;
-    let operand = boxed(alloc, operand.tree)?;
+    let operand = operand.into_box(alloc)?;
     Ok(Part {
         tree: Expr::Prefix {
             operator,
@@ -176,7 +149,7 @@ pub fn cast(
     ensures err { IfErr result (λ e. e ≡ Memory) }
 {
     let depth = operand.depth + 1;
-    let operand = boxed(alloc, operand.tree)?;
+    let operand = operand.into_box(alloc)?;
     Ok(Part {
         tree: Expr::Cast {
             specifiers,
@@ -194,28 +167,16 @@ pub fn conditional(alloc: Global, test: Part, first: Part, second: Part) -> Resu
 {
     let depth = test.depth.max(first.depth).max(second.depth) + 1;
     let at = test.tree.place();
-    match boxed_pair(alloc, first.tree, second.tree) {
-        Ok((then, otherwise)) => match boxed(alloc, test.tree) {
-            Ok(test) => Ok(Part {
-                tree: Expr::Conditional {
-                    test,
-                    then,
-                    otherwise,
-                    at,
-                },
-                depth,
-            }),
-            Err(refusal) => {
-                drop(then);
-                drop(otherwise);
-                Err(refusal)
-            }
+    let (test, then, otherwise) = three_trees(alloc, test, first, second)?;
+    Ok(Part {
+        tree: Expr::Conditional {
+            test,
+            then,
+            otherwise,
+            at,
         },
-        Err(refusal) => {
-            drop(test);
-            Err(refusal)
-        }
-    }
+        depth,
+    })
 }
 
 pub fn assign(
@@ -230,7 +191,7 @@ pub fn assign(
 {
     let depth = target.depth.max(value.depth) + 1;
     let at = target.tree.place();
-    let (target, value) = boxed_pair(alloc, target.tree, value.tree)?;
+    let (target, value) = two_trees(alloc, target, value)?;
     Ok(Part {
         tree: Expr::Assign {
             operator,

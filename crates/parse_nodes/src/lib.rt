@@ -8,5 +8,4 @@
 
 pub mod declaration;
 pub mod expression;
-pub mod function;
 pub mod statement;

@@ -11,16 +11,10 @@ ghost use Rattle.parse_begun.specs.declared.refusal.Refusal.TheVariants.{Memory}
 
 use c_tree::statement::{ForHead, Statement};
 use parse_begun::begun::{AtStatement, Frames, HeadedFor, Loop, State};
+use parse_begun::boxed::{head_and_body, two_statements};
 use parse_begun::part::{ItemParts, Part, StatementPart};
 use parse_begun::refusal::Refusal;
 use std::alloc::Global;
-
-fn boxed(alloc: Global, statement: Statement) -> Result<Box<Statement>, Refusal>
-    ensures ok { IfOk result (λ b. b.value ≡ statement) }
-    ensures err { IfErr result (λ e. e ≡ Memory) }
-{
-    Ok(Box::new(alloc, statement)?)
-}
 
 /// An expression that is a statement.
 pub fn evaluate(tree: Part) -> StatementPart
@@ -65,16 +59,22 @@ pub fn do_loop(
     ensures err { IfErr result (λ e. e ≡ Memory) }
 {
     let depth = body.depth.max(test.depth) + 1;
-    let body = boxed(alloc, body.statement)?;
-    Ok(StatementPart {
-        statement: Statement::Do {
-            bound: head.bound,
-            body,
-            test: test.tree,
-            at: head.at,
-        },
-        depth,
-    })
+    match body.into_box(alloc) {
+        Ok(body) => Ok(StatementPart {
+            statement: Statement::Do {
+                bound: head.bound,
+                body,
+                test: test.tree,
+                at: head.at,
+            },
+            depth,
+        }),
+        Err(refusal) => {
+            head.let_go();
+            test.let_go();
+            Err(refusal)
+        }
+    }
 }
 
 pub fn if_then(
@@ -88,15 +88,20 @@ pub fn if_then(
     ensures err { IfErr result (λ e. e ≡ Memory) }
 {
     let depth = test.depth.max(then.depth) + 1;
-    let then = boxed(alloc, then.statement)?;
-    Ok(StatementPart {
-        statement: Statement::If {
-            test: test.tree,
-            then,
-            at,
-        },
-        depth,
-    })
+    match then.into_box(alloc) {
+        Ok(then) => Ok(StatementPart {
+            statement: Statement::If {
+                test: test.tree,
+                then,
+                at,
+            },
+            depth,
+        }),
+        Err(refusal) => {
+            test.let_go();
+            Err(refusal)
+        }
+    }
 }
 
 pub fn while_loop(
@@ -110,16 +115,22 @@ pub fn while_loop(
     ensures err { IfErr result (λ e. e ≡ Memory) }
 {
     let depth = test.depth.max(body.depth) + 1;
-    let body = boxed(alloc, body.statement)?;
-    Ok(StatementPart {
-        statement: Statement::While {
-            bound: head.bound,
-            test: test.tree,
-            body,
-            at: head.at,
-        },
-        depth,
-    })
+    match body.into_box(alloc) {
+        Ok(body) => Ok(StatementPart {
+            statement: Statement::While {
+                bound: head.bound,
+                test: test.tree,
+                body,
+                at: head.at,
+            },
+            depth,
+        }),
+        Err(refusal) => {
+            head.let_go();
+            test.let_go();
+            Err(refusal)
+        }
+    }
 }
 
 pub fn if_else(
@@ -134,23 +145,21 @@ pub fn if_else(
     ensures err { IfErr result (λ e. e ≡ Memory) }
 {
     let depth = test.depth.max(first.depth).max(second.depth) + 1;
-    let then = match boxed(alloc, first.statement) {
-        Ok(then) => then,
+    match two_statements(alloc, first, second) {
+        Ok((then, otherwise)) => Ok(StatementPart {
+            statement: Statement::IfElse {
+                test: test.tree,
+                then,
+                otherwise,
+                at,
+            },
+            depth,
+        }),
         Err(refusal) => {
-            second.let_go();
-            return Err(refusal);
+            test.let_go();
+            Err(refusal)
         }
-    };
-    let otherwise = boxed(alloc, second.statement)?;
-    Ok(StatementPart {
-        statement: Statement::IfElse {
-            test: test.tree,
-            then,
-            otherwise,
-            at,
-        },
-        depth,
-    })
+    }
 }
 
 /// A statement that is one node.
@@ -164,22 +173,15 @@ pub fn leaf(statement: Statement) -> StatementPart
     }
 }
 
-fn boxed_head(alloc: Global, head: ForHead) -> Result<Box<ForHead>, Refusal>
-    ensures ok { IfOk result (λ b. b.value ≡ head) }
-    ensures err { IfErr result (λ e. e ≡ Memory) }
-{
-    Ok(Box::new(alloc, head)?)
-}
-
 /// Behind the head of a `for` its body begins.
 pub fn begin_for_body(alloc: Global, head: HeadedFor, under: Box<Frames>) -> Result<State, Refusal>
     ensures { (f : Names) → Gives f result (Goes (Begins (InFor head.bound (start_part_of f head.start) (maybe_of f head.test) (maybe_of f head.step) head.at (frames_of f under.value)))) }
 {
     match head.boxed(alloc) {
-        Ok(head) => Ok(State::OfStatement(
-            AtStatement::Begins,
-            Frames::InFor(head, under).boxed(alloc)?,
-        )),
+        Ok(head) => {
+            let under = Frames::InFor(head, under).boxed(alloc)?;
+            Ok(State::OfStatement(AtStatement::Begins, under))
+        }
         Err(refusal) => {
             Frames::let_go(under);
             Err(refusal)
@@ -198,27 +200,30 @@ pub fn for_loop(
 {
     let start = head.start.depth.max(head.test.depth);
     let depth = start.max(head.step.depth).max(body.depth) + 1;
-    let body = match boxed(alloc, body.statement) {
-        Ok(body) => body,
-        Err(refusal) => {
-            head.let_go();
-            return Err(refusal);
-        }
+    let of = Loop {
+        bound: head.bound,
+        at: head.at,
     };
     let parts = ForHead {
         start: head.start.start,
         test: head.test.tree,
         step: head.step.tree,
     };
-    Ok(StatementPart {
-        statement: Statement::For {
-            bound: head.bound,
-            head: boxed_head(alloc, parts)?,
-            body,
-            at: head.at,
-        },
-        depth,
-    })
+    match head_and_body(alloc, parts, body) {
+        Ok((head, body)) => Ok(StatementPart {
+            statement: Statement::For {
+                bound: of.bound,
+                head,
+                body,
+                at: of.at,
+            },
+            depth,
+        }),
+        Err(refusal) => {
+            of.let_go();
+            Err(refusal)
+        }
+    }
 }
 
 pub fn block(items: ItemParts, at: u32) -> StatementPart

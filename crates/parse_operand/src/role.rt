@@ -12,7 +12,7 @@ use c_tree::token::TokenKind;
 use parse_words::Lexeme;
 
 /// What a token does behind an operand.
-#[derive(Clone, Copy, Debug, PartialEq, Eq)]
+#[derive(Clone, Copy)]
 pub enum Role {
     Joins(BinaryOperator),
     Assigns(AssignOperator),

@@ -12,10 +12,11 @@ use super::begins::begin_any_statement;
 use c_tree::pragma::Pragma;
 use c_tree::token::TokenKind;
 use parse_begun::begun::{AtOperand, AtStatement, Braces, Frames, Purpose, Scope, Stack, State};
-use parse_begun::list::{and_default, and_restricting, and_restriction, no_items, one_specifier};
+use parse_begun::list::{
+    and_default, and_function, and_restricting, and_restriction, no_items, one_specifier,
+};
 use parse_begun::part::{ExternalParts, ItemParts, Part};
 use parse_begun::refusal::Refusal;
-use parse_nodes::function::and_function;
 use parse_nodes::statement::{block, switch};
 use parse_operand::role::specifier_said;
 use parse_words::{Lexeme, Word};

@@ -89,7 +89,8 @@ fn branch_behind(
                 at,
                 under,
             };
-            Ok(State::OfStatement(AtStatement::Begins, frame.boxed(alloc)?))
+            let under = frame.boxed(alloc)?;
+            Ok(State::OfStatement(AtStatement::Begins, under))
         }
         Err(refusal) => {
             test.let_go();

@@ -5,7 +5,7 @@ use std::alloc::{AllocError, Global};
 use wcc_base::Text;
 
 /// Whether the places of nodes are printed.
-#[derive(Clone, Copy, Debug, PartialEq, Eq)]
+#[derive(Clone, Copy)]
 pub enum Places {
     Hidden,
     Shown,
@@ -71,7 +71,7 @@ impl<'a> Printer<'a> {
 
     /// The place of the node before it.
     pub fn place(&mut self, at: u32) -> Result<(), AllocError> {
-        if self.places == Places::Shown {
+        if matches!(self.places, Places::Shown) {
             write!(self.line, "@{at}")?;
         }
         Ok(())

@@ -4,7 +4,7 @@ use code_flow_system::Cert;
 use wcc_base::Items;
 
 /// What a search found.
-#[derive(Clone, Copy, Debug, PartialEq, Eq)]
+#[derive(Clone, Copy)]
 pub enum Kind {
     /// The bound is the greatest value of a flow.
     Greatest,

@@ -82,7 +82,7 @@ fn bounded_answer(
     requires can { CanBound (table_of costs.now) system.now shapes.now spans.now }
 {
     let bounded = bound(alloc, system, shapes, spans, costs)?;
-    let is_there = bounded.kind == Kind::Greatest;
+    let is_there = matches!(bounded.kind, Kind::Greatest);
     let told = told(alloc, system, costs, &bounded);
     drop(bounded);
     if lists_flow(alloc, system, shapes, spans, costs, is_there)? {

@@ -3,7 +3,7 @@
 use wcc_base::Memory;
 
 /// Why a source is not compiled. Want of memory is `Memory`, whichever step it was.
-#[derive(Debug, Drop)]
+#[derive(Drop)]
 pub enum Refusal {
     /// The source has no program with facts.
     Front(facts_front::Refusal),

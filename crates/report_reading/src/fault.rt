@@ -3,7 +3,7 @@ use thiserror::Error;
 use wcc_base::Memory;
 
 /// Why a text is no report's: the first line that fails, which are counted from 1.
-#[derive(Clone, Copy, Debug, PartialEq, Eq, Error)]
+#[derive(Clone, Copy, Debug, Error)]
 pub enum ReportFault {
     /// The line hasn't the form of a line that may stand there, or has no end; or it is missing, or
     /// stands behind the last one.

@@ -2,7 +2,7 @@
 use wcc_base::Memory;
 
 /// Why a line may not stand.
-#[derive(Clone, Copy, Debug, PartialEq, Eq)]
+#[derive(Clone, Copy)]
 pub enum Flaw {
     /// Its words haven't the form of its kind, or it breaks the order of the lines.
     Form,

@@ -48,29 +48,34 @@ fn address(at: u32) -> [u8; 8]
     ]
 }
 
+// Adds bytes.
+fn put(text: &mut Vec<u8>, bytes: &[u8]) -> Result<(), Memory>
+    ensures { OnOk result (text.new.items ≡ text.old.items ++ bytes.now) }
+{
+    text.extend_from_slice(bytes)?;
+    Ok(())
+}
+
 // Adds a term of a sum.
 fn put_term(text: &mut Vec<u8>, at: u32, number: i64) -> Result<(), Memory>
     ensures { OnOk result (text.new.items ≡ text.old.items ++ field_word (Field.Term at number)) }
 {
-    text.extend_from_slice(Buffer::new().format(number).as_bytes())?;
+    put(text, Buffer::new().format(number).as_bytes())?;
     text.push(b'*')?;
-    text.extend_from_slice(&address(at))?;
-    Ok(())
+    put(text, &address(at))
 }
 
 // Adds a word.
 fn put_word(text: &mut Vec<u8>, field: &Field) -> Result<(), Memory>
     ensures { OnOk result (text.new.items ≡ text.old.items ++ field_word field.now) }
 {
-    let mut buffer = Buffer::new();
     match field {
-        Field::Number(number) => text.extend_from_slice(buffer.format(*number).as_bytes())?,
-        Field::Signed(number) => text.extend_from_slice(buffer.format(*number).as_bytes())?,
-        Field::Address(at) => text.extend_from_slice(&address(*at))?,
-        Field::Term(at, number) => put_term(text, *at, *number)?,
-        Field::Word(word) => text.extend_from_slice(word)?,
+        Field::Number(number) => put(text, Buffer::new().format(*number).as_bytes()),
+        Field::Signed(number) => put(text, Buffer::new().format(*number).as_bytes()),
+        Field::Address(at) => put(text, &address(*at)),
+        Field::Term(at, number) => put_term(text, *at, *number),
+        Field::Word(word) => put(text, word),
     }
-    Ok(())
 }
 
 // Adds a word behind a blank.
@@ -95,7 +100,7 @@ pub fn put_fields(text: &mut Vec<u8>, fields: &[Field]) -> Result<(), Memory>
 pub fn put_start(text: &mut Vec<u8>, first: &[u8], fields: &[Field]) -> Result<(), Memory>
     ensures { OnOk result (text.new.items ≡ text.old.items ++ first.now ++ spaced (map field_word fields.now)) }
 {
-    text.extend_from_slice(first)?;
+    put(text, first)?;
     put_fields(text, fields)
 }
 

@@ -2,7 +2,7 @@
 use thiserror::Error;
 
 /// Why there are no responses.
-#[derive(Clone, Copy, Debug, PartialEq, Eq, Error)]
+#[derive(Clone, Copy, Debug, Error)]
 pub enum TaskFault {
     /// The first task that has no response of at most its period.
     #[error("task {task} is late")]

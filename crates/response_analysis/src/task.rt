@@ -13,7 +13,7 @@ const CYCLES: u64 = 1 << 63;
 
 /// A task: what each of its jobs needs at most, and the cycles from one release to the next at
 /// least.
-#[derive(Clone, Copy, Debug, PartialEq, Eq)]
+#[derive(Clone, Copy)]
 pub struct Task {
     pub cycles: u64,
     pub period: u64,

@@ -3,7 +3,7 @@ use thiserror::Error;
 use wcc_base::Memory;
 
 /// Why a text is no list of tasks: the first line that fails, which are counted from 1.
-#[derive(Clone, Copy, Debug, PartialEq, Eq, Error)]
+#[derive(Clone, Copy, Debug, Error)]
 pub enum ListFault {
     /// The line hasn't the form of a task's line, or has no end, or its name stands in a line before
     /// it; or it is missing, or is the sixty-fifth.

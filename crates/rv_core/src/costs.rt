@@ -6,7 +6,7 @@ ghost use Rattle.rv_core.specs.CostRange.{IsFetchCost};
 /// its class, and of a load or store by the region of the data; and how long an instruction waits
 /// for a register that the one before it loads. A fetch costs from 1 to 1000, and all else at most
 /// 1000.
-#[derive(Clone, Copy, Debug, PartialEq, Eq)]
+#[derive(Clone, Copy)]
 pub struct Costs {
     pub fetch_flash: u32,
     pub fetch_spm: u32,

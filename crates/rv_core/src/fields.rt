@@ -1,7 +1,7 @@
 // The six fields that make up a word.
 
 /// The fields of a word of the base formats.
-#[derive(Clone, Copy, Debug, PartialEq, Eq)]
+#[derive(Clone, Copy)]
 pub struct Fields {
     pub opcode: u32,
     pub rd: u32,

@@ -11,7 +11,7 @@ use std::marker::Model;
 /// An instruction. Its fields are in the ranges of its row, and those that the row doesn't have
 /// are 0. The immediate of a branch or jump is its offset in bytes, that of LUI and AUIPC the
 /// 32-bit number whose upper 20 bits they give, and that of a shift its amount.
-#[derive(Clone, Copy, Debug, PartialEq, Eq)]
+#[derive(Clone, Copy)]
 pub struct Instr {
     op: Op,
     rd: u8,

@@ -1,7 +1,7 @@
 // The names of the instructions.
 
 /// The instructions of RV32I without FENCE and EBREAK, and those of the M extension.
-#[derive(Clone, Copy, Debug, PartialEq, Eq)]
+#[derive(Clone, Copy, Debug)]
 pub enum Op {
     Lui,
     Auipc,

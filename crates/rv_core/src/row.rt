@@ -2,7 +2,7 @@
 
 /// Where the fields of a word stand: the base formats of the manual, the variant of I for
 /// shifts by an immediate, whose upper seven bits are funct7, and the one word of ECALL.
-#[derive(Clone, Copy, Debug, PartialEq, Eq)]
+#[derive(Clone, Copy)]
 pub enum Format {
     R,
     I,
@@ -15,7 +15,7 @@ pub enum Format {
 }
 
 /// What a step's cost goes by beside its fetch and its access.
-#[derive(Clone, Copy, Debug, PartialEq, Eq)]
+#[derive(Clone, Copy)]
 pub enum Class {
     Plain,
     Multiply,
@@ -28,7 +28,7 @@ pub enum Class {
 }
 
 /// A function of two words.
-#[derive(Clone, Copy, Debug, PartialEq, Eq)]
+#[derive(Clone, Copy)]
 pub enum Alu {
     Sum,
     Difference,
@@ -51,7 +51,7 @@ pub enum Alu {
 }
 
 /// What a branch tests of two words.
-#[derive(Clone, Copy, Debug, PartialEq, Eq)]
+#[derive(Clone, Copy)]
 pub enum Condition {
     Equal,
     NotEqual,
@@ -62,7 +62,7 @@ pub enum Condition {
 }
 
 /// How much of memory a load or a store touches: one, two or four bytes.
-#[derive(Clone, Copy, Debug, PartialEq, Eq)]
+#[derive(Clone, Copy)]
 pub enum Width {
     Byte,
     Half,
@@ -70,7 +70,7 @@ pub enum Width {
 }
 
 /// What an instruction does.
-#[derive(Clone, Copy, Debug, PartialEq, Eq)]
+#[derive(Clone, Copy)]
 pub enum Effect {
     /// The immediate into rd.
     SetUpper,
@@ -95,7 +95,7 @@ pub enum Effect {
 }
 
 /// A row of the instruction table.
-#[derive(Clone, Copy, Debug, PartialEq, Eq)]
+#[derive(Clone, Copy)]
 pub struct Row {
     pub format: Format,
     pub opcode: u8,

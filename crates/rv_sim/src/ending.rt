@@ -1,7 +1,7 @@
 // How a simulation ends.
 
 /// Why a simulation doesn't go on.
-#[derive(Clone, Copy, Debug, PartialEq, Eq)]
+#[derive(Clone, Copy)]
 pub enum Ending {
     /// The program has exited with this value.
     Exit { value: i32 },

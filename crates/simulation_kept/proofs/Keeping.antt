@@ -12,8 +12,8 @@ use Rattle.code_flow_system.specs.MoveCosts.{lies_within}
 use Rattle.code_flow_system.specs.KeptRuns.{KeepsLine, names_region, touches_named}
 use Rattle.low_ir.specs.Effects.{World}
 use Rattle.low_ir.specs.Places.{Placed}
-use Rattle.claims_accesses.specs.Lines.{Access, line_of}
-use Rattle.claims_definition.specs.Laws.{IsSettled}
+use Rattle.claims_definition.specs.Lines.{Access, line_of}
+use Rattle.claims_definition.specs.ClaimLaws.{IsSettled}
 use Rattle.claims_definition.specs.Listed.{Laid, accesses_in, accesses_of, by_address, regions_of}
 use Rattle.claims_definition.proofs.Blocks.{all_in_order}
 use Rattle.claims_definition.proofs.Marks.{there_flat}

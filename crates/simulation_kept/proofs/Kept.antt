@@ -21,12 +21,12 @@ use Rattle.low_places.proofs.Follow.{carried}
 use Rattle.low_places.proofs.Ways.{all_safe}
 use Rattle.asm_program.proofs.FormedLemmas.{program}
 use Rattle.asm_code.proofs.Registers.{placed_there}
-use Rattle.simulation_memory.proofs.PlacedLemmas.{placed_keeps}
+use Rattle.simulation_loaded.proofs.PlacedLemmas.{placed_keeps}
 use Rattle.image_frames.specs.Memories.{Placement}
 use Rattle.image_definition.specs.Images.{image_in}
 use Rattle.image_definition.proofs.LaidLemmas.{image_loadable}
 use Rattle.simulation_law.proofs.Simulated.{simulated}
-use Rattle.claims_accesses.proofs.Naming.{named}
+use Rattle.claims_definition.proofs.Naming.{named}
 use Rattle.simulation_kept.specs.Laws.{claims_on, run_of, Finishes, FinishesWithin, HasImage, HasSystem}
 use Rattle.simulation_kept.proofs.KeptLemmas.{claims_kept}
 use Rattle.simulation_kept.proofs.TotalLemmas.{placed_totals}

@@ -19,7 +19,7 @@ use Rattle.low_ir.specs.Code.{Loop}
 use Rattle.low_ir.specs.Effects.{World}
 use Rattle.low_ir.specs.Formed.{IsLoop, only_jump}
 use Rattle.low_ir.specs.Places.{Placed}
-use Rattle.low_counts.specs.Totals.{KeepsTotals}
+use Rattle.low_places.specs.Totals.{KeepsTotals}
 use Rattle.asm_program.specs.Formed.{IsProgram}
 use Rattle.asm_program.specs.Functions.{function_in, graph_of, loop_of}
 use Rattle.asm_program.proofs.GraphLemmas.{function_at, with_loops}
@@ -30,10 +30,10 @@ use Rattle.image_definition.specs.Images.{image_in, exits_in, FitsImage}
 use Rattle.image_definition.proofs.LaidLemmas.{image_loadable}
 use Rattle.simulation_loaded.specs.Layouts.{layout_of}
 use Rattle.simulation_kept.proofs.Keeping.{keeps_regions}
-use Rattle.simulation_visits.proofs.CountLemmas.{ends_at_exit}
-use Rattle.simulation_visits.proofs.LoopLemmas.{loop_kept}
-use Rattle.claims_accesses.specs.Laws.{IsNamed}
-use Rattle.claims_definition.specs.Laws.{IsClaimOf}
+use Rattle.simulation_marks.proofs.CountLemmas.{ends_at_exit}
+use Rattle.simulation_marks.proofs.LoopLemmas.{loop_kept}
+use Rattle.claims_definition.specs.AccessLaws.{IsNamed}
+use Rattle.claims_definition.specs.ClaimLaws.{IsClaimOf}
 use Rattle.claims_definition.specs.Listed.{Laid, claims_of, functions_of, loop_claim, loops_of, placing, regions_of}
 use Rattle.claims_definition.proofs.Claimed.{are_claims}
 use Rattle.claims_image.specs.Images.{HasClaims, laid_of}

@@ -4,7 +4,7 @@ use Rattle.rv_core.specs.Runs.{Setup, mrun, Run, setup}
 use Rattle.code_flow_system.specs.KeptRuns.{KeepsLine, KeepsClaims}
 use Rattle.low_ir.specs.Effects.{World}
 use Rattle.low_ir.specs.Places.{Placed, Placing, assignment, placed}
-use Rattle.claims_definition.specs.Laws.{IsSettled}
+use Rattle.claims_definition.specs.ClaimLaws.{IsSettled}
 use Rattle.claims_definition.specs.Listed.{regions_of, claims_of}
 use Rattle.image_frames.specs.Memories.{Placement}
 use Rattle.claims_image.specs.Images.{laid_of}
@@ -20,12 +20,12 @@ use Rattle.low_ir.specs.Formed.{IsLow}
 use Rattle.low_ir.specs.Runs.{lrun}
 use Rattle.low_ir.specs.Turns.{IsGood}
 use Rattle.low_ir.specs.Spacing.{IsAssignment}
-use Rattle.low_counts.specs.Totals.{KeepsTotals}
+use Rattle.low_places.specs.Totals.{KeepsTotals}
 use Rattle.asm_program.specs.Formed.{IsProgram}
 use Rattle.asm_program.specs.Functions.{function_in}
 use Rattle.asm_program.specs.Ranges.{InProgram}
 use Rattle.image_definition.specs.Images.{image_in, FitsImage}
-use Rattle.claims_accesses.specs.Laws.{IsNamed}
+use Rattle.claims_definition.specs.AccessLaws.{IsNamed}
 
 -- each visit within a line of regions touches only those that the line names
 abbrev pub RegionsAreKept : Type 0

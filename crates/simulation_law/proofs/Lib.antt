@@ -1,1 +1,14 @@
+pub mod Home
+pub mod Resuming
+pub mod Leaving
+pub mod Ends
+pub mod Late
+pub mod Passing
+pub mod Stores
+pub mod Calls
+pub mod Follows
+pub mod Running
+pub mod FirstArrays
+pub mod Starting
+pub mod Imaged
 pub mod Simulated

@@ -10,11 +10,11 @@ use Rattle.low_ir.specs.Places.{Placed, prun}
 use Rattle.asm_program.specs.Formed.{IsProgram}
 use Rattle.asm_program.specs.Ranges.{InProgram}
 use Rattle.simulation_relation.specs.Following.{Ends}
-use Rattle.simulation_memory.specs.Laws.{KeepsRegisters}
+use Rattle.simulation_loaded.specs.MemoryLaws.{KeepsRegisters}
 use Rattle.image_frames.specs.Memories.{Placement}
 use Rattle.image_definition.specs.Images.{image_in, FitsImage}
 use Rattle.simulation_loaded.specs.Layouts.{layout_of}
-use Rattle.simulation_runs.proofs.Imaged.{image_ends}
+use Rattle.simulation_law.proofs.Imaged.{image_ends}
 
 from_start : (P : ℕ → Type 0) → Later P 0 → (n : ℕ) × P n
 from_start P (k, h) = (0 + k, h)

@@ -12,7 +12,7 @@ use Rattle.low_ir.specs.Spacing.{IsAssignment}
 use Rattle.asm_program.specs.Formed.{IsProgram}
 use Rattle.asm_program.specs.Ranges.{InProgram}
 use Rattle.simulation_relation.specs.Following.{Ends}
-use Rattle.simulation_memory.specs.Laws.{KeepsRegisters}
+use Rattle.simulation_loaded.specs.MemoryLaws.{KeepsRegisters}
 use Rattle.image_frames.specs.Memories.{Placement}
 use Rattle.image_definition.specs.Images.{image_in, FitsImage}
 use Rattle.simulation_loaded.specs.Layouts.{layout_of}

@@ -9,8 +9,8 @@ use Rattle.asm_items.specs.Placings.{Blocks, starts_from}
 use Rattle.asm_items.specs.Standing.{HasItems}
 use Rattle.asm_items.proofs.MoveLemmas.{size_aligned, size_some}
 use Rattle.asm_writing.specs.Forms.{AreLike}
-use Rattle.claims_accesses.specs.Lines.{Access, access_at, items_accesses, blocks_accesses}
-use Rattle.claims_accesses.specs.Touches.{Touch}
+use Rattle.claims_definition.specs.Lines.{Access, access_at, items_accesses, blocks_accesses}
+use Rattle.claims_definition.specs.Touches.{Touch}
 use Rattle.simulation_relation.specs.Noted.{Noted}
 use Rattle.simulation_relation.specs.Layouts.{Layout, HasCode}
 use Rattle.simulation_loaded.proofs.NotedLemmas.{item_of, touch_of}

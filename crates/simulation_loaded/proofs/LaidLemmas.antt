@@ -17,12 +17,12 @@ use Rattle.low_ir.specs.Places.{Placed}
 use Rattle.asm_program.specs.Formed.{IsProgram}
 use Rattle.asm_program.specs.Functions.{function_in, at_once, graph_of}
 use Rattle.asm_program.specs.Ranges.{InProgram}
-use Rattle.claims_accesses.specs.Lines.{items_accesses}
-use Rattle.claims_accesses.specs.Touches.{program_touches}
+use Rattle.claims_definition.specs.Lines.{items_accesses}
+use Rattle.claims_definition.specs.Touches.{program_touches}
 use Rattle.simulation_relation.specs.Noted.{noted_at}
 use Rattle.simulation_relation.specs.Layouts.{Layout, HasCode, IsLaid}
-use Rattle.simulation_memory.specs.Laws.{KeepsRegisters}
-use Rattle.simulation_memory.proofs.PlanLemmas.{is_plan}
+use Rattle.simulation_loaded.specs.MemoryLaws.{KeepsRegisters}
+use Rattle.simulation_loaded.proofs.PlanLemmas.{is_plan}
 use Rattle.image_frames.specs.Memories.{Placement, memory_of}
 use Rattle.image_definition.specs.Images.{rows_in, items_in, formed_in, placing_in, image_in, exits_in, FitsImage}
 use Rattle.image_definition.proofs.LaidLemmas.{image_is, placed_even}

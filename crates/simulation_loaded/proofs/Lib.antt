@@ -1,3 +1,7 @@
+pub mod SiteLemmas
+pub mod ObjectLemmas
+pub mod PlanLemmas
+pub mod PlacedLemmas
 pub mod BegunLemmas
 pub mod ExitLemmas
 pub mod NotedLemmas

@@ -16,7 +16,7 @@ use Rattle.asm_program.specs.Emission.{load_op, store_op, plain_code, before_cal
 use Rattle.asm_program.specs.Functions.{PlacedBlock, PlacedFunction, no_function, function_in, own_frame, at_once, passed_in, instr_items, end_items, body_items, filled, opening_items, block_items, blocks_from, leaving_blocks, start_items, items_at}
 use Rattle.asm_program.specs.Functions as plain
 use Rattle.asm_program.proofs.ItemLemmas.{of_block, of_function as items_of_function, of_start as items_of_start, blocks_length as items_blocks_length}
-use Rattle.claims_accesses.specs.Touches.{Touch, Nothing, OfArrays, item_touch, touches, named, instr_touches, body_touches, filled_touches, block_touches, blocks_touches, leaving_touches, function_touches, functions_touches, program_touches}
+use Rattle.claims_definition.specs.Touches.{Touch, Nothing, OfArrays, item_touch, touches, named, instr_touches, body_touches, filled_touches, block_touches, blocks_touches, leaving_touches, function_touches, functions_touches, program_touches}
 use Rattle.simulation_relation.specs.Noted.{Noted, noted, singles, touching, noted_filled, noted_instr, noted_body, noted_block, noted_by, noted_at}
 
 abbrev pub item_of : Noted → Item

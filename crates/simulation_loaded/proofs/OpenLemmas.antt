@@ -15,8 +15,8 @@ use Rattle.asm_program.specs.Numbers.{ram}
 use Rattle.asm_program.specs.Frames.{frame_of, object_at}
 use Rattle.simulation_relation.specs.Plans.{frame_size}
 use Rattle.simulation_relation.specs.Layouts.{AreOpen, IsOpen, IsMemoryOf}
-use Rattle.simulation_memory.proofs.ObjectLemmas.{size_fits}
-use Rattle.image_segments.specs.Laws.{Opens}
+use Rattle.simulation_loaded.proofs.ObjectLemmas.{size_fits}
+use Rattle.image_segments.specs.SegmentLaws.{Opens}
 use Rattle.image_segments.proofs.OpenLemmas.{frame_open, array_open}
 use Rattle.image_frames.specs.Memories.{Placement, memory_of}
 use Rattle.image_frames.proofs.FrameLemmas.{is_frame}

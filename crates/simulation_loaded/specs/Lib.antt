@@ -1,2 +1,3 @@
+pub mod MemoryLaws
 pub mod Layouts
-pub mod Laws
+pub mod LoadedLaws

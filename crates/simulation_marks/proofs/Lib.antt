@@ -1,3 +1,5 @@
+pub mod CountLemmas
+pub mod LoopLemmas
 pub mod Sums
 pub mod Events
 pub mod Marks

@@ -15,13 +15,13 @@ use Rattle.asm_placed.proofs.Alike.{functions_long}
 use Rattle.low_ir.specs.Effects.{World}
 use Rattle.low_ir.specs.Places.{Placed}
 use Rattle.low_ir.specs.Turns.{mark_count}
-use Rattle.low_counts.specs.Totals.{began_count}
+use Rattle.low_places.specs.Totals.{began_count}
 use Rattle.asm_program.specs.Frames.{Memory}
 use Rattle.asm_program.specs.Functions.{PlacedBlock, PlacedFunction, function_in, functions_from, no_function, program_items, start_items}
 use Rattle.simulation_relation.specs.Following.{Ends}
 use Rattle.image_frames.specs.Memories.{Placement}
 use Rattle.simulation_loaded.specs.Layouts.{layout_of}
-use Rattle.simulation_visits.proofs.CountLemmas.{starts_counted}
+use Rattle.simulation_marks.proofs.CountLemmas.{starts_counted}
 use Rattle.claims_definition.specs.Listed.{Laid, by_address, functions_of, marked_from, marked_here, places_in, places_of, placing}
 use Rattle.claims_image.specs.Images.{laid_of}
 use Rattle.simulation_marks.proofs.Sums.{summed, summed-append, in_numbers}

@@ -12,7 +12,7 @@ use Rattle.low_ir.specs.Room.{marks_once}
 use Rattle.asm_program.specs.Functions.{PlacedBlock, PlacedFunction}
 use Rattle.asm_program.specs.Marked.{blocks_marked, functions_marked}
 use Rattle.claims_definition.specs.Listed.{Laid, places_of}
-use Rattle.simulation_marks.specs.Laws.{blocks_standing, functions_standing, has_mark}
+use Rattle.simulation_marks.specs.MarkLaws.{blocks_standing, functions_standing, has_mark}
 use Rattle.simulation_marks.proofs.Sums.{summed, summed-add, summed-same, summed-zero, upto, none_counts, one_counts}
 use Rattle.simulation_marks.proofs.Places.{places_many}
 

@@ -1,11 +1,21 @@
-// The laws of marks.
-ghost use Rattle.simulation_marks.specs.Laws.{
-  AllPlacesAreFew,
-  MarksAreCounted,
-  PlacedKeepMarks,
-  PlacedStand,
-  PlacesAreFew,
-};
+// What is proved, by calls with empty bodies.
+ghost use Rattle.simulation_marks.specs.VisitLaws.{StartsAreCounted, EndsAreExits, LoopsAreKept};
+ghost use Rattle.simulation_marks.specs.MarkLaws.{AllPlacesAreFew, MarksAreCounted, PlacedKeepMarks, PlacedStand, PlacesAreFew};
+
+/// The start of a block is visited as often as the block begins.
+pub fn starts_are_counted()
+    ensures { StartsAreCounted }
+{}
+
+/// The last visit alone is at a listed exit.
+pub fn ends_are_exits()
+    ensures { EndsAreExits }
+{}
+
+/// A claim on a loop is kept where the loop keeps its bounds in all its entries together.
+pub fn loops_are_kept()
+    ensures { LoopsAreKept }
+{}
 
 /// The addresses of a mark are visited, all together, as often as the run over places passes the mark.
 pub fn marks_are_counted()

@@ -22,7 +22,7 @@ use Rattle.low_ir.specs.Places.{Placed}
 use Rattle.asm_program.specs.Frames.{Memory, frame_of, object_at}
 use Rattle.asm_program.specs.Formed.{IsProgram}
 use Rattle.asm_program.specs.Functions.{PlacedBlock, function_in, block_count}
-use Rattle.claims_accesses.specs.Lines.{Access, access_at}
+use Rattle.claims_definition.specs.Lines.{Access, access_at}
 use Rattle.simulation_relation.specs.Plans.{Needs, IsPlan, frame_size}
 use Rattle.simulation_relation.specs.Noted.{Noted, noted_at}
 

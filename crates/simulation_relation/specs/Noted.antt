@@ -11,7 +11,7 @@ use Rattle.asm_program.specs.Frames.{Memory, frame_of}
 use Rattle.asm_program.specs.Operands.{address_code, address_offset, address_register, operand_code, operand_register, place_register, result_code}
 use Rattle.asm_program.specs.Emission.{load_op, store_op, plain_code, before_call, behind_call}
 use Rattle.asm_program.specs.Functions.{PlacedBlock, end_items, function_in, items_at, opening_items, own_frame, passed_in}
-use Rattle.claims_accesses.specs.Touches.{Touch, OfArrays, item_touch, named}
+use Rattle.claims_definition.specs.Touches.{Touch, OfArrays, item_touch, named}
 
 pub record Noted : Type 0 where
   pub item : Item

@@ -40,7 +40,9 @@ pub record Saves (p : Placed) (m : Memory) (needs : Needs) (f : ℕ) : Type 0 wh
 
 -- a call of function g by function f
 pub record SavesAt (p : Placed) (m : Memory) (needs : Needs) (f g : ℕ) (note : List ℕ) : Type 0 where
-  -- what the call keeps is needed of the callee, or is that of a parameter, and has a home
+  -- what the call keeps can be kept
+  pub lasting : (q : ℕ) → is_member note q ≡ true → q < machine_registers
+  -- and is needed of the callee, or is that of a parameter, and has a home
   pub kept : (q : ℕ) → is_member note q ≡ true → is_member (registers_among (parameters_of p g)) q ≡ false → is_member (needs g) q ≡ true
   pub homes : (q : ℕ) → is_member (kept_among (parameters_of p g) note) q ≡ true → is_member (frame_of m f).homes q ≡ true
   -- what others need of the caller, and it doesn't save, is needed of the callee
@@ -68,6 +70,8 @@ pub record IsPlan (p : Placed) (m : Memory) (needs : Needs) (regions : ℕ → R
   pub frames : (f : ℕ) → f < length p.functions → IsFramePlaced (frame_of m f)
   pub slots : (f : ℕ) → f < length p.functions → (function_in p f).size ≤ (frame_of m f).slots
   pub frames_apart : (f g : ℕ) → f ≢ g → f < length p.functions → g < length p.functions → AreApart (frame_of m f).at (frame_size (frame_of m f)) (frame_of m g).at (frame_size (frame_of m g))
+  -- what others need can be kept over calls
+  pub lasting : (f q : ℕ) → f < length p.functions → is_member (needs f) q ≡ true → q < machine_registers
   pub saves : (f : ℕ) → f < length p.functions → Saves p m needs f
   pub calls : (f g : ℕ) (b : PlacedBlock) (d : Option Place) (args : List (Operand Place)) (note : List ℕ) → f < length p.functions → Contains (function_in p f).blocks b → Contains b.code (Call d g args note) → SavesAt p m needs f g note
   pub objects : (o : ℕ) (x : Object) → slice_get p.objects o ≡ Some x → LiesIn (regions o) (object_at m o) (bytes_of x)

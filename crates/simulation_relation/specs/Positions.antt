@@ -5,7 +5,7 @@ use Rattle.rv_core.specs.Machine.{State, Running}
 use Rattle.rv_core.specs.Runs.{Visit, Setup, mrun}
 use Rattle.code_flow_system.specs.KeptRuns.{names_region}
 use Rattle.low_ir.specs.declared.run.Began.{Began}
-use Rattle.claims_accesses.specs.Lines.{Access, line_of}
+use Rattle.claims_definition.specs.Lines.{Access, line_of}
 use Rattle.simulation_relation.specs.Noted.{Noted}
 use Rattle.simulation_relation.specs.Layouts.{Layout, HasCode}
 

@@ -1,5 +1,5 @@
 -- What a machine shows of a run over places: the values of an activation in registers and in its frame, and the arrays.
-use Rattle.std.specs.Prelude.{◌≡◌, ℕ, ◌+◌, ◌*◌, ◌%◌, ◌^◌, ◌<◌, ◌≤◌, List, length, Option, Some, None, slice_get, slice_index_or}
+use Rattle.std.specs.Prelude.{◌≡◌, ℕ, suc, ◌+◌, ◌*◌, ◌%◌, ◌^◌, ◌<◌, ◌≤◌, List, length, Option, Some, None, slice_get, slice_index_or}
 use Rattle.rv_core.specs.declared.row.Width.{Width}
 use Rattle.rv_core.specs.declared.row.Width.TheVariants.{Word as Whole}
 use Rattle.rv_core.specs.Memory.{read_from}
@@ -11,7 +11,7 @@ use Rattle.low_ir.specs.declared.run.Value.TheVariants.{Word, Pointer}
 use Rattle.low_ir.specs.Kinds.{width_of, kind_bytes, converted}
 use Rattle.low_ir.specs.Code.{Object}
 use Rattle.low_ir.specs.Effects.{Contents}
-use Rattle.low_ir.specs.Places.{File, machine_registers, read_place}
+use Rattle.low_ir.specs.Places.{File, read_place, result_register}
 use Rattle.asm_program.specs.Numbers.{machine_register}
 use Rattle.asm_program.specs.Frames.{Frame, Memory, slot_at, object_at}
 
@@ -39,7 +39,7 @@ IsLocated fr v (Slot k) w = HasWord v (slot_at fr k) w
 
 -- an activation has so many places, and what it has in them are words
 pub record HasRoom (m : Memory) (fr : Frame) (file : File) : Type 0 where
-  pub registers : length file.registers ≡ machine_registers
+  pub registers : length file.registers ≡ suc result_register
   pub slots : length file.slots ≤ fr.slots
   pub words : (p : Place) (x : Value) → read_place file p ≡ Some x → code_of m x < 2 ^ 32
 

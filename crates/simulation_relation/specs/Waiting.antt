@@ -1,5 +1,5 @@
 -- The activations that wait: what a call leaves for its caller, and where it returns.
-use Rattle.std.specs.Prelude.{◌≡◌, ℕ, ◌^◌, ◌<◌, ◌++◌, pos, Bool, true, false, List, [], ◌∷◌, length, Some, slice_get, slice_index, Contains}
+use Rattle.std.specs.Prelude.{◌≡◌, ℕ, ◌^◌, ◌<◌, ◌≤◌, ◌++◌, pos, Bool, true, false, List, [], ◌∷◌, length, Some, slice_get, slice_index, Contains}
 use Rattle.rv_core.specs.Instructions.{addi}
 use Rattle.asm_items.specs.declared.item.Item.TheVariants as items
 use Rattle.low_ir.specs.declared.places.Place.{Place}
@@ -8,7 +8,7 @@ use Rattle.low_ir.specs.declared.run.Value.{Value}
 use Rattle.low_ir.specs.Code.{Operand, Instr, Call, End}
 use Rattle.low_ir.specs.Effects.{is_member}
 use Rattle.low_ir.specs.Runs.{Waiting}
-use Rattle.low_ir.specs.Places.{File, Placed, machine_registers, read_place}
+use Rattle.low_ir.specs.Places.{File, Placed, read_place, result_register}
 use Rattle.asm_program.specs.Numbers.{link, service, machine_register}
 use Rattle.asm_program.specs.Frames.{Frame, frame_of, slot_at, saved_at, home_at, return_at}
 use Rattle.asm_program.specs.Emission.{registers_among, behind_call}
@@ -44,7 +44,7 @@ pub record Rests (l : Layout) (w : PlacedWaiting) (g : ℕ) (v : View) (after : 
   pub room : HasRoom l.memory (frame_of l.memory w.frame.func) w.frame.store
   pub slots : (k : ℕ) (x : Value) → read_place w.frame.store (Slot k) ≡ Some x → HasWord v (slot_at (frame_of l.memory w.frame.func) k) (code_of l.memory x)
   pub registers : (q : ℕ) (x : Value) → read_place w.frame.store (InRegister q) ≡ Some x → is_member (registers_among (parameters_of l.program g)) q ≡ false → (is_member (l.needs g) q ≡ true) × (after q ≡ code_of l.memory x)
-  pub parameters : (q : ℕ) → is_member (registers_among (parameters_of l.program g)) q ≡ true → q < machine_registers
+  pub parameters : (q : ℕ) → is_member (registers_among (parameters_of l.program g)) q ≡ true → q ≤ result_register
   pub args : List (Operand Place)
   pub note : List ℕ
   pub homes : (q : ℕ) (x : Value) → read_place w.frame.store (InRegister q) ≡ Some x → is_member (registers_among (parameters_of l.program g)) q ≡ true → (is_member note q ≡ true) × (is_member (frame_of l.memory w.frame.func).homes q ≡ true) × HasWord v (home_at (frame_of l.memory w.frame.func) q) (code_of l.memory x)

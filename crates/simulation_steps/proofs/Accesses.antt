@@ -25,7 +25,7 @@ use Rattle.asm_program.specs.Numbers.{base, second_base, base_address, first_fre
 use Rattle.asm_program.specs.Frames.{Memory, object_at, slot_at}
 use Rattle.asm_program.specs.Operands.{place_register, operand_register, operand_code, fetch_code, result_code, offset_code, offset_register, far_code, far_register, code_to, register_to, offset_to}
 use Rattle.asm_program.specs.Emission.{load_op, store_op}
-use Rattle.claims_accesses.specs.Touches.{Touch}
+use Rattle.claims_definition.specs.Touches.{Touch}
 use Rattle.simulation_relation.specs.Noted.{Noted, single, singles, touching}
 use Rattle.simulation_relation.specs.Layouts.{IsOpen}
 use Rattle.simulation_relation.specs.Positions.{Course}

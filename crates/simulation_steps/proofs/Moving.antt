@@ -21,7 +21,7 @@ use Rattle.rv_core.proofs.Framing.{mrun-frames, loaded-beside}
 use Rattle.rv_steps.specs.Steps.{Later}
 use Rattle.asm_program.specs.Numbers.{base, base_address, is_near, upper_of, lower_of, load_upper, constant_code, load_word, store_word, move_code}
 use Rattle.asm_program.specs.Operands.{load_code, store_code}
-use Rattle.claims_accesses.specs.Touches.{Touch, OfFrame}
+use Rattle.claims_definition.specs.Touches.{Touch, OfFrame}
 use Rattle.simulation_relation.specs.Noted.{Noted, single, singles, touching}
 use Rattle.simulation_relation.specs.Layouts.{AreOpen, IsOpen}
 use Rattle.simulation_relation.specs.Positions.{Course}

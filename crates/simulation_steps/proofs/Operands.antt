@@ -15,7 +15,7 @@ use Rattle.low_ir.specs.declared.run.Value.{Value}
 use Rattle.low_ir.specs.declared.run.Value.TheVariants.{Word}
 use Rattle.low_ir.specs.Code.{Operand, Register, Constant}
 use Rattle.low_ir.specs.Runs.{operand_value}
-use Rattle.low_ir.specs.Places.{File, read_place, places}
+use Rattle.low_ir.specs.Places.{File, read_place, places, result_register}
 use Rattle.asm_program.specs.Numbers.{base, second_base, base_address, first_free, second_free, machine_register, constant_code}
 use Rattle.asm_program.specs.Frames.{Frame, frame_of, slot_at}
 use Rattle.asm_program.specs.Operands.{place_register, operand_register, operand_code, into_code, result_code, put_code, store_code}
@@ -67,8 +67,8 @@ module _ (g : Given) where
     pub room : HasRoom g.layout.memory (frame g f) file
     pub shows : Shows g.layout.memory (frame g f) file (view_of (state g n))
 
-  -- registers of values that are set are among the 24
-  pub register_inside : (f n q : ℕ) (file : File) (v : Value) → Ready f file n → read_place file (InRegister q) ≡ Some v → q < 24
+  -- registers of values that are set are among those of the machine
+  pub register_inside : (f n q : ℕ) (file : File) (v : Value) → Ready f file n → read_place file (InRegister q) ≡ Some v → q ≤ result_register
   register_inside f n q file v r e =
       let less = within file.registers q v e in
       let long = r.room.registers in
@@ -144,7 +144,7 @@ module _ (g : Given) where
 
   -- a place that an activation has
   abbrev pub IsThere : ℕ → Place → Type 0
-  IsThere f (InRegister q) = q < 24
+  IsThere f (InRegister q) = q ≤ result_register
   IsThere f (Slot j) = j < (frame g f).slots
 
   -- a register that isn't the place's, and bytes that aren't

@@ -13,7 +13,7 @@ use Rattle.asm_items.proofs.MoveLemmas.{size_some}
 use Rattle.rv_steps.specs.Steps.{Later}
 use Rattle.rv_steps.proofs.LaterLemmas.{stepped}
 use Rattle.rv_steps.proofs.StepLemmas.{steps_go, register-written, register-other, length-written}
-use Rattle.claims_accesses.specs.Touches.{Touch}
+use Rattle.claims_definition.specs.Touches.{Touch}
 use Rattle.simulation_relation.specs.Noted.{Noted, touching}
 use Rattle.simulation_relation.specs.Layouts.{Layout, Stands, HasCode}
 use Rattle.simulation_relation.specs.Positions.{seen, owed, IsTouched, Touches, Course}

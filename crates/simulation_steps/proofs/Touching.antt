@@ -9,8 +9,8 @@ use Rattle.rv_core.specs.declared.regions.Region.TheVariants.{Flash, Spm, Ram}
 use Rattle.rv_core.specs.Regions.{region_start, region_size, lies_in, region_of}
 use Rattle.code_flow_system.specs.MoveCosts.{names}
 use Rattle.code_flow_system.specs.KeptRuns.{names_region}
-use Rattle.claims_accesses.specs.Lines.{Access, access_at, frame_letters, letters_of, line_of, same_region, touches_region}
-use Rattle.claims_accesses.specs.Touches.{Touch, Nothing, OfFrame, OfArrays}
+use Rattle.claims_definition.specs.Lines.{Access, access_at, frame_letters, letters_of, line_of, same_region, touches_region}
+use Rattle.claims_definition.specs.Touches.{Touch, Nothing, OfFrame, OfArrays}
 use Rattle.simulation_relation.specs.Plans.{LiesIn}
 use Rattle.simulation_relation.specs.Noted.{Noted}
 use Rattle.simulation_relation.specs.Layouts.{Layout, Stands}

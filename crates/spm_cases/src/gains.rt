@@ -1,10 +1,10 @@
 // What an item gains.
 ghost use Rattle.std.specs.Prelude.{◌≡◌, ◌<◌, ◌^◌, [], ◌∷◌, All, IfOk};
 ghost use Rattle.code_flow_system.specs.Certificates.{PartsAscend};
-ghost use Rattle.claims_items.specs.Movables.{movable_of};
+ghost use Rattle.claims_definition.specs.Movables.{movable_of};
 ghost use Rattle.spm_placement.specs.Gains.{HasFewVisits, all_visits};
 
-use claims_items::LaidItem;
+use claims_definition::LaidItem;
 use code_flow_system::{Flow, Part};
 use rv_core::{Region, default_costs};
 use spm_placement::gains;

@@ -4,7 +4,7 @@ use Rattle.rv_core.specs.declared.regions.Region.{Region}
 use Rattle.rv_core.specs.Table.{Table, access_cost}
 use Rattle.code_flow_system.specs.declared.cert.Part.{Part}
 use Rattle.code_flow_lookup.specs.Runs.{those_at}
-use Rattle.claims_items.specs.Movables.{Movable}
+use Rattle.claims_definition.specs.Movables.{Movable}
 use Rattle.spm_placement.specs.declared.item.Item.{Item}
 
 -- the numbers of moves, which are positive

@@ -2,12 +2,12 @@
 ghost use Rattle.std.specs.Prelude.{◌≡◌, ◌<◌, ◌≤◌, ◌^◌, pos, ◌-ℤ◌, ◌*ℤ◌, unsigned_abs, Some, map, All, IfOk};
 ghost use Rattle.rv_core.specs.Table.{access_cost, table_of};
 ghost use Rattle.code_flow_system.specs.Certificates.{PartsAscend};
-ghost use Rattle.claims_items.specs.Movables.{movable_of};
+ghost use Rattle.claims_definition.specs.Movables.{movable_of};
 ghost use Rattle.spm_placement.specs.Gains.{HasFewVisits, all_parts, all_visits, cost_here, cost_there, gained, visits};
 ghost use Rattle.spm_placement.specs.Sets.{HasSmallGain};
 
 use super::item::Item;
-use claims_items::LaidItem;
+use claims_definition::LaidItem;
 use code_flow_lookup::parts_at;
 use code_flow_system::{Flow, Part};
 use rv_core::{Costs, Region};

@@ -1,7 +1,7 @@
 // What lies in the scratchpad.
 use image_fitting::spend;
 use image_memory::Placement;
-use image_rows::array_size;
+use image_segments::array_size;
 use low_ir::Low;
 use low_ir::object::Object;
 use std::alloc::Global;

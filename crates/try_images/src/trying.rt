@@ -113,6 +113,8 @@ fn print_places(
     let low = threaded(rt.alloc(), low)?;
     let low = without_reloads(rt.alloc(), low)?;
     let low = without_copies(rt.alloc(), low)?;
+    let low = without_reloads(rt.alloc(), low)?;
+    let low = without_copies(rt.alloc(), low)?;
     let low = stepped(rt.alloc(), low)?;
     let low = without_copies(rt.alloc(), low)?;
     let low = threaded(rt.alloc(), low)?;
@@ -164,6 +166,8 @@ fn lowered(alloc: Global, program: &High, places: Places) -> Result<LowReg, Memo
     let low = lower(alloc, program)?;
     let low = promoted(alloc, low)?;
     let low = threaded(alloc, low)?;
+    let low = without_reloads(alloc, low)?;
+    let low = without_copies(alloc, low)?;
     let low = without_reloads(alloc, low)?;
     let low = without_copies(alloc, low)?;
     let low = stepped(alloc, low)?;

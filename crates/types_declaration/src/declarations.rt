@@ -86,8 +86,8 @@ pub fn check_declaration(
         } => {
             let wrong = are_wrong(false, table.in_block(), specifiers);
             let own = fault_at(when(wrong, Rule::Specifiers), *at);
-            let inner = check_objects(base_of(specifiers), objects, table, alloc)?;
             let copied = copy_specifiers(specifiers, alloc)?;
+            let inner = check_objects(base_of(specifiers), objects, table, alloc)?;
             Ok(CheckedDeclaration {
                 declaration: Declaration::Objects {
                     specifiers: copied,
@@ -103,10 +103,10 @@ pub fn check_declaration(
             params,
             at,
         } => {
+            let copied = copy_specifiers(specifiers, alloc)?;
             let before = check_params(params, table, alloc)?;
             let rule = introduce(specifiers, *name, params, table, alloc)?;
             let behind = prototype_fault(params, table, alloc)?;
-            let copied = copy_specifiers(specifiers, alloc)?;
             Ok(CheckedDeclaration {
                 declaration: Declaration::Prototype {
                     specifiers: copied,

@@ -90,14 +90,32 @@ fn check_object(
     ensures { IfOk result (λ r. IsObject r (base_said base) (source_object object.now) table.old table.new) }
 {
     let number = narrow(table.objects())?;
-    let shape = check_shape(&object.shape, table, alloc)?;
     let early = early_rule(object, table);
     let wrong = has_wrong_initial(&object.shape, &object.initial, base.is_const, table);
     let filled = is_filled(&object.shape, &object.initial, table)?;
     let held = extent(&object.shape, &object.initial)?;
-    table.declare(object.name.0, base.kind, base.is_const, held)?;
-    let filling = fill(filled, table)?;
-    let initial = check_initial(base.kind, filling, &object.initial, table, alloc)?;
+    let shape = check_shape(&object.shape, table, alloc)?;
+    match table.declare(object.name.0, base.kind, base.is_const, held) {
+        Ok(()) => {}
+        Err(memory) => {
+            shape.let_go();
+            return Err(memory);
+        }
+    }
+    let filling = match fill(filled, table) {
+        Ok(filling) => filling,
+        Err(memory) => {
+            shape.let_go();
+            return Err(memory);
+        }
+    };
+    let initial = match check_initial(base.kind, filling, &object.initial, table, alloc) {
+        Ok(initial) => initial,
+        Err(memory) => {
+            shape.let_go();
+            return Err(memory);
+        }
+    };
     let void = either(base.kind.is_void(), initial.void);
     let late = rule_or(when(void, Rule::Void), when(wrong, Rule::Initial));
     let own = fault_at(rule_or(early, late), object.at);

@@ -9,7 +9,7 @@ ghost use Rattle.types_rules.specs.Typing.{typed_param};
 ghost use Rattle.types_declaration.specs.Params.{AreParams, is_taken_at};
 
 use super::rules::{copy_specifiers, fault_at, rule_or, when};
-use super::shapes::{check_shape, has_bad_param_size, has_no_constant_size};
+use super::shapes::{check_shape, has_bad_param_size, has_no_constant_size, shape_fault};
 use c_tree::declaration::{Param as Source, Shape};
 use c_tree::expression::NameId;
 use std::alloc::{AllocError, Global};
@@ -51,9 +51,9 @@ fn check_param(param: &Source, table: &Table, alloc: Global) -> Result<CheckedPa
     ensures param { IfOk result (λ r. param_of r.param ≡ typed_param table.now (source_param param.now)) }
     ensures fault { IfOk result (λ r. r.fault ≡ first_fault (prototype_param_nodes (source_param param.now) table.now)) }
 {
-    let shape = check_shape(&param.shape, table, alloc)?;
     let own = fault_at(prototype_param_rule(param, table), param.at);
     let specifiers = copy_specifiers(&param.specifiers, alloc)?;
+    let shape = check_shape(&param.shape, table, alloc)?;
     Ok(CheckedParam {
         param: Param {
             specifiers,
@@ -148,10 +148,10 @@ fn declare_param(
     ensures fault { IfOk result (λ fault. fault ≡ first_fault (param_nodes (source_param param.now) table.old)) }
     ensures after { OnOk result (table.new ≡ after_param (source_param param.now) table.old) }
 {
-    let shape = check_shape(&param.shape, table, alloc)?;
+    let fault = shape_fault(&param.shape, table, alloc)?;
     let own = fault_at(param_rule(param, table), param.at);
     declare(param, table)?;
-    Ok(first_of(own, shape.fault))
+    Ok(first_of(own, fault))
 }
 
 /// The first fault in the parameters of a definition, which are declared.

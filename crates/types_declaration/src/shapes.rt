@@ -26,6 +26,12 @@ pub struct Shaped {
     pub fault: Option<Fault>,
 }
 
+impl Shaped {
+    pub fn let_go(self) {
+        drop(self);
+    }
+}
+
 pub fn check_shape(shape: &Source, table: &Table, alloc: Global) -> Result<Shaped, AllocError>
     ensures shape { IfOk result (λ r. shape_of r.shape ≡ typed_shape (source_shape shape.now) table.now) }
     ensures fault { IfOk result (λ r. r.fault ≡ first_fault (shape_nodes (source_shape shape.now) table.now)) }
@@ -47,6 +53,20 @@ pub fn check_shape(shape: &Source, table: &Table, alloc: Global) -> Result<Shape
             })
         }
     }
+}
+
+/// The first fault in the brackets of an array.
+pub fn shape_fault(
+    shape: &Source,
+    table: &Table,
+    alloc: Global,
+) -> Result<Option<Fault>, AllocError>
+    ensures { IfOk result (λ fault. fault ≡ first_fault (shape_nodes (source_shape shape.now) table.now)) }
+{
+    let found = check_shape(shape, table, alloc)?;
+    let fault = found.fault;
+    found.let_go();
+    Ok(fault)
 }
 
 pub fn has_brackets(shape: &Source) -> bool

@@ -13,7 +13,7 @@ use c_tree::expression::{BinaryOperator, Expr};
 use types_value::{Kind, Operator, Sign, Undefined};
 
 /// A constant: its type, and its word where its value is defined.
-#[derive(Clone, Copy, Debug)]
+#[derive(Clone, Copy)]
 pub struct Folded {
     pub kind: Kind,
     pub word: Option<u32>,

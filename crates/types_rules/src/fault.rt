@@ -3,7 +3,7 @@ use thiserror::Error;
 use wcc_base::Bound;
 
 /// A rule of types and names. The number of a rule is that of its place here, from 1 on.
-#[derive(Clone, Copy, Debug, PartialEq, Eq)]
+#[derive(Clone, Copy, Debug)]
 pub enum Rule {
     /// Specifiers name a type, and each stands where it may and at most once.
     Specifiers,
@@ -40,14 +40,14 @@ pub enum Rule {
 }
 
 /// A rule that fails, and the place of the node at which it does.
-#[derive(Clone, Copy, Debug, PartialEq, Eq)]
+#[derive(Clone, Copy)]
 pub struct Fault {
     pub rule: Rule,
     pub at: u32,
 }
 
 /// Why a unit has no typed tree.
-#[derive(Clone, Copy, Debug, PartialEq, Eq, Error)]
+#[derive(Clone, Copy, Debug, Error)]
 pub enum TypeFault {
     /// A counted quantity passes its limit.
     #[error("over a limit")]

@@ -3,7 +3,7 @@ use types_value::Kind;
 use wcc_base::Items;
 
 /// What a name stands for.
-#[derive(Clone, Copy, Debug)]
+#[derive(Clone, Copy)]
 pub enum Binding {
     Object {
         number: ObjectId,
@@ -15,7 +15,7 @@ pub enum Binding {
 }
 
 /// The type of a parameter. A `const` counts for an array alone (C11 6.7.6.3, paragraph 15).
-#[derive(Clone, Copy, Debug)]
+#[derive(Clone, Copy)]
 pub struct ParamType {
     pub kind: Kind,
     pub is_array: bool,

@@ -4,7 +4,7 @@ use std::alloc::{AllocError, Global};
 use types_value::{Kind, Operator, Sign};
 
 /// The number of an object. Objects are numbered from 0 in the order of their declarations.
-#[derive(Clone, Copy, Debug)]
+#[derive(Clone, Copy)]
 pub struct ObjectId(pub u32);
 
 /// The number of a function. Functions are numbered from 0 in the order of their definitions.
@@ -12,7 +12,7 @@ pub struct ObjectId(pub u32);
 pub struct FunctionId(pub u32);
 
 /// Where a call goes.
-#[derive(Clone, Copy, Debug)]
+#[derive(Clone, Copy)]
 pub enum Callee {
     Getchar,
     Putchar,
@@ -20,7 +20,7 @@ pub enum Callee {
 }
 
 /// Whether a step's value is that before it or behind it.
-#[derive(Clone, Copy, Debug)]
+#[derive(Clone, Copy)]
 pub enum Fix {
     Prefix,
     Postfix,

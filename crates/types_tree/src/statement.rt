@@ -4,11 +4,11 @@ use c_tree::Pragma;
 
 /// The number of a loop. Loops are numbered from 1 in the order of their keywords; a local list that leaves
 /// elements over is one of them, at the place of its object's name.
-#[derive(Clone, Copy, Debug)]
+#[derive(Clone, Copy)]
 pub struct LoopId(pub u32);
 
 /// The number of a marker. Markers are numbered from 0 in source order.
-#[derive(Clone, Copy, Debug)]
+#[derive(Clone, Copy)]
 pub struct MarkerId(pub u32);
 
 /// A label of a `switch`, with the word that the switch's value is compared with.

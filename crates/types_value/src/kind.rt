@@ -4,7 +4,7 @@ ghost use Rattle.types_value.specs.Kinds.{bytes, common, converted, is_signed, i
 use wcc_base::words::sign_filled;
 
 /// An integer type, or void (C11 6.2.5).
-#[derive(Clone, Copy, Debug)]
+#[derive(Clone, Copy)]
 pub enum Kind {
     Void,
     /// It has no sign, as `UnsignedChar` has none.

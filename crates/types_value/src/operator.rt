@@ -1,5 +1,5 @@
 /// An operator between two operands that are both evaluated (C11 6.5.5 to 6.5.12).
-#[derive(Clone, Copy, Debug)]
+#[derive(Clone, Copy)]
 pub enum Operator {
     Multiply,
     Divide,
@@ -20,7 +20,7 @@ pub enum Operator {
 }
 
 /// An operator before its operand that writes nothing (C11 6.5.3.3).
-#[derive(Clone, Copy, Debug)]
+#[derive(Clone, Copy)]
 pub enum Sign {
     Negate,
     Plus,
@@ -29,7 +29,7 @@ pub enum Sign {
 }
 
 /// Why an operator has no value.
-#[derive(Clone, Copy, Debug)]
+#[derive(Clone, Copy)]
 pub enum Undefined {
     /// A sum, difference, product or negation with a sign is out of range (C11 6.5, paragraph 5).
     Overflow,

@@ -16,13 +16,14 @@
 
 mod top;
 
+use base_stores::{FsStore, OutSink};
 use command_perform::report_status;
 use std::alloc::Global;
 use std::process::ExitCode;
 use std::rt::Env;
 use std::{env, io};
 pub use top::wcc;
-use wcc_base::{FsStore, Memory, OutSink, Status};
+use wcc_base::{Memory, Status};
 
 // The words behind the program's name. A word that isn't UTF-8 makes the command line faulty, as
 // the lack of words does.

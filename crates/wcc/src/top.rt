@@ -9,7 +9,7 @@ ghost use Rattle.command_perform.specs.Making.{MakeEnds};
 ghost use Rattle.command_perform.specs.Promises.{IsDone, Answers, CanEnd, NoFault};
 ghost use Rattle.wcc_compile.specs.Written.{IsWritten};
 
-use command_perform::perform;
+use command_answers::answer;
 use std::alloc::Global;
 use wcc_base::{Sink, Status, Store};
 use wcc_compile::WccCompiler;
@@ -56,5 +56,5 @@ pub fn wcc<S: Store, O: Sink>(alloc: Global, words: &[String], store: &mut S, ou
     ensures no_command { asked_by (map string_bytes words.now) ≡ None
         → (result ≡ Status.Usage) ⊎ (result ≡ Status.Memory) }
 {
-    perform(&WccCompiler, alloc, words, store, out)
+    answer(&WccCompiler, alloc, words, store, out)
 }

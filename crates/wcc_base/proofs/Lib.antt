@@ -1,2 +1,1 @@
 pub mod FilesLaws
-mod FileListLaws

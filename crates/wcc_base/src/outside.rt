@@ -3,7 +3,7 @@ ghost use Rattle.std.specs.Prelude.{◌≡◌, ◌⊎◌, ◌<◌, ◌≤◌, []
 ghost use Rattle.wcc_base.specs.Outside.{StoreState, SinkState, file_of, bytes_of, told_put, told_add, told_append, counted, Reads, CountsRead, CountsWrite};
 
 /// Why a call of a store or a sink was refused.
-#[derive(Clone, Copy, Debug, PartialEq, Eq)]
+#[derive(Clone, Copy, Debug)]
 pub enum Fault {
     /// The outside failed. Exactly such a call raises the count of its faults.
     Failed,

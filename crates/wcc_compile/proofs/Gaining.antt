@@ -3,21 +3,21 @@ use Rattle.std.proofs.Common.{◌≡◌, ◌+◌, ◌*◌, ◌^◌, ◌≤◌, L
 use Rattle.rv_core.specs.Table.{Table, table_of}
 use Rattle.facts_front.specs.declared.reading.Source.{Source}
 use Rattle.code_flow_system.specs.declared.cert.Part.{Part}
-use Rattle.claims_items.specs.Movables.{Movable, movables_of, movable_of}
-use Rattle.claims_items.specs.declared.item.LaidItem.{LaidItem}
+use Rattle.claims_definition.specs.Movables.{Movable, movables_of, movable_of}
+use Rattle.claims_definition.specs.declared.item.LaidItem.{LaidItem}
 use Rattle.claims_image.specs.Images.{laid_of}
 use Rattle.low_ir.specs.Places.{Placed}
 use Rattle.low_ir.specs.Placings.{placed_of}
 use Rattle.low_ir.specs.Programs.{low_of}
-use Rattle.image_sizes.specs.Sizes.{globals_size}
+use Rattle.image_definition.specs.Sizes.{globals_size}
 use Rattle.promise_compiler.specs.declared.built.Options.{Options}
 use Rattle.spm_placement.specs.declared.item.Item.{Item}
 use Rattle.spm_placement.specs.Gains.{gained}
 use Rattle.compile_choices.specs.Laws.{ItemsAreFew, items_of}
 use Rattle.compile_kept.specs.Limits.{global_bytes}
-use Rattle.compile_sizes.proofs.Arrays.{globals_few}
+use Rattle.compile_turns.proofs.Arrays.{globals_few}
 use Rattle.compile_made.specs.Made.{high_of}
-use Rattle.compile_sizes.proofs.Functions.{functions_few}
+use Rattle.compile_turns.proofs.Functions.{functions_few}
 use Rattle.compile_told.proofs.Images.{elements}
 use Rattle.compile_reporting.specs.Sources.{names_of, tree_of}
 use Rattle.lower_definition.specs.Objects.{object_of}

@@ -5,7 +5,7 @@ use Rattle.rv_core.specs.Table.{table_of}
 use Rattle.facts_front.specs.declared.reading.Source.{Source}
 use Rattle.wcc_base.specs.declared.memory.Memory.{Memory}
 use Rattle.low_ir.specs.Placings.{assignment_of, placed_of}
-use Rattle.image_sizes.specs.Sizes.{HasRoom}
+use Rattle.image_definition.specs.Sizes.{HasRoom}
 use Rattle.low_ir.specs.Programs.{low_of}
 use Rattle.promise_compiler.specs.declared.built.Options.{Options}
 use Rattle.spm_placement.specs.Sets.{AreBest}
@@ -20,7 +20,7 @@ use Rattle.compile_made.specs.Made.{IsInMemory, IsLowered, IsMade, high_of}
 use Rattle.compile_made.specs.Placed.{HasNumbers, IsPlacedBy, placed_bytes}
 use Rattle.compile_passes.specs.Passes.{AreStages, passes, stages_of}
 use Rattle.compile_reporting.specs.Sources.{IsOf, IsReportOn, names_of, tree_of}
-use Rattle.compile_sizes.proofs.Sizes.{limited_fit}
+use Rattle.compile_turns.proofs.Sizes.{limited_fit}
 use Rattle.wcc_compile.specs.declared.built.Built.{Built}
 use Rattle.wcc_compile.specs.Built.{IsLaidOut, gains_of}
 use Rattle.wcc_compile.specs.Steps.{IsFirst, IsLast}

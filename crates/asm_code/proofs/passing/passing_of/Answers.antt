@@ -4,7 +4,7 @@ use Rattle.low_ir.specs.View as view
 use Rattle.low_ir.specs.Places.{machine_registers, registers_of, place_operand}
 use Rattle.asm_program.specs.Emission.{kept_among}
 use Rattle.asm_program.specs.Functions.{function_in}
-use Rattle.asm_program.specs.Ranges.{IsRegister, InOperand}
+use Rattle.asm_program.specs.Ranges.{IsLasting, InOperand}
 use Rattle.asm_emission.specs.View.{place_at}
 use Rattle.asm_code.specs.Scopes.{program}
 use Rattle.asm_code.proofs.Parameters.{few, parameters-there}
@@ -12,7 +12,7 @@ use Rattle.asm_code.proofs.passing.passing_of.Goals as goal
 
 pub kept_among-requires : goal.kept_among-requires
 kept_among-requires c =
-    subst (All IsRegister) (sym c.as_slice.ensures.value) (parameters-there (program c.args.scope.now) c.args.function (length c.args.arguments.now) c.in_ok-places.places.items c.requires.program c.in_ok-places.ensures)
+    subst (All IsLasting) (sym c.as_slice.ensures.value) (parameters-there (program c.args.scope.now) c.args.function (length c.args.arguments.now) c.in_ok-places.places.items c.requires.program c.in_ok-places.ensures)
 
 pub returns-clause-passes : goal.returns-clause-passes
 returns-clause-passes c =

@@ -1,6 +1,6 @@
 use Rattle.std.proofs.Common.{◌≡◌, ◌++◌, drop, map}
 use Rattle.low_ir.specs.View.{claim_of}
-use Rattle.claims_accesses.specs.Lines.{letters_of}
+use Rattle.claims_definition.specs.Lines.{letters_of}
 use Rattle.claims_regions.specs.Seen.{letters_in}
 use Rattle.claims_making.specs.Sights.{region_in}
 use Rattle.claims_making.proofs.sights.touched_by_claim.Given as goal

@@ -1,5 +1,5 @@
 use Rattle.std.proofs.Common.{◌≡◌, drop}
-use Rattle.claims_accesses.specs.Lines.{touches_region}
+use Rattle.claims_definition.specs.Lines.{touches_region}
 use Rattle.claims_making.specs.Sights.{region_in}
 use Rattle.claims_making.proofs.sights.touches_region.Given as goal
 

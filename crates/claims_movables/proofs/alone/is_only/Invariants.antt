@@ -1,5 +1,5 @@
 use Rattle.std.proofs.Common.{◌≡◌, drop}
-use Rattle.claims_items.specs.Movables.{is_only}
+use Rattle.claims_definition.specs.Movables.{is_only}
 use Rattle.claims_movables.proofs.alone.is_only.Given as goal
 
 abbrev pub invariant-loop-other : goal.invariant-loop-other

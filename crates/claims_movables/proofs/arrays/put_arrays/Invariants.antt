@@ -2,7 +2,7 @@ use Rattle.std.proofs.Common.{◌≡◌, ◌++◌, drop, map}
 use Rattle.low_ir.specs.View.{object_of}
 use Rattle.claims_making.specs.Sights.{region_in}
 use Rattle.claims_movables.specs.Listed.{arrays_in}
-use Rattle.claims_items.specs.Movables.{movable_of}
+use Rattle.claims_definition.specs.Movables.{movable_of}
 use Rattle.claims_movables.proofs.arrays.put_arrays.Given as goal
 
 abbrev pub invariant-loop-number : goal.invariant-loop-number

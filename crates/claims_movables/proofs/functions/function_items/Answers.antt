@@ -1,5 +1,5 @@
 use Rattle.claims_movables.specs.Listed.{function_in}
-use Rattle.claims_items.specs.Movables.{movable_of}
+use Rattle.claims_definition.specs.Movables.{movable_of}
 use Rattle.claims_movables.proofs.RowLemmas.{items_step}
 use Rattle.claims_movables.proofs.functions.function_items.Goals as goal
 

@@ -1,5 +1,5 @@
 use Rattle.std.proofs.Common.{◌≡◌}
-use Rattle.claims_items.specs.Movables.{words_at}
+use Rattle.claims_definition.specs.Movables.{words_at}
 use Rattle.claims_movables.proofs.sizes.words.Given as goal
 
 abbrev pub invariant-loop-number : goal.invariant-loop-number

@@ -5,7 +5,7 @@ use Rattle.low_ir.specs.Placings.{assignment_of}
 use Rattle.low_ir.specs.Programs.{low_of}
 use Rattle.claims_making.specs.Sights.{region_in}
 use Rattle.claims_movables.specs.Listed.{arrays_in, lists_below}
-use Rattle.claims_items.specs.Movables.{movable_of}
+use Rattle.claims_definition.specs.Movables.{movable_of}
 use Rattle.claims_movables.proofs.RowLemmas.{functions_count, functions_same, movables_same}
 use Rattle.claims_movables.proofs.whole.items.Goals as goal
 

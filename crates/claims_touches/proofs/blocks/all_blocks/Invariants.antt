@@ -2,7 +2,7 @@ use Rattle.std.proofs.Common.{◌≡◌, ◌++◌, drop, map, All}
 use Rattle.low_ir.specs.View.{block_of}
 use Rattle.asm_program.specs.Ranges.{InBlock}
 use Rattle.asm_code.specs.Scopes.{memory, program, placed_blocks}
-use Rattle.claims_accesses.specs.Touches.{blocks_touches}
+use Rattle.claims_definition.specs.Touches.{blocks_touches}
 use Rattle.claims_touches.specs.Bodies.{touches_in}
 use Rattle.claims_touches.proofs.blocks.all_blocks.Given as goal
 

@@ -5,7 +5,7 @@ use Rattle.asm_program.specs.Ranges.{InProgram}
 use Rattle.asm_code.specs.Scopes.{memory, program}
 use Rattle.asm_code.proofs.Registers.{placed_there}
 use Rattle.asm_code.proofs.Steps.{own-blocks, own-there}
-use Rattle.claims_accesses.specs.Touches.{function_touches}
+use Rattle.claims_definition.specs.Touches.{function_touches}
 use Rattle.claims_touches.specs.Named.{touch_in}
 use Rattle.claims_touches.proofs.programs.touches_of_function.Goals as goal
 

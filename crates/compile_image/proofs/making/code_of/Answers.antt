@@ -5,7 +5,7 @@ use Rattle.low_ir.specs.Programs.{low_of}
 use Rattle.high_ir.specs.Programs.{program_of}
 use Rattle.low_registers.specs.Spills.{HaveFewSlots, SpillWhereCrowded}
 use Rattle.lower_law.specs.Programs.{KeepsProgram}
-use Rattle.lower_promoted.proofs.Keeping.{keeps as keeps_promoted}
+use Rattle.lower_kept.proofs.PromotedKeeping.{keeps as keeps_promoted}
 use Rattle.compile_image.proofs.making.code_of.Goals as goal
 
 pub returns : goal.returns

@@ -1,7 +1,7 @@
 use Rattle.low_ir.specs.Programs.{low_of}
-use Rattle.lower_copied.proofs.Keeping.{keeps as keeps_copied}
-use Rattle.lower_stepped.proofs.Keeping.{keeps as keeps_stepped}
-use Rattle.lower_threaded.proofs.Keeping.{keeps as keeps_threaded}
+use Rattle.lower_kept.proofs.CopiedKeeping.{keeps as keeps_copied}
+use Rattle.lower_kept.proofs.SteppedKeeping.{keeps as keeps_stepped}
+use Rattle.lower_kept.proofs.ThreadedKeeping.{keeps as keeps_threaded}
 use Rattle.compile_image.proofs.making.quickened.Goals as goal
 
 pub returns : goal.returns

@@ -3,8 +3,8 @@ use Rattle.std.specs.Prelude.{IfOk}
 use Rattle.rv_core.specs.Table.{table_of}
 use Rattle.code_flow_system.specs.declared.cert.Cert.{Cert}
 use Rattle.code_flow_system.specs.Certificates.{PartsAscend}
-use Rattle.claims_items.specs.declared.item.LaidItem.{LaidItem}
-use Rattle.claims_items.specs.Movables.{movable_of}
+use Rattle.claims_definition.specs.declared.item.LaidItem.{LaidItem}
+use Rattle.claims_definition.specs.Movables.{movable_of}
 use Rattle.report_text.specs.Reports.{Report}
 use Rattle.spm_placement.specs.Gains.{HasFewVisits, gained}
 use Rattle.compile_reporting.proofs.gaining.gains_by.Goals as goal

@@ -7,7 +7,7 @@ use Rattle.promise_report.specs.Facts.{AreFactLines, places_by}
 use Rattle.compile_claims.specs.Named.{AreHanded, nevers_at}
 use Rattle.compile_made.specs.Made.{copies_of}
 use Rattle.compile_reporting.specs.Sources.{names_of, tree_of}
-use Rattle.compile_lines.proofs.Counting.{lines_many}
+use Rattle.compile_claims.proofs.Counting.{lines_many}
 use Rattle.compile_reporting.proofs.Claims.{claims_many}
 use Rattle.compile_reporting.proofs.telling.claims_of.Goals as goal
 

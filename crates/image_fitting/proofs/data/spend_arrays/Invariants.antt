@@ -1,7 +1,7 @@
 use Rattle.std.proofs.Common.{◌≡◌, ◌+◌, drop, map}
 use Rattle.low_ir.specs.Arrays.{array_size}
 use Rattle.low_ir.specs.View.{object_of}
-use Rattle.image_sizes.specs.Sizes.{sizes_placed}
+use Rattle.image_definition.specs.Sizes.{sizes_placed}
 use Rattle.image_fitting.proofs.data.spend_arrays.Given as goal
 
 abbrev pub invariant-loop-number : goal.invariant-loop-number

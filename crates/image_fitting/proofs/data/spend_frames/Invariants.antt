@@ -2,7 +2,7 @@ use Rattle.std.proofs.Common.{◌≡◌, ◌+◌, drop, map}
 use Rattle.low_ir.specs.Places.{place_functions}
 use Rattle.low_ir.specs.Placings.{assignment_of}
 use Rattle.low_ir.specs.View.{function_of}
-use Rattle.image_sizes.specs.Sizes.{frames_room}
+use Rattle.image_definition.specs.Sizes.{frames_room}
 use Rattle.image_fitting.proofs.data.spend_frames.Given as goal
 
 abbrev pub invariant-loop-number : goal.invariant-loop-number

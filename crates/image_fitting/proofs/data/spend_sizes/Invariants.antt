@@ -1,5 +1,5 @@
 use Rattle.std.proofs.Common.{◌≡◌, ◌+◌, drop}
-use Rattle.image_sizes.specs.Sizes.{sizes_placed}
+use Rattle.image_definition.specs.Sizes.{sizes_placed}
 use Rattle.image_fitting.proofs.data.spend_sizes.Given as goal
 
 abbrev pub invariant-loop-number : goal.invariant-loop-number

@@ -1,6 +1,6 @@
 use Rattle.std.proofs.Common.{◌≡◌, ◌+◌, drop, map}
 use Rattle.low_ir.specs.View.{object_of}
-use Rattle.image_sizes.specs.Sizes.{variables_room}
+use Rattle.image_definition.specs.Sizes.{variables_room}
 use Rattle.image_fitting.proofs.data.spend_variables.Given as goal
 
 abbrev pub invariant-loop-object : goal.invariant-loop-object

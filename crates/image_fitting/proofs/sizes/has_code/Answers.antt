@@ -5,7 +5,7 @@ use Rattle.low_ir.specs.Placings.{assignment_of, placed_of}
 use Rattle.low_ir.specs.Programs.{low_of}
 use Rattle.low_ir.specs.Room.{function_room, room}
 use Rattle.low_ir.specs.View.{function_of}
-use Rattle.low_placed_room.proofs.Rooms.{room_kept}
+use Rattle.low_places.proofs.Rooms.{room_kept}
 use Rattle.image_fitting.proofs.sizes.has_code.Goals as goal
 
 pub returns-in-None-clause-exact : goal.returns-in-None-clause-exact

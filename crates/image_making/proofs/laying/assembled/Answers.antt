@@ -1,6 +1,6 @@
 use Rattle.std.proofs.Common.{ap, sym, subst}
 use Rattle.low_ir.specs.Placings.{placed_of}
-use Rattle.image_rows.specs.Rows.{HaveSizes}
+use Rattle.image_segments.specs.Rows.{HaveSizes}
 use Rattle.image_segments.specs.Segments.{Data}
 use Rattle.image_frames.specs.Frames.{frames_end}
 use Rattle.image_memory.proofs.RoomLemmas.{arrays_have_sizes}

@@ -1,7 +1,7 @@
 use Rattle.std.proofs.Common.{ap, sym, subst, ◌∙◌, map}
 use Rattle.low_ir.specs.View.{object_of}
 use Rattle.low_ir.specs.Placings.{placed_of}
-use Rattle.image_rows.specs.Rows.{HaveSizes}
+use Rattle.image_segments.specs.Rows.{HaveSizes}
 use Rattle.image_frames.specs.Frames.{frames_end}
 use Rattle.image_frames.specs.Memories.{Placement}
 use Rattle.image_memory.proofs.RoomLemmas.{arrays_have_sizes, addresses_have_room}

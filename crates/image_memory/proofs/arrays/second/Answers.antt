@@ -1,7 +1,7 @@
 use Rattle.std.proofs.Common.{sym, subst, map}
 use Rattle.low_ir.specs.View.{object_of}
 use Rattle.low_ir.specs.Placings.{placed_of}
-use Rattle.image_rows.specs.Rows.{HaveSizes}
+use Rattle.image_segments.specs.Rows.{HaveSizes}
 use Rattle.image_frames.specs.Frames.{frames_end}
 use Rattle.image_memory.proofs.RoomLemmas.{arrays_have_sizes}
 use Rattle.image_memory.proofs.arrays.second.Goals as goal

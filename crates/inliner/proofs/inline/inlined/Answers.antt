@@ -1,4 +1,5 @@
 use Rattle.std.proofs.Common.{arith, ap, map, refl, sym, subst, ◌∙◌}
+use Rattle.std.proofs.lemmas.Result.{MatchResult-weaker}
 use Rattle.high_ir.specs.Programs.{program_of}
 use Rattle.high_ir.specs.View.{object_of}
 use Rattle.high_renumber.specs.Keeping.{IsLoose}
@@ -16,6 +17,7 @@ renumber-requires c =
 pub returns-in-Ok-clause-copies : goal.returns-in-Ok-clause-copies
 returns-in-Ok-clause-copies c =
     let settled = c.args.settled in
-    c.in_ok-renumber-in-Ok.ensures.copies
+    MatchResult-weaker c.renumber.result c.renumber.ensures.copies (λ carried listed.
+    listed
     ∙ ap copies_in (loose_same c.args.limit settled.sweeps c.args.old.now (making_of settled.making) settled.making.functions.items c.in-Ok.objects.items c.requires refl (c.in-Ok.ensures ∙ ap (map object_of) c.deref.ensures.value))
-    ∙ sym (listed_some c.args.limit (program_of c.args.old.now) settled.sweeps (omega (arith, c.if-sweeps-eq0.false)))
+    ∙ sym (listed_some c.args.limit (program_of c.args.old.now) settled.sweeps (omega (arith, c.if-sweeps-eq0.false)))) (λ memory no_program. no_program)

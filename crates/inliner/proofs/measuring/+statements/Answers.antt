@@ -1,4 +1,5 @@
 use Rattle.std.proofs.Common.{arith, ap, ◌∙◌}
+use Rattle.std.proofs.lemmas.Result.{MatchResult-weaker}
 use Rattle.high_ir.specs.View.{statements_of}
 use Rattle.high_parts.proofs.Making.{part_size, size_of_seq}
 use Rattle.inliner.specs.Measures.{beside, measured_all, within}
@@ -9,9 +10,10 @@ pub measured-measured_all-requires : goal.measured-measured_all-requires
 measured-measured_all-requires t c =
     (omega (arith, c.decreases, size_of_seq c.args.statement.now c.in-Seq.parts c.deref.result.now c.in-Seq.is c.deref.ensures.value), tt)
 
-pub measured-returns-in_ok-within-in-Seq : goal.measured-returns-in_ok-within-in-Seq
-measured-returns-in_ok-within-in-Seq t c =
-    c.in_ok-within-in-Seq.ensures ∙ ap within c.in_ok-parts-in-Seq.ensures ∙ measured_seq c.args.returns c.args.statement.now c.in-Seq.parts c.deref.result.now c.in-Seq.is c.deref.ensures.value
+pub measured-returns-in_ok-parts-in-Seq : goal.measured-returns-in_ok-parts-in-Seq
+measured-returns-in_ok-parts-in-Seq t c =
+    MatchResult-weaker c.within-in-Seq.result c.within-in-Seq.ensures (λ all made.
+    made ∙ ap within c.in_ok-parts-in-Seq.ensures ∙ measured_seq c.args.returns c.args.statement.now c.in-Seq.parts c.deref.result.now c.in-Seq.is c.deref.ensures.value) (λ memory no_measure. no_measure)
 
 pub measured_all-measured-requires : goal.measured_all-measured-requires
 measured_all-measured-requires t c =

@@ -1,4 +1,5 @@
 use Rattle.std.proofs.Common.{arith, ap, map, sym, ◌∙◌}
+use Rattle.std.proofs.lemmas.Result.{MatchResult-weaker}
 use Rattle.high_code.specs.Code.{alone, joined}
 use Rattle.high_ir.proofs.Rows.{statement_of-Seq}
 use Rattle.high_ir.specs.Tree.{Call, Seq}
@@ -14,9 +15,10 @@ pub moved-moved_all-requires : goal.moved-moved_all-requires
 moved-moved_all-requires t c =
     (omega (arith, c.decreases, size_of_seq c.args.statement.now c.in-Seq.parts c.deref.result.now c.in-Seq.is c.deref.ensures.value), tt)
 
-pub moved-returns-in_ok-keep-in-Keep : goal.moved-returns-in_ok-keep-in-Keep
-moved-returns-in_ok-keep-in-Keep t c =
-    c.in_ok-keep-in-Keep.ensures c.args.depth ∙ sym (ap (λ s. moved (place_of c.args.place.now) c.args.depth (statement_of s)) c.in-Keep.is)
+pub moved-returns-in-Keep : goal.moved-returns-in-Keep
+moved-returns-in-Keep t c =
+    MatchResult-weaker c.moved_keep.result c.moved_keep.ensures (λ keep made.
+    made c.args.depth ∙ sym (ap (λ s. moved (place_of c.args.place.now) c.args.depth (statement_of s)) c.in-Keep.is)) (λ memory no_keep. no_keep)
 
 pub moved-returns-in_ok-made-in-Seq : goal.moved-returns-in_ok-made-in-Seq
 moved-returns-in_ok-made-in-Seq t c =
@@ -37,9 +39,10 @@ moved_all-loop-part-preserved t c =
 pub moved_all-returns : goal.moved_all-returns
 moved_all-returns t c = moved_done (place_of c.args.place.now) c.args.depth (statements_of c.loop-part.made.items) _ c.args.parts.now c.loop-part.part-index c.loop-part-test.false c.loop-part.invariant
 
-pub moved-returns-in_ok-call-in-Call : goal.moved-returns-in_ok-call-in-Call
-moved-returns-in_ok-call-in-Call t c =
-    c.in_ok-call-in-Call.ensures c.args.depth
+pub moved-returns-in-Call : goal.moved-returns-in-Call
+moved-returns-in-Call t c =
+    MatchResult-weaker c.moved_call.result c.moved_call.ensures (λ call made.
+    made c.args.depth
     ∙ ap (λ v. moved (place_of c.args.place.now) c.args.depth (Call c.in-Call.function (map expr_of v) c.deref-in-Call-2.result.now c.in-Call.into)) c.deref-in-Call.ensures.value
     ∙ ap (λ a. moved (place_of c.args.place.now) c.args.depth (Call c.in-Call.function (map expr_of c.in-Call.values.items) a c.in-Call.into)) c.deref-in-Call-2.ensures.value
-    ∙ sym (ap (λ s. moved (place_of c.args.place.now) c.args.depth (statement_of s)) c.in-Call.is)
+    ∙ sym (ap (λ s. moved (place_of c.args.place.now) c.args.depth (statement_of s)) c.in-Call.is)) (λ memory no_call. no_call)

@@ -1,4 +1,5 @@
 use Rattle.std.proofs.Common.{arith, ap, sym, ◌∙◌}
+use Rattle.std.proofs.lemmas.Result.{MatchResult-weaker}
 use Rattle.high_ir.specs.View.{statements_of}
 use Rattle.high_parts.proofs.Making.{part_size, size_of_seq}
 use Rattle.inliner.specs.Sites.{any_fits_all}
@@ -10,12 +11,13 @@ pub any_fits-any_fits_all-requires : goal.any_fits-any_fits_all-requires
 any_fits-any_fits_all-requires t c =
     (omega (arith, c.decreases, size_of_seq c.args.statement.now c.in-Seq.parts c.deref.result.now c.in-Seq.is c.deref.ensures.value), c.requires)
 
-pub any_fits-returns-in_ok-found-in-Seq : goal.any_fits-returns-in_ok-found-in-Seq
-any_fits-returns-in_ok-found-in-Seq t c =
+pub any_fits-returns-in_ok-sum-in-Seq : goal.any_fits-returns-in_ok-sum-in-Seq
+any_fits-returns-in_ok-sum-in-Seq t c =
     let scope = c.args.scope.now in
-    c.in_ok-found-in-Seq.ensures
+    MatchResult-weaker c.any_fits_all.result c.any_fits_all.ensures (λ found same.
+    same
     ∙ ap (λ n. any_fits_all scope.limit (functions_of scope.functions.now) c.args.used n (statements_of c.deref.result.now)) c.in_ok-sum-in-Seq.ensures
-    ∙ fits_seq scope.limit (functions_of scope.functions.now) c.args.used c.args.around c.args.statement.now c.in-Seq.parts c.deref.result.now c.in-Seq.is c.deref.ensures.value
+    ∙ fits_seq scope.limit (functions_of scope.functions.now) c.args.used c.args.around c.args.statement.now c.in-Seq.parts c.deref.result.now c.in-Seq.is c.deref.ensures.value) (λ memory no_answer. no_answer)
 
 pub any_fits_all-any_fits-requires : goal.any_fits_all-any_fits-requires
 any_fits_all-any_fits-requires t c =

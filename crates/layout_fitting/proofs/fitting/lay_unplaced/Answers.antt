@@ -1,7 +1,7 @@
 use Rattle.std.proofs.Common.{sym, subst}
 use Rattle.low_ir.specs.Placings.{placed_of}
-use Rattle.image_sizes.specs.Sizes.{HasSizes}
-use Rattle.image_sizes.proofs.FitLemmas.{nothing_fits}
+use Rattle.image_definition.specs.Sizes.{HasSizes}
+use Rattle.image_definition.proofs.FitLemmas.{nothing_fits}
 use Rattle.layout_laid.specs.Laid.{IsLaid}
 use Rattle.layout_fitting.proofs.fitting.lay_unplaced.Goals as goal
 

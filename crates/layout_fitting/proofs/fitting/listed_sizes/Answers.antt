@@ -2,7 +2,7 @@ use Rattle.std.proofs.Common.{◌≡◌, length, map, sym, ◌∙◌, arith}
 use Rattle.std.proofs.lemmas.List.{length-map}
 use Rattle.low_ir.specs.Placings.{assignment_of, placed_of}
 use Rattle.low_ir.specs.View.{function_of}
-use Rattle.claims_items.specs.Movables.{movable_of}
+use Rattle.claims_definition.specs.Movables.{movable_of}
 use Rattle.claims_movables.proofs.RowLemmas.{functions_count}
 use Rattle.layout_kept.specs.Items.{sized}
 use Rattle.layout_fitting.specs.Fitted.{size_listed}

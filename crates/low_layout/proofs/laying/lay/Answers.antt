@@ -1,7 +1,7 @@
 use Rattle.std.proofs.Common.{arith}
 use Rattle.low_ir.specs.Programs.{low_of}
 use Rattle.low_ir.specs.Placings.{assignment_of, placed_of, placings_of}
-use Rattle.image_sizes.proofs.FitLemmas.{fits}
+use Rattle.image_definition.proofs.FitLemmas.{fits}
 use Rattle.asm_program.proofs.FormedLemmas.{program}
 use Rattle.layout_law.proofs.KeptLemmas.{keeps}
 use Rattle.layout_law.proofs.RoomLemmas.{rooms_kept}

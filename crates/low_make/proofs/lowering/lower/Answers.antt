@@ -4,7 +4,7 @@ use Rattle.low_constants.proofs.Formed.{formed}
 use Rattle.low_ir.specs.Formed.{IsLow}
 use Rattle.low_ir.specs.View.{claim_of}
 use Rattle.lower_definition.specs.Programs.{lowered}
-use Rattle.lower_formed.proofs.Programs.{is_low}
+use Rattle.lower_budget.proofs.FormedPrograms.{is_low}
 use Rattle.lower_law.specs.Programs.{KeepsProgram, SparesRegisters}
 use Rattle.lower_law.proofs.Law.{keeps, spares}
 use Rattle.low_make.proofs.Holding.{parts_held}

@@ -1,16 +1,17 @@
-use Rattle.std.proofs.Common.{map}
+use Rattle.std.proofs.Common.{Option, map, subst}
+use Rattle.std.specs.Prelude.{IfSome}
+use Rattle.low_ir.specs.declared.low.Block.{Block}
 use Rattle.low_ir.specs.View.{block_of, claim_of}
 use Rattle.low_reloaded.specs.Reloads.{BlockReloaded}
-use Rattle.low_reloads.proofs.Going.{zip_begun, zip_done, zip_step}
+use Rattle.low_reloads.specs.Making.{facts_of, out_of}
+use Rattle.low_reloads.proofs.Lists.{blocks_more}
 use Rattle.low_reloads.proofs.making.blocks_of.Goals as goal
 
-pub loop-block-init : goal.loop-block-init
-loop-block-init c = zip_begun (BlockReloaded (map claim_of c.args.claims.now)) block_of (map block_of c.args.blocks.now) c.new-made.result.items c.new-made.ensures.items
-
-pub loop-block-preserved : goal.loop-block-preserved
-loop-block-preserved c =
-    zip_step (BlockReloaded (map claim_of c.args.claims.now)) block_of block_of (map block_of c.args.blocks.now) c.args.blocks.now c.loop-block.block-index c.block-item.result c.in_ok-block_of.field-0 c.loop-block.made.items c.push.new.self.items
-    c.loop-block-test.true c.block-item.is c.loop-block.invariant c.in_ok-block_of.ensures c.in_ok-push.ensures.items
-
-pub returns : goal.returns
-returns c = zip_done (BlockReloaded (map claim_of c.args.claims.now)) block_of block_of (map block_of c.args.blocks.now) c.args.blocks.now c.loop-block.block-index c.loop-block.made.items c.loop-block-test.false c.loop-block.invariant
+pub loop-number-preserved : goal.loop-number-preserved
+loop-number-preserved c =
+    let claims = map claim_of c.args.claims.now in
+    let out = out_of (map facts_of c.args.lists.now) in
+    let one =
+    subst (λ (o : Option Block). IfSome o (λ (b : Block). BlockReloaded claims out c.loop-number.number (block_of c.index-blocks-number.result) (block_of b))) c.in-Some.is c.in_ok-new.ensures in
+    blocks_more claims out c.args.blocks.now c.loop-number.number c.index-blocks-number.result c.in-Some.new c.loop-number.made.items c.push.new.self.items
+    c.loop-number-test.true c.index-blocks-number.is c.loop-number.invariant one c.in_ok-push.ensures.items

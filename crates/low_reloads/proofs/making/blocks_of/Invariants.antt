@@ -1,8 +1,8 @@
-use Rattle.std.proofs.Common.{drop, map}
+use Rattle.std.proofs.Common.{map, take}
 use Rattle.low_ir.specs.View.{block_of, claim_of}
-use Rattle.low_reloaded.specs.Reloads.{BlockReloaded}
-use Rattle.low_reloads.specs.Making.{ZipsSoFar}
+use Rattle.low_reloaded.specs.Reloads.{BlocksReloaded}
+use Rattle.low_reloads.specs.Making.{facts_of, out_of}
 use Rattle.low_reloads.proofs.making.blocks_of.Given as goal
 
-abbrev pub invariant-loop-block : goal.invariant-loop-block
-invariant-loop-block l = ZipsSoFar (BlockReloaded (map claim_of l.claims)) (map block_of l.blocks) (map block_of (drop l.block-index l.blocks)) (map block_of l.made.items)
+abbrev pub invariant-loop-number : goal.invariant-loop-number
+invariant-loop-number l = BlocksReloaded (map claim_of l.claims) (out_of (map facts_of l.lists)) 0 (map block_of (take l.number l.blocks)) (map block_of l.made.items)

@@ -1,13 +1,13 @@
-use Rattle.std.proofs.Common.{ap, inr, refl}
-use Rattle.low_ir.specs.View.{address_of, instr_of}
+use Rattle.std.proofs.Common.{inr, refl}
+use Rattle.low_reloads.specs.Making.{source_of}
 use Rattle.low_reloads.proofs.making.reload_of.Goals as goal
 
-pub returns-in-Some : goal.returns-in-Some
-returns-in-Some c =
+pub returns-in-Some-register : goal.returns-in-Some-register
+returns-in-Some-register c =
     inr (record {
-      fact = record { kind = c.in-Load.kind; address = address_of c.in-Load.address; register = c.in-Some.register };
-      into = c.in-Load.into;
-      knows = c.in-Some.ensures;
-      is = ap instr_of c.in-Load.is;
+      fact = record { source = source_of c.in-Some.given.source; register = c.in-Some-register.register };
+      into = c.in-Some.given.into;
+      knows = c.in-Some-register.ensures;
+      is = c.in-Some.ensures;
       becomes = refl;
     })

@@ -3,7 +3,7 @@ use Rattle.low_places.proofs.Ways.{all_safe}
 use Rattle.low_places.proofs.Follow.{carried}
 use Rattle.asm_program.proofs.FormedLemmas.{program}
 use Rattle.asm_code.proofs.Registers.{placed_there}
-use Rattle.simulation_memory.proofs.PlacedLemmas.{placed_keeps}
+use Rattle.simulation_loaded.proofs.PlacedLemmas.{placed_keeps}
 use Rattle.simulation_law.proofs.Simulated.{simulated}
 use Rattle.simulation_law.proofs.laws.assignments_simulate.Goals as goal
 

@@ -1,6 +1,6 @@
 use Rattle.std.proofs.Common.{◌≡◌, All, map, take}
 use Rattle.rv_core.specs.Table.{table_of}
-use Rattle.claims_items.specs.Movables.{movable_of}
+use Rattle.claims_definition.specs.Movables.{movable_of}
 use Rattle.spm_placement.specs.Gains.{gained}
 use Rattle.spm_placement.specs.Sets.{HasSmallGain}
 use Rattle.spm_placement.proofs.gaining.gains.Given as goal

@@ -3,8 +3,8 @@ use Rattle.std.specs.Prelude.{IfOk}
 use Rattle.rv_core.specs.Table.{table_of}
 use Rattle.low_ir.specs.Placings.{placed_of}
 use Rattle.claims_image.specs.Images.{laid_of}
-use Rattle.claims_items.specs.declared.item.LaidItem.{LaidItem}
-use Rattle.claims_items.specs.Movables.{movable_of}
+use Rattle.claims_definition.specs.declared.item.LaidItem.{LaidItem}
+use Rattle.claims_definition.specs.Movables.{movable_of}
 use Rattle.spm_placement.specs.declared.item.Item.{Item}
 use Rattle.spm_placement.specs.Gains.{HasFewVisits}
 use Rattle.spm_placement.specs.Sets.{AreBest, HasSmallGain, HasWholeWords}

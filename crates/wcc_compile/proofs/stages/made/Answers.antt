@@ -5,7 +5,7 @@ use Rattle.low_ir.specs.Placings.{assignment_of, placed_of}
 use Rattle.low_ir.specs.Programs.{low_of}
 use Rattle.low_ir.specs.declared.places.LowReg.{LowReg}
 use Rattle.compile_kept.specs.Carried.{IsCarried}
-use Rattle.compile_sizes.proofs.Sizes.{limited_fit}
+use Rattle.compile_turns.proofs.Sizes.{limited_fit}
 use Rattle.compile_made.specs.Made.{IsLowered}
 use Rattle.compile_made.specs.declared.made.Stages.{Stages}
 use Rattle.compile_passes.specs.Passes.{AreStages, stages_of}

@@ -1,5 +1,0 @@
-use Rattle.asm_program_prices.proofs.CountLemmas.{counts_below_weight}
-use Rattle.asm_program_prices.proofs.counts_below_weight.Goals as goal
-
-pub returns : goal.returns
-returns c = counts_below_weight

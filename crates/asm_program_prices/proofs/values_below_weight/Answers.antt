@@ -1,6 +1,0 @@
-use Rattle.rv_core.specs.Table.{table_of}
-use Rattle.asm_program_prices.proofs.ValueLemmas.{moves_cost_few, values_below_weight}
-use Rattle.asm_program_prices.proofs.values_below_weight.Goals as goal
-
-pub returns : goal.returns
-returns c = values_below_weight (table_of c.args.costs.now) (moves_cost_few c.args.costs.now)

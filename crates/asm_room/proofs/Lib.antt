@@ -1,4 +1,0 @@
-pub mod LongLemmas
-pub mod EmissionLemmas
-pub mod SizeLemmas
-pub mod FunctionLemmas

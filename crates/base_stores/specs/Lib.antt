@@ -1,0 +1,3 @@
+pub mod FileList
+pub mod States
+pub mod Failing

@@ -1,5 +1,0 @@
-pub mod Spaces
-pub mod Rising
-pub mod Accesses
-pub mod Matching
-pub mod Naming

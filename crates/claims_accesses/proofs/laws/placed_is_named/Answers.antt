@@ -1,5 +1,0 @@
-use Rattle.claims_accesses.proofs.Naming.{named}
-use Rattle.claims_accesses.proofs.laws.placed_is_named.Goals as goal
-
-pub returns : goal.returns
-returns c = λ a low is. named a low is

@@ -1,2 +1,0 @@
-pub mod Movables
-pub mod Laws

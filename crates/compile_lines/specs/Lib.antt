@@ -1,2 +1,0 @@
-pub mod CopyLines
-pub mod Shares

@@ -1,5 +1,0 @@
-use Rattle.image_sizes.proofs.FitLemmas.{nothing_fits}
-use Rattle.image_sizes.proofs.laws.nothing_fits.Goals as goal
-
-pub returns : goal.returns
-returns c = λ p room. nothing_fits p room

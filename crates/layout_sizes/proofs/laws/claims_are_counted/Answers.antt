@@ -1,5 +1,0 @@
-use Rattle.layout_sizes.proofs.Counting.{claims_counted}
-use Rattle.layout_sizes.proofs.laws.claims_are_counted.Goals as goal
-
-pub returns : goal.returns
-returns c = λ pl p is. claims_counted pl p is

@@ -1,5 +1,0 @@
-use Rattle.layout_sizes.proofs.Lying.{all_lie}
-use Rattle.layout_sizes.proofs.laws.items_lie.Goals as goal
-
-pub returns : goal.returns
-returns c = λ pl p is fits. all_lie pl p is fits

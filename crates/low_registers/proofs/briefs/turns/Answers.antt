@@ -1,0 +1,20 @@
+use Rattle.std.proofs.Common.{◌≡◌, ◌+◌, List, ◌∷◌, ◌++◌, ap, drop, map, subst, sym, ◌∙◌}
+use Rattle.std.proofs.lemmas.List.{drop_more}
+use Rattle.low_ir.specs.declared.instruction.Instr.{Instr}
+use Rattle.low_ir.specs.declared.low.Block.{Block}
+use Rattle.low_ir.specs.View.{block_of, instr_of}
+use Rattle.low_registers.specs.Briefs.{blocks_turns, code_turns}
+use Rattle.low_registers.proofs.Turning.{turns_put}
+use Rattle.low_registers.proofs.briefs.turns.Goals as goal
+
+pub loop-block-preserved : goal.loop-block-preserved
+loop-block-preserved c =
+    let blocks = c.args.function.now.blocks.items in
+    let i = c.loop-block.block-index in
+    let b = c.block-item.result in
+    let old = c.loop-block.turns.items in
+    let new = c.put_code.new.turns.items in
+    let cut = drop_more blocks i b c.loop-block-test.true ∙ ap (λ (x : Block). x ∷ drop (i + 1) blocks) (sym c.block-item.is) in
+    let put = subst (λ (is : List Instr). new ≡ old ++ code_turns (map instr_of is)) c.deref.ensures.value c.in_ok-put_code.ensures in
+    turns_put old new (block_of b) (map block_of (drop (i + 1) blocks)) (map block_of blocks) put
+    (ap (λ (bs : List Block). old ++ blocks_turns (map block_of bs)) (sym cut) ∙ c.loop-block.invariant)

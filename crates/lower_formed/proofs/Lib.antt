@@ -1,9 +1,0 @@
-pub mod Operators
-pub mod Values
-pub mod Statements
-pub mod Distinct
-pub mod Tables
-pub mod Shapes
-pub mod Naming
-pub mod Functions
-pub mod Programs

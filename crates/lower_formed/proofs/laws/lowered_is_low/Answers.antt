@@ -1,5 +1,0 @@
-use Rattle.lower_formed.proofs.Programs.{is_low}
-use Rattle.lower_formed.proofs.laws.lowered_is_low.Goals as goal
-
-pub returns : goal.returns
-returns c = λ p high. is_low p high

@@ -1,0 +1,5 @@
+pub mod ReloadedKeeping
+pub mod SteppedKeeping
+pub mod PromotedKeeping
+pub mod CopiedKeeping
+pub mod ThreadedKeeping

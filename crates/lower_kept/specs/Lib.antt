@@ -1,0 +1,5 @@
+pub mod ReloadedLaws
+pub mod SteppedLaws
+pub mod PromotedLaws
+pub mod CopiedLaws
+pub mod ThreadedLaws

@@ -1,4 +1,0 @@
-pub mod SiteLemmas
-pub mod ObjectLemmas
-pub mod PlanLemmas
-pub mod PlacedLemmas

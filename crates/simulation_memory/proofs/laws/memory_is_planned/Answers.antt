@@ -1,5 +1,0 @@
-use Rattle.simulation_memory.proofs.PlanLemmas.{is_plan}
-use Rattle.simulation_memory.proofs.laws.memory_is_planned.Goals as goal
-
-pub returns : goal.returns
-returns c = λ pl p formed sound keeps fits. is_plan pl p formed sound keeps fits

@@ -1,5 +1,0 @@
-use Rattle.simulation_visits.proofs.CountLemmas.{starts_counted}
-use Rattle.simulation_visits.proofs.laws.starts_are_counted.Goals as goal
-
-pub returns : goal.returns
-returns c = λ pl p s v u n ends f b there less. starts_counted pl p s v u n f b ends there less
