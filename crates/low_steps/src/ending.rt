@@ -19,6 +19,11 @@ fn covers(origin: Origin, wanted: Origin) -> bool
         Origin::Any => true,
         Origin::Word => match origin {
             Origin::Word => true,
+            Origin::Small => true,
+            _ => false,
+        },
+        Origin::Small => match origin {
+            Origin::Small => true,
             _ => false,
         },
         Origin::Object(object) => match origin {
