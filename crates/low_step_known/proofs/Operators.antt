@@ -101,13 +101,6 @@ less n w back low e none =
     ∙ same_sum back back (2 ^ 32) 0 refl refl
     ∙ same_numbers _ _ last
 
-pub difference_gives : (a b f : Form) (w back : ℕ) → Same (back + w) 0 → ((v : Numbers) → Same (form_value v f) (form_value v a + back)) → Gives Difference a b (Constant w) f
-difference_gives a b f w back none is s m n l r e =
-    let v = number_in s in
-    differences m n
-    ∙ same_sum m (form_value v a) (2 ^ 32 - n) back l (less n w back (word_less s w n e) (same_word s w n e) none)
-    ∙ sym (is v)
-
 -- what operators give is below 2^32
 some : 0 < 2 ^ 32
 some = omega arith

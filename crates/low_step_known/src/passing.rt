@@ -28,16 +28,6 @@ fn product(a: Form, b: Form, right: Operand) -> Option<Form>
     None
 }
 
-/// A number less a word.
-fn difference(a: Form, b: Form, right: Operand) -> Option<Form>
-    ensures { IfSome result (Gives Difference a b (operand_of right)) }
-{
-    match right {
-        Operand::Register(_) => None,
-        Operand::Constant(word) => Some(a.moved(negated(word))),
-    }
-}
-
 /// What a shift by a word multiplies by.
 fn power(word: u32) -> u32
     ensures { result ≡ left_shift_word 1 (word % 2 ^ 32) }
@@ -95,7 +85,6 @@ fn given(operator: Alu, a: Form, b: Form, right: Operand) -> Option<Form>
 {
     match operator {
         Alu::Sum => a.plus(1, b),
-        Alu::Difference => difference(a, b, right),
         Alu::Product => product(a, b, right),
         Alu::ShiftLeft => shifted(a, b, right),
         _ => None,
