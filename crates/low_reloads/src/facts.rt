@@ -204,7 +204,7 @@ pub struct Given {
 }
 
 /// What an instruction gives, if that is what facts speak of.
-pub fn given(instr: &Instr) -> Option<Given>
+pub fn given_by(instr: &Instr) -> Option<Given>
     ensures { IfSome result (λ g. instr_of instr.now ≡ Do (giving g.into (source_of g.source))) }
 {
     match instr {

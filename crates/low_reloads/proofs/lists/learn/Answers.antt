@@ -1,4 +1,4 @@
-use Rattle.low_reloads.proofs.Lists.{learns_listed}
+use Rattle.low_reloads.proofs.Listing.{learns_listed}
 use Rattle.low_reloads.proofs.lists.learn.Goals as goal
 
 pub loop-fact-init : goal.loop-fact-init
