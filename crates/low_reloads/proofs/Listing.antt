@@ -1,5 +1,5 @@
 -- What lists of facts say, and blocks over them.
-use Rattle.std.proofs.Common.{◌≡◌, ◌<◌, ⊎_elim, inl, inr, ℕ, zero, suc, ◌+◌, Bool, true, false, List, [], ◌∷◌, ◌++◌, length, map, take, Option, Some, None, refl, sym, ap, ◌∙◌, subst, arith}
+use Rattle.std.proofs.Common.{◌≡◌, ◌<◌, ⊎_elim, inl, inr, ℕ, zero, suc, ◌+◌, Bool, true, false, List, [], ◌∷◌, ◌++◌, length, map, take, Some, refl, sym, ap, ◌∙◌, subst, arith}
 use Rattle.std.specs.Prelude.{All, ◌==◌, if◌then◌else◌, Vec, option_map, slice_get, slice_index_or}
 use Rattle.std.specs.Global.{Global}
 use Rattle.std.proofs.lemmas.List.{length-map, map_more, map_push}
@@ -8,10 +8,9 @@ use Rattle.std.proofs.lemmas.Option.{slice_get-get_or, slice_get-map}
 use Rattle.low_ir.specs.declared.low.Block.{Block as Block'}
 use Rattle.rv_core.specs.declared.row.Condition.{Condition}
 use Rattle.low_ir.specs.Code.{Operand, End, Jump, Branch, Block, Function, Instr, Note}
-use Rattle.low_ir.specs.Formed.{LeadsOn}
 use Rattle.low_ir.specs.View.{block_of}
-use Rattle.low_reloaded.specs.Facts.{Fact, Keeps, Known, Knows, Learns, Teaches}
-use Rattle.low_reloaded.specs.Reloads.{Becomes, Beginnings, BlockReloaded, BlocksReloaded, Code, Follows, FunctionReloaded, Hands, InRange, IsReload, Steps}
+use Rattle.low_reloaded.specs.Facts.{Fact, Keeps, Known, Knows, Teaches}
+use Rattle.low_reloaded.specs.Reloads.{Becomes, Beginnings, BlockReloaded, BlocksReloaded, Code, Follows, FunctionReloaded, Hands, InRange, IsReload}
 use Rattle.low_reloaded.proofs.Effects.{some_same}
 use Rattle.low_reloads.specs.declared.facts.Fact.{Fact as Fact'}
 use Rattle.low_reloads.specs.Making.{AreFew, AreHanded, AreKnown, AreOf, IsAdded, IsCode, fact_of, facts_of, list_for, listed, out_of}
