@@ -16,6 +16,7 @@ mod paying;
 mod program;
 mod residents;
 mod suiting;
+mod ways;
 
 pub use program::promoted;
 pub use residents::Resident;
