@@ -287,8 +287,15 @@ fn worth_at(function: &Function, certain: &[bool], block: u32) -> Worth {
             }
         }
     }
-    let each = if depth > 0 { 1u64.wrapping_shl(depth.min(6).wrapping_mul(3)) } else { 0 };
-    Worth { each, certain: is_certain }
+    let each = if depth > 0 {
+        1u64.wrapping_shl(depth.min(6).wrapping_mul(3))
+    } else {
+        0
+    };
+    Worth {
+        each,
+        certain: is_certain,
+    }
 }
 
 fn accesses(instr: &Instr, object: u32) -> u64 {

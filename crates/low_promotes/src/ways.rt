@@ -31,7 +31,12 @@ fn note(known: &mut [Option<u32>], register: u32, word: Option<u32>) {
 fn result_of(known: &[Option<u32>], instr: &Instr) -> Option<u32> {
     match instr {
         Instr::Set { value, .. } => word_of(known, *value),
-        Instr::Operate { operator, left, right, .. } => {
+        Instr::Operate {
+            operator,
+            left,
+            right,
+            ..
+        } => {
             let x = word_of(known, *left)?;
             let y = word_of(known, *right)?;
             Some(operator.value(x, y))
@@ -66,7 +71,13 @@ fn decided(known: &[Option<u32>], end: End) -> Option<u32> {
     match end {
         End::Return { .. } => None,
         End::Jump { block } => Some(block),
-        End::Branch { condition, left, right, taken, other } => {
+        End::Branch {
+            condition,
+            left,
+            right,
+            taken,
+            other,
+        } => {
             let x = word_of(known, left)?;
             let y = word_of(known, right)?;
             Some(if condition.holds(x, y) { taken } else { other })
@@ -125,7 +136,12 @@ fn leads_surely(sure: &[bool], at: u32, end: End) -> bool {
 }
 
 /// Whether each run of a function that ends comes to a block, by the last blocks first.
-pub fn is_certain(alloc: Global, begun: &Beginning, blocks: &[Block], block: u32) -> Result<bool, Memory> {
+pub fn is_certain(
+    alloc: Global,
+    begun: &Beginning,
+    blocks: &[Block],
+    block: u32,
+) -> Result<bool, Memory> {
     let mut sure = vec![in alloc; false; blocks.len()]?;
     let Ok(count) = u32::try_from(blocks.len()) else {
         return Ok(false);
@@ -158,12 +174,19 @@ fn fewest_behind(fewest: &[u64], at: u32, end: End) -> u64 {
     match end {
         End::Return { .. } => 0,
         End::Jump { block } => fewest_from(fewest, at, block),
-        End::Branch { taken, other, .. } => fewest_from(fewest, at, taken).min(fewest_from(fewest, at, other)),
+        End::Branch { taken, other, .. } => fewest_from(fewest, at, taken).min(fewest_from(
+            fewest, at, other,
+        )),
     }
 }
 
 /// How much each run of a function does at least, where so much is done in each block.
-pub fn fewest(alloc: Global, begun: &Beginning, blocks: &[Block], done: &[u64]) -> Result<u64, Memory> {
+pub fn fewest(
+    alloc: Global,
+    begun: &Beginning,
+    blocks: &[Block],
+    done: &[u64],
+) -> Result<u64, Memory> {
     let mut fewest = vec![in alloc; 0u64; blocks.len()]?;
     let mut total = 0u64;
     let Ok(count) = u32::try_from(blocks.len()) else {
@@ -172,7 +195,10 @@ pub fn fewest(alloc: Global, begun: &Beginning, blocks: &[Block], done: &[u64]) 
     for back in 0..count {
         let at = count.wrapping_sub(back).wrapping_sub(1);
         if let Some(it) = blocks.get(at as usize) {
-            let own = match done.get(at as usize) { None => 0, Some(number) => *number };
+            let own = match done.get(at as usize) {
+                None => 0,
+                Some(number) => *number
+            };
             if flag_at(&begun.passed, at) {
                 total = total.saturating_add(own);
             }
