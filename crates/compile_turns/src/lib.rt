@@ -21,4 +21,7 @@
 
 mod laws;
 
-pub use laws::{all_are_light, all_turn, carried_turn, limited_programs_fit, lowered_turn, placed_turn, sources_have_few_loops, sources_turn};
+pub use laws::{
+    all_are_light, all_turn, carried_turn, limited_programs_fit, lowered_turn, placed_turn,
+    sources_have_few_loops, sources_turn,
+};
