@@ -1,4 +1,5 @@
 // Which scalars get registers. Nothing is proved of it: any choice is right that is checked.
+use super::flags::{flag_at, set_flag};
 use super::residents::Resident;
 use super::ways::{Beginning, beginning, fewest, is_certain};
 use low_ir::object::{Kind, Object, Storage};
@@ -30,19 +31,6 @@ struct Seen {
     uses: Vec<u64>,
     /// What loops access that a run may pass by.
     others: Vec<u64>,
-}
-
-fn set_flag(flags: &mut [bool], at: u32) {
-    if let Some(flag) = flags.get_mut(at as usize) {
-        *flag = true;
-    }
-}
-
-fn flag_at(flags: &[bool], at: u32) -> bool {
-    match flags.get(at as usize) {
-        None => false,
-        Some(flag) => *flag,
-    }
 }
 
 fn is_set(flags: &[bool], at: usize) -> bool {

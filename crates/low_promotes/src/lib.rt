@@ -11,6 +11,7 @@
 #![tactic(auto)]
 
 mod choosing;
+mod flags;
 mod making;
 mod paying;
 mod program;

@@ -1,4 +1,5 @@
 // Which ways runs take through a function. Nothing is proved of it: it guides a choice that is checked.
+use super::flags::{flag_at, set_flag};
 use low_ir::{Block, End, Function, Instr, Operand};
 use std::alloc::Global;
 use wcc_base::Memory;
@@ -112,19 +113,10 @@ pub fn beginning(alloc: Global, function: &Function) -> Result<Beginning, Memory
         let Some(next) = next_of(&mut known, function, last) else {
             return Ok(Beginning { passed, last });
         };
-        if let Some(flag) = passed.get_mut(last as usize) {
-            *flag = true;
-        }
+        set_flag(&mut passed, last);
         last = next;
     }
     Ok(Beginning { passed, last })
-}
-
-fn flag_at(flags: &[bool], at: u32) -> bool {
-    match flags.get(at as usize) {
-        None => false,
-        Some(flag) => *flag,
-    }
 }
 
 fn leads_surely(sure: &[bool], at: u32, end: End) -> bool {
@@ -150,9 +142,7 @@ pub fn is_certain(
         let at = count.wrapping_sub(back).wrapping_sub(1);
         if let Some(it) = blocks.get(at as usize) {
             if at == block || leads_surely(&sure, at, it.end) {
-                if let Some(flag) = sure.get_mut(at as usize) {
-                    *flag = true;
-                }
+                set_flag(&mut sure, at);
             }
         }
     }
