@@ -1,7 +1,7 @@
 // Which scalars get registers. Nothing is proved of it: any choice is right that is checked.
 use super::flags::{flag_at, set_flag};
 use super::residents::Resident;
-use super::ways::{Beginning, beginning, fewest, is_certain};
+use super::ways::{Beginning, beginning_of, fewest, is_certain};
 use low_ir::object::{Kind, Object, Storage};
 use low_ir::{Address, Base, Block, Function, Instr, Low};
 use std::alloc::Global;
@@ -350,7 +350,7 @@ fn residents_in(
     if function.loops.is_empty() {
         return Ok(residents);
     }
-    let begun = beginning(alloc, function)?;
+    let begun = beginning_of(alloc, function)?;
     let certain = certain_loops(alloc, &begun, function, is_main)?;
     let mut seen = Seen::new(alloc, low.objects.len())?;
     let mut number = 0u32;

@@ -105,7 +105,7 @@ fn next_of(known: &mut [Option<u32>], function: &Function, at: u32) -> Option<u3
     decided(known, block.end)
 }
 
-pub fn beginning(alloc: Global, function: &Function) -> Result<Beginning, Memory> {
+pub fn beginning_of(alloc: Global, function: &Function) -> Result<Beginning, Memory> {
     let mut known = vec![in alloc; None; function.registers as usize]?;
     let mut passed = vec![in alloc; false; function.blocks.len()]?;
     let mut last = 0u32;
