@@ -19,7 +19,7 @@ use Rattle.low_step_facts.specs.declared.facts.Origin.TheVariants.{Any, Word as 
 use Rattle.low_step_facts.specs.declared.forms.Form.{Form}
 use Rattle.low_step_facts.specs.Facts.{all_true, is_from, number}
 use Rattle.low_step_facts.proofs.Modulo.{same_numbers}
-use Rattle.low_step_known.specs.Learning.{Adds, BaseIsFrom, Begins, BeginsAt, CallPasses, Comes, Counts, Gives, GivesFrom, GivesHere, HoldsSmall, HoldsWord, IsBehind, Leads, LearnsStep, LearnsValue, LearnsWord, MayMeasure, Measures, Passes, StepsBy, Sure}
+use Rattle.low_step_known.specs.Learning.{Adds, BaseIsFrom, Begins, BeginsAt, CallPasses, Comes, Counts, GivesFrom, GivesHere, HoldsSmall, HoldsWord, IsBehind, Leads, LearnsStep, LearnsValue, LearnsWord, MayMeasure, Measures, Passes, StepsBy, Sure}
 use Rattle.low_step_known.proofs.Effects.{loaded_word, operated, resolve, was_set}
 
 -- a register that holds something is there
@@ -51,7 +51,7 @@ held_below x s o origin is e from n k =
     let one : o ≡ Some (Word n) = sym is ∙ k in
     ltb-true n (2 ^ 32) (ap (is_from Small) (sym one) ∙ ap (λ q. is_from q o) (sym e) ∙ from)
 
-below_from : (n : ℕ) → n < 2 ^ 32 → is_from Small (Some (Word n)) ≡ true
+pub below_from : (n : ℕ) → n < 2 ^ 32 → is_from Small (Some (Word n)) ≡ true
 below_from n low = grind (arith, nat_tests)
 
 module _ (size : ℕ) (old new : List Fact) where

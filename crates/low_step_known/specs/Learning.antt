@@ -1,5 +1,5 @@
 -- How facts change with the registers, and what follows from them.
-use Rattle.std.specs.Prelude.{◌≡◌, ℕ, ◌+◌, ◌<◌, true, List, [], length, Option, Some, None, slice_index_or, slice_set}
+use Rattle.std.specs.Prelude.{◌≡◌, ℕ, ◌+◌, ◌^◌, ◌<◌, true, List, [], length, Option, Some, None, slice_index_or, slice_set}
 use Rattle.rv_core.specs.declared.row.Alu.{Alu}
 use Rattle.rv_core.specs.Arithmetic.{alu_value}
 use Rattle.low_ir.specs.declared.run.Value.{Value}
