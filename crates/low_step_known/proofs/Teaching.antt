@@ -19,7 +19,7 @@ use Rattle.low_step_facts.specs.declared.facts.Origin.TheVariants.{Any, Word as 
 use Rattle.low_step_facts.specs.declared.forms.Form.{Form}
 use Rattle.low_step_facts.specs.Facts.{all_true, is_from, number}
 use Rattle.low_step_facts.proofs.Modulo.{same_numbers}
-use Rattle.low_step_known.specs.Learning.{Adds, BaseIsFrom, Begins, BeginsAt, CallPasses, Comes, Counts, GivesFrom, GivesHere, HoldsSmall, HoldsWord, IsBehind, Leads, LearnsStep, LearnsValue, LearnsWord, MayMeasure, Measures, Passes, StepsBy, Sure}
+use Rattle.low_step_known.specs.Learning.{Adds, BaseIsFrom, Begins, BeginsAt, CallPasses, Comes, Counts, GivesFrom, GivesHere, HoldsSmall, HoldsWord, IsBehind, Leads, LearnsStep, LearnsValue, LearnsWord, MayMeasure, Passes, StepsBy, Sure}
 use Rattle.low_step_known.proofs.Effects.{loaded_word, operated, resolve, was_set}
 
 -- a register that holds something is there
