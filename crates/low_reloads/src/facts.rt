@@ -134,11 +134,12 @@ fn loaded(kind: Kind, into: u32, address: Address) -> Option<Fact>
     }
 }
 
-/// What is known behind an operation: its register holds the result, if that isn't where an operand came from.
+/// What is known behind an operation: its register holds the result, if that isn't where an operand came from
+/// and the operator is one that is looked for.
 fn computed(operator: Alu, into: u32, left: Operand, right: Operand) -> Option<Fact>
     ensures { IfSome result (λ f. Teaches (Do (Operate operator into (operand_of left) (operand_of right))) (fact_of f)) }
 {
-    if are_spared(left, right, into) {
+    if same_operator(operator, operator) && are_spared(left, right, into) {
         Some(Fact {
             source: Source::Computes {
                 operator,
