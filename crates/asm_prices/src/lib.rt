@@ -24,4 +24,7 @@
 
 mod laws;
 
-pub use laws::{chosen_has_code, counts_below_reach, counts_below_weight, loose_flows_are_bounded, moves_cost_few, values_below_weight};
+pub use laws::{
+    chosen_has_code, counts_below_reach, counts_below_weight, loose_flows_are_bounded,
+    moves_cost_few, values_below_weight,
+};

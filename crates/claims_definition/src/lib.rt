@@ -21,4 +21,8 @@ mod item;
 mod laws;
 
 pub use item::LaidItem;
-pub use laws::{accesses_are_listed, accesses_have_lines, arrays_are_movable, claims_are_few, claims_are_sound, claims_fit, exits_are_calls, functions_are_movable, items_are_touched, lines_hold, loops_are_claimed, marks_have_places, placed_is_named, places_are_apart, ranges_hold};
+pub use laws::{
+    accesses_are_listed, accesses_have_lines, arrays_are_movable, claims_are_few, claims_are_sound,
+    claims_fit, exits_are_calls, functions_are_movable, items_are_touched, lines_hold,
+    loops_are_claimed, marks_have_places, placed_is_named, places_are_apart, ranges_hold,
+};

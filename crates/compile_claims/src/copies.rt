@@ -6,8 +6,8 @@ ghost use Rattle.high_pass.specs.Listing.{mark_entry};
 ghost use Rattle.compile_claims.specs.Places.{places_at};
 ghost use Rattle.compile_claims.specs.CopyLines.{AreLinesOf, IsLineOf};
 
-use c_tree::expression::NameId;
 use crate::places::places_at;
+use c_tree::expression::NameId;
 use high_ir::MarkCopies;
 use report_text::CopyLine;
 use std::alloc::Global;

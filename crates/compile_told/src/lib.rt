@@ -31,4 +31,7 @@
 
 mod laws;
 
-pub use laws::{images_show, made_take_what_is_placed, reported_are_lined, reported_run_as_sources, reported_tell_facts, sources_show, texts_are_short};
+pub use laws::{
+    images_show, made_take_what_is_placed, reported_are_lined, reported_run_as_sources,
+    reported_tell_facts, sources_show, texts_are_short,
+};

@@ -6,8 +6,8 @@ ghost use Rattle.image_segments.specs.Segments.{present, code_segment, data_segm
 ghost use Rattle.image_segments.specs.Views.{data_of};
 
 use super::beginnings::starts;
-use crate::rows::{Row, row_room};
 use crate::contents::row_bytes;
+use crate::rows::{Row, row_room};
 use low_ir::object::Object;
 use rv_core::{Image, Segment};
 use std::alloc::Global;

@@ -28,5 +28,8 @@ mod rows;
 pub use beginnings::starts;
 pub use contents::row_bytes;
 pub use images::{Code, Data, image, placed_end, second_base};
-pub use laws::{arrays_lie, elements_are_read, elements_stand, memory_is_open, rows_are_full, segments_are_loadable, segments_are_there};
+pub use laws::{
+    arrays_lie, elements_are_read, elements_stand, memory_is_open, rows_are_full,
+    segments_are_loadable, segments_are_there,
+};
 pub use rows::{Row, addresses, array_size, row_room};

@@ -20,4 +20,7 @@
 
 mod laws;
 
-pub use laws::{claims_are_counted, items_keep_sizes, items_lie, layouts_keep, regions_are_filled, segments_are_small};
+pub use laws::{
+    claims_are_counted, items_keep_sizes, items_lie, layouts_keep, regions_are_filled,
+    segments_are_small,
+};

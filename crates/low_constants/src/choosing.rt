@@ -28,7 +28,11 @@ const MOST: usize = 8;
 
 /// How many instructions put a word into a register.
 fn length_of(word: u32) -> u64 {
-    if is_near(word) || word & 0xfff == 0 { 1 } else { 2 }
+    if is_near(word) || word & 0xfff == 0 {
+        1
+    } else {
+        2
+    }
 }
 
 impl Uses {
@@ -43,10 +47,7 @@ impl Uses {
             }
         }
         if self.words.len() < CANDIDATES {
-            self.words.push(Used {
-                word,
-                uses: worth,
-            })?;
+            self.words.push(Used { word, uses: worth })?;
         }
         Ok(())
     }

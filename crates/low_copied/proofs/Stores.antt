@@ -133,16 +133,16 @@ pub written_longer : (rs : List ℕ) (xs : List Value) (s t s2 : Bank) → lengt
 written_longer [] [] s t s2 le same e = let is : s ≡ s2 = cc in record { store = t; is = refl; long = refl; alike = subst (λ l. Alike l t) is same }
 written_longer [] (x ∷ xs) s t s2 le same e = cc
 written_longer (r ∷ rs) [] s t s2 le same e = cc
-written_longer (r ∷ rs) (x ∷ xs) s t s2 le same e = by_test (nat_lt r (length s)) refl e
+written_longer (r ∷ rs) (x ∷ xs) s t s2 le same e = by_test (λ s1 t1 le1 same1 e1. written_longer rs xs s1 t1 s2 le1 same1 e1) (nat_lt r (length s)) refl e
   where
-    by_test : (c : Bool) → nat_lt r (length s) ≡ c → write_all virtual (set_in s r x c) rs xs ≡ Some s2 → Longer (r ∷ rs) (x ∷ xs) s2 t
-    by_test false g k = absurd (none_all rs xs s2 k)
-    by_test true g k =
+    by_test : ((s1 t1 : Bank) → length s1 ≤ length t1 → Alike s1 t1 → write_all virtual (Some s1) rs xs ≡ Some s2 → Longer rs xs s2 t1) → (c : Bool) → nat_lt r (length s) ≡ c → write_all virtual (set_in s r x c) rs xs ≡ Some s2 → Longer (r ∷ rs) (x ∷ xs) s2 t
+    by_test longer false g k = absurd (none_all rs xs s2 k)
+    by_test longer true g k =
         let lt : r < length s = ltb-true r (length s) g in
         let lt2 : r < length t = omega arith in
         let as_long = length-set s r (Some x) in
         let as_long2 = length-set t r (Some x) in
-        let rest = written_longer rs xs (slice_set s r (Some x)) (slice_set t r (Some x)) s2 (omega arith) (set_alike s t r x lt lt2 same) k in
+        let rest = longer (slice_set s r (Some x)) (slice_set t r (Some x)) (omega arith) (set_alike s t r x lt lt2 same) k in
         record {
           store = rest.store;
           is = ap (λ c. write_all virtual (set_in t r x c) rs xs) (lt_test r (length t) lt2) ∙ rest.is;

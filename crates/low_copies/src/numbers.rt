@@ -82,9 +82,7 @@ fn is_at(flags: &[bool], register: u32) -> bool {
 fn values_of(writes: &[u32], register: u32) -> u32 {
     match writes.get(register as usize) {
         None => 0,
-        Some(writes) => {
-            if *writes < 2 { 0 } else { *writes }
-        }
+        Some(writes) => { if *writes < 2 { 0 } else { *writes } }
     }
 }
 

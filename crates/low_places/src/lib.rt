@@ -21,4 +21,8 @@
 
 mod laws;
 
-pub use laws::{code_carries, example_runs, intervals_carry, intervals_suffice, loops_keep_totals, places_carry, places_keep_reach, places_keep_room, places_keep_weight, rounds_cover, slots_carry};
+pub use laws::{
+    code_carries, example_runs, intervals_carry, intervals_suffice, loops_keep_totals,
+    places_carry, places_keep_reach, places_keep_room, places_keep_weight, rounds_cover,
+    slots_carry,
+};

@@ -1,7 +1,9 @@
 // Which scalars get registers. Nothing is proved of it: any choice is right that is checked.
+use super::flags::{flag_at, set_flag};
 use super::residents::Resident;
+use super::ways::{Beginning, beginning_of, fewest, is_certain};
 use low_ir::object::{Kind, Object, Storage};
-use low_ir::{Address, Base, Block, End, Function, Instr, Low};
+use low_ir::{Address, Base, Block, Function, Instr, Low};
 use std::alloc::Global;
 use wcc_base::Memory;
 
@@ -11,25 +13,24 @@ const MOST: usize = 8;
 /// What an access outside all loops and what loads and stores at both ends count.
 const LEAST: u64 = 2;
 
+/// How many scalars of loops that a run may pass by are looked at.
+const TRIED: usize = 16;
+
+/// What an access in a block counts, and whether each run comes to it or to the loop around it.
+#[derive(Clone, Copy)]
+struct Worth {
+    each: u64,
+    certain: bool,
+}
+
 /// By object: what a function, or one that it calls, may touch; and what loops access.
 #[derive(Drop)]
 struct Seen {
     banned: Vec<bool>,
     written: Vec<bool>,
     uses: Vec<u64>,
-}
-
-fn set_flag(flags: &mut [bool], at: u32) {
-    if let Some(flag) = flags.get_mut(at as usize) {
-        *flag = true;
-    }
-}
-
-fn flag_at(flags: &[bool], at: u32) -> bool {
-    match flags.get(at as usize) {
-        None => false,
-        Some(flag) => *flag,
-    }
+    /// What loops access that a run may pass by.
+    others: Vec<u64>,
 }
 
 fn is_set(flags: &[bool], at: usize) -> bool {
@@ -61,6 +62,12 @@ fn set_base(flags: &mut [bool], claims: &[Vec<u32>], base: Base) {
     match base {
         Base::Object(object) => set_flag(flags, object),
         Base::Pointer { claim, .. } => set_claimed(flags, claims, claim),
+    }
+}
+
+fn count(uses: &mut [u64], object: u32, worth: u64) {
+    if let Some(own) = uses.get_mut(object as usize) {
+        *own = own.saturating_add(worth);
     }
 }
 
@@ -150,24 +157,27 @@ impl Seen {
             banned: vec![in alloc; false; objects]?,
             written: vec![in alloc; false; objects]?,
             uses: vec![in alloc; 0u64; objects]?,
+            others: vec![in alloc; 0u64; objects]?,
         })
     }
 
-    fn access(&mut self, low: &Low, kind: Kind, address: Address, worth: u64) {
+    fn access(&mut self, low: &Low, kind: Kind, address: Address, worth: Worth) {
         match whole(address) {
             None => set_base(&mut self.banned, &low.claims, address.base),
             Some(object) => {
                 if !has_kind(&low.objects, object, kind) {
                     set_flag(&mut self.banned, object);
                 }
-                if let Some(uses) = self.uses.get_mut(object as usize) {
-                    *uses = uses.saturating_add(worth);
+                if worth.certain {
+                    count(&mut self.uses, object, worth.each);
+                } else {
+                    count(&mut self.others, object, worth.each);
                 }
             }
         }
     }
 
-    fn instr(&mut self, low: &Low, rows: &[Vec<bool>], instr: &Instr, worth: u64) {
+    fn instr(&mut self, low: &Low, rows: &[Vec<bool>], instr: &Instr, worth: Worth) {
         match instr {
             Instr::Load { kind, address, .. } => self.access(low, *kind, *address, worth),
             Instr::Store { kind, address, .. } => {
@@ -179,6 +189,28 @@ impl Seen {
             Instr::Call { function, .. } => set_called(&mut self.banned, rows, *function),
             _ => {}
         }
+    }
+
+    /// The scalar that loops access most which a run may pass by; it is looked at once.
+    fn other(&mut self, objects: &[Object]) -> Option<(u32, u64)> {
+        let mut best = LEAST;
+        let mut found = None;
+        let mut at = 0u32;
+        for object in objects {
+            if let Some(uses) = self.others.get(at as usize) {
+                if *uses > best && is_scalar(object) && !flag_at(&self.banned, at) {
+                    best = *uses;
+                    found = Some((at, *uses));
+                }
+            }
+            at = at.saturating_add(1);
+        }
+        if let Some((object, _)) = found {
+            if let Some(own) = self.others.get_mut(object as usize) {
+                *own = 0;
+            }
+        }
+        found
     }
 
     /// The scalar at a place, if it may have a register and is used more than so much.
@@ -215,59 +247,95 @@ impl Seen {
     }
 }
 
-fn leads_surely(sure: &[bool], at: u32, end: End) -> bool {
-    match end {
-        End::Return { .. } => false,
-        End::Jump { block } => block <= at || flag_at(sure, block),
-        End::Branch { taken, other, .. } => flag_at(sure, taken) && flag_at(sure, other),
-    }
-}
-
-/// Whether each run of a function that ends comes to a block, by the last blocks first.
-fn is_certain(alloc: Global, blocks: &[Block], block: u32) -> Result<bool, Memory> {
-    let mut sure = vec![in alloc; false; blocks.len()]?;
-    let Ok(count) = u32::try_from(blocks.len()) else {
-        return Ok(false);
-    };
-    for back in 0..count {
-        let at = count.wrapping_sub(back).wrapping_sub(1);
-        if let Some(it) = blocks.get(at as usize) {
-            if at == block || leads_surely(&sure, at, it.end) {
-                set_flag(&mut sure, at);
-            }
-        }
-    }
-    Ok(flag_at(&sure, 0))
-}
-
 /// By loop: whether each run comes to it; the function that is run is entered once.
-fn certain_loops(alloc: Global, function: &Function, is_main: bool) -> Result<Vec<bool>, Memory> {
+fn certain_loops(
+    alloc: Global,
+    begun: &Beginning,
+    function: &Function,
+    is_main: bool,
+) -> Result<Vec<bool>, Memory> {
     let mut certain = Vec::new(alloc);
     for each in &function.loops {
-        certain.push(is_main || is_certain(alloc, &function.blocks, each.header)?)?;
+        certain.push(is_main || is_certain(alloc, begun, &function.blocks, each.header)?)?;
     }
     Ok(certain)
 }
 
-/// What an access in a block counts: eight times as much in each loop further inside, and nothing in a loop that a run may pass by.
-fn worth_at(function: &Function, certain: &[bool], block: u32) -> u64 {
+/// What an access in a block counts: eight times as much in each loop further inside, and nothing outside of all.
+fn worth_at(function: &Function, certain: &[bool], block: u32) -> Worth {
     let mut depth = 0u32;
     let mut first = u32::MAX;
-    let mut counts = false;
+    let mut is_certain = false;
     for (number, each) in function.loops.iter().enumerate() {
         if each.header <= block && block <= each.latch {
             depth = depth.saturating_add(1);
             if each.header < first {
                 first = each.header;
-                counts = is_set(certain, number);
+                is_certain = is_set(certain, number);
             }
         }
     }
-    if counts {
+    let each = if depth > 0 {
         1u64.wrapping_shl(depth.min(6).wrapping_mul(3))
     } else {
         0
+    };
+    Worth {
+        each,
+        certain: is_certain,
     }
+}
+
+fn accesses(instr: &Instr, object: u32) -> u64 {
+    let found = match instr {
+        Instr::Load { address, .. } => whole(*address),
+        Instr::Store { address, .. } => whole(*address),
+        _ => None,
+    };
+    match found {
+        None => 0,
+        Some(it) => { if it == object { 1 } else { 0 } }
+    }
+}
+
+fn accesses_in(code: &[Instr], object: u32) -> u64 {
+    let mut number = 0u64;
+    for instr in code {
+        number = number.saturating_add(accesses(instr, object));
+    }
+    number
+}
+
+/// How often a run of a function accesses a scalar at least.
+fn fewest_accesses(
+    alloc: Global,
+    begun: &Beginning,
+    blocks: &[Block],
+    object: u32,
+) -> Result<u64, Memory> {
+    let mut done = Vec::new(alloc);
+    for block in blocks {
+        done.push(accesses_in(&block.code, object))?;
+    }
+    fewest(alloc, begun, blocks, &done)
+}
+
+/// Loops that a run may pass by count where each run accesses a scalar as often as its load and its store do.
+fn count_others(
+    alloc: Global,
+    objects: &[Object],
+    begun: &Beginning,
+    function: &Function,
+    seen: &mut Seen,
+) -> Result<(), Memory> {
+    for _ in 0..TRIED {
+        if let Some((object, uses)) = seen.other(objects) {
+            if fewest_accesses(alloc, begun, &function.blocks, object)? >= LEAST {
+                count(&mut seen.uses, object, uses);
+            }
+        }
+    }
+    Ok(())
 }
 
 /// The scalars of a function that its loops use most.
@@ -282,7 +350,8 @@ fn residents_in(
     if function.loops.is_empty() {
         return Ok(residents);
     }
-    let certain = certain_loops(alloc, function, is_main)?;
+    let begun = beginning_of(alloc, function)?;
+    let certain = certain_loops(alloc, &begun, function, is_main)?;
     let mut seen = Seen::new(alloc, low.objects.len())?;
     let mut number = 0u32;
     for block in &function.blocks {
@@ -292,6 +361,7 @@ fn residents_in(
         }
         number = number.saturating_add(1);
     }
+    count_others(alloc, &low.objects, &begun, function, &mut seen)?;
     for _ in 0..MOST {
         if let Some(resident) = seen.take(&low.objects) {
             residents.push(resident)?;

@@ -430,7 +430,11 @@ impl Tastes {
 
     /// A call in which an interval begins gives the register its value, but where that is a parameter, which has it before.
     fn lives_over_call(&self, interval: Lasting) -> bool {
-        let written = if self.is_passed(interval.register) { 0 } else { 1 };
+        let written = if self.is_passed(interval.register) {
+            0
+        } else {
+            1
+        };
         let before = number_at(&self.calls, interval.first.wrapping_add(written));
         let behind = number_at(&self.calls, interval.last.wrapping_add(1));
         before != behind

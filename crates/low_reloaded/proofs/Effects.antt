@@ -1,5 +1,5 @@
 -- What instructions leave as it is of arrays.
-use Rattle.std.proofs.Common.{◌≡◌, ◌<◌, ⊎_elim, ℕ, zero, suc, ◌+◌, Bool, true, false, List, [], ◌∷◌, length, Option, Some, None, refl, sym, ap, ◌∙◌, subst, arith, get_or-set_same, length-set}
+use Rattle.std.proofs.Common.{◌≡◌, ◌<◌, ⊎_elim, ℕ, zero, suc, Bool, true, false, List, [], ◌∷◌, length, Option, Some, None, refl, sym, ap, ◌∙◌, subst, arith, get_or-set_same, length-set}
 use Rattle.std.specs.Prelude.{◌/◌, ◌%◌, ◌==◌, ◌&&◌, nat_lt, slice_get, slice_index_or, slice_set}
 use Rattle.std.proofs.lemmas.Bool.{eqb-true, ltb-true}
 use Rattle.std.proofs.lemmas.Option.{slice_get-get_or, slice_get_within}
@@ -11,9 +11,9 @@ use Rattle.low_ir.specs.Kinds.{converted, kind_bytes, kind_number, same_kind}
 use Rattle.low_ir.specs.Code.{Address, Operand, Plain, Set, Operate, Point, Load, Store, Put, Get}
 use Rattle.low_ir.specs.declared.run.Value.{Value}
 use Rattle.low_ir.specs.declared.run.Value.TheVariants.{Word, Pointer}
-use Rattle.low_ir.specs.Effects.{Contents, Did, World, can_store, changes, effect, effect_of, element, gives, got, is_element, loaded, next_byte, nothing_more, only_if, put, resolved, stored, takes, there, with_element, with_objects, with_one, word}
+use Rattle.low_ir.specs.Effects.{Contents, Did, World, can_store, changes, effect, effect_of, element, gives, got, is_element, loaded, next_byte, only_if, put, resolved, stored, takes, there, with_element, with_objects, with_one}
 use Rattle.low_reloaded.specs.Facts.{AreApart, Loads, SparesElement, Touches}
-use Rattle.low_reloaded.proofs.Places.{Leads, Nowhere, Somewhere, Way, way}
+use Rattle.low_reloaded.proofs.Places.{Nowhere, Somewhere, Way, way}
 
 pub some_same : {A : Type 0} (x y : A) → Some x ≡ Some y → x ≡ y
 some_same x y e = cc

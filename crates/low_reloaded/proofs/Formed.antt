@@ -1,10 +1,10 @@
 -- A program with copies in place of loads keeps to the low form.
-use Rattle.std.proofs.Common.{◌≡◌, ◌<◌, ℕ, zero, suc, true, List, [], ◌∷◌, length, Option, Some, None, refl, sym, ap, ◌∙◌, subst, ⊎_elim}
+use Rattle.std.proofs.Common.{◌≡◌, ◌<◌, ℕ, zero, suc, true, List, [], ◌∷◌, length, Some, None, refl, sym, ap, ◌∙◌, subst, ⊎_elim}
 use Rattle.std.specs.Prelude.{All, AllPairs, option_to_list, slice_get}
 use Rattle.std.specs.List.{AllZip}
 use Rattle.std.proofs.lemmas.List.Elements.{All-nil, All-cons, All-head, All-tail}
 use Rattle.low_ir.specs.Code.{Register, Constant, Plain, Set, Operate, Point, Load, Store, Put, Get, Instr, Do, Call, End, Block, Loop, Function, Low, Note}
-use Rattle.low_ir.specs.Formed.{AreNested, CallsBelow, HasMarkBelow, IsFunction, IsLoop, IsLow, IsThere, LeadsOn, LeadsTo, LeadsTo_as, NamesThere, RegistersWithin, UsesRegisters, end_reads, is_back, mark_of, only_jump, opening, read_by, registers_in, written_by}
+use Rattle.low_ir.specs.Formed.{AreNested, CallsBelow, HasMarkBelow, IsFunction, IsLoop, IsLow, IsThere, LeadsOn, LeadsTo, LeadsTo_as, NamesThere, RegistersWithin, UsesRegisters, end_reads, is_back, mark_of, only_jump, opening, registers_in, written_by}
 use Rattle.low_ir.specs.Effects.{address_reads}
 use Rattle.low_ir.specs.Runs.{block_in}
 use Rattle.low_ir.specs.Turns.{mark_in}

@@ -1,6 +1,6 @@
 -- The instructions that give what facts speak of.
 use Rattle.std.proofs.Common.{◌≡◌, ◌≤◌, ℕ, None, Option, Some, refl, arith}
-use Rattle.low_ir.specs.Code.{Address, Base, Do, Fixed, Note, Register, Set, Through}
+use Rattle.low_ir.specs.Code.{Base, Do, Fixed, Note, Register, Set, Through}
 use Rattle.low_ir.specs.Effects.{dest}
 use Rattle.low_ir.specs.Formed.{written_by}
 use Rattle.low_ir.specs.Room.{access_room, instr_room}

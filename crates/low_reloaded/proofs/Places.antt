@@ -1,5 +1,5 @@
 -- Where addresses lead.
-use Rattle.std.proofs.Common.{◌≡◌, ◌⊎◌, inl, inr, ⊎_elim, ℕ, ◌+◌, Bool, true, false, List, [], ◌∷◌, Option, Some, None, refl, ap, ◌∙◌}
+use Rattle.std.proofs.Common.{◌≡◌, ℕ, ◌+◌, Bool, true, false, List, [], ◌∷◌, Option, Some, None, refl, ap, ◌∙◌}
 use Rattle.std.specs.Prelude.{◌%◌, ◌^◌, slice_index_or}
 use Rattle.low_ir.specs.Code.{Base, Fixed, Through, Address}
 use Rattle.low_ir.specs.declared.run.Value.{Value}

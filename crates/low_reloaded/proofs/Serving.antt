@@ -1,7 +1,6 @@
 -- The run with copies in place of loads is the same run, step by step.
 use Rattle.std.proofs.Common.{◌≡◌, ◌<◌, ℕ, zero, suc, Bool, true, false, List, [], ◌∷◌, Option, Some, None, refl, sym, ap, ◌∙◌, subst, ⊎_elim, inl, inr}
 use Rattle.std.specs.Prelude.{All, ◌^◌, if◌then◌else◌, nat_lt, slice_get}
-use Rattle.std.specs.List.{AllZip}
 use Rattle.rv_core.specs.declared.row.Condition.{Condition}
 use Rattle.rv_core.specs.Arithmetic.{holds}
 use Rattle.low_ir.specs.Code.{Operand, Register, Plain, Set, Instr, Do, Call, End, Jump, Branch, Return, Block, Function, Low, Note}

@@ -1,13 +1,12 @@
 -- In each run on bytes, registers and elements hold words below 2^32.
-use Rattle.std.proofs.Common.{◌≡◌, ⊎_elim, ℕ, ◌<◌, ◌≤◌, ◌^◌, Bool, true, false, List, [], ◌∷◌, ◌++◌, length, map, Option, Some, None, refl, sym, ap, ◌∙◌, subst, arith}
-use Rattle.std.specs.Prelude.{All, ◌%◌, ◌/◌, if◌then◌else◌, nat_lt, replicate, slice_get, slice_index_or, slice_set, take}
+use Rattle.std.proofs.Common.{◌≡◌, ⊎_elim, ℕ, ◌<◌, ◌≤◌, ◌^◌, Bool, true, false, List, [], ◌∷◌, ◌++◌, length, map, Option, Some, None, refl, sym, ◌∙◌, subst, arith}
+use Rattle.std.specs.Prelude.{All, ◌/◌, nat_lt, replicate, slice_get, slice_index_or, slice_set, take}
 use Rattle.std.proofs.lemmas.Bool.{cases_lt}
 use Rattle.std.proofs.lemmas.List.{get_or_past}
 use Rattle.std.proofs.lemmas.List.Elements.{All-append, All-cons, All-get_or, All-head, All-map, All-nil, All-replicate, All-set, All-tail, All-take}
 use Rattle.std.proofs.lemmas.Option.{get_or_from_slice_get, slice_get_within}
 use Rattle.rv_core.specs.declared.row.Alu.{Alu}
-use Rattle.rv_core.specs.declared.row.Condition.{Condition}
-use Rattle.rv_core.specs.Arithmetic.{alu_value, holds}
+use Rattle.rv_core.specs.Arithmetic.{alu_value}
 use Rattle.low_ir.specs.declared.object.Kind.{Kind}
 use Rattle.low_ir.specs.declared.object.Storage.{Storage}
 use Rattle.low_ir.specs.declared.object.Storage.TheVariants.{Constant as Fixed', Global, Local}
@@ -15,8 +14,8 @@ use Rattle.low_ir.specs.Kinds.{converted, kind_bytes}
 use Rattle.low_ir.specs.Code.{Address, Operand, Register, Constant, Plain, Set, Operate, Point, Load, Store, Put, Get, Instr, Do, Call, End, Jump, Branch, Return, Block, Function, Low, Note, Object}
 use Rattle.low_ir.specs.declared.run.Value.{Value}
 use Rattle.low_ir.specs.declared.run.Value.TheVariants.{Word, Pointer}
-use Rattle.low_ir.specs.Effects.{Contents, Did, World, after_byte, changes, contents, dest, effect, effect_of, element, first_elements, gives, got, is_element, loaded, next_byte, put, reads, resolved, start, stored, takes, there, with_element, with_objects, with_one}
-use Rattle.low_ir.specs.Runs.{Waiting, Running, Run, Going, Done, Bad, Bank, operand_value, values, values_cons, write_to, goes_on, finish, enter, block_in, went_to, write_all, begin, only_where, waiting, call, at_instr, come_back, give_back, chosen, branches, at_end, at_code, step, first, first_in, set_in, virtual}
+use Rattle.low_ir.specs.Effects.{Contents, Did, World, after_byte, changes, contents, dest, effect, effect_of, element, first_elements, gives, got, is_element, loaded, next_byte, put, reads, resolved, start, stored, there, with_objects}
+use Rattle.low_ir.specs.Runs.{Waiting, Running, Run, Going, Done, Bad, Bank, operand_value, values, values_cons, write_to, goes_on, finish, enter, block_in, went_to, write_all, begin, only_where, waiting, call, come_back, give_back, chosen, branches, at_end, at_code, step, first, first_in, set_in, virtual}
 use Rattle.low_reloaded.proofs.Effects.{is_met, is_stored, load_from, none_some, some_same, store_to, there_is}
 use Rattle.low_reloaded.proofs.Places.{Nowhere, Somewhere, Way, way}
 use Rattle.low_reloaded.proofs.Words.{alu-small, converted-small}

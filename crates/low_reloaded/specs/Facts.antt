@@ -1,5 +1,5 @@
 -- What is known as a block goes on: which registers hold what loads of elements and operations would give.
-use Rattle.std.specs.Prelude.{◌≡◌, ◌≢◌, ◌⊎◌, ℕ, Bool, true, false, List, [], ◌∷◌, Option, Some, None, slice_get, slice_index_or}
+use Rattle.std.specs.Prelude.{◌≡◌, ◌≢◌, ◌⊎◌, ℕ, true, false, List, [], ◌∷◌, Option, Some, None, slice_get, slice_index_or}
 use Rattle.rv_core.specs.declared.row.Alu.{Alu}
 use Rattle.low_ir.specs.declared.object.Kind.{Kind}
 use Rattle.low_ir.specs.declared.object.Kind.TheVariants.{Word}

@@ -1,3 +1,3 @@
 pub mod Table
 pub mod Going
-pub mod Lists
+pub mod Listing

@@ -15,7 +15,10 @@ use rv_core::Alu;
 #[derive(Clone, Copy)]
 pub enum Source {
     /// A load of this kind from this address.
-    Loads { kind: Kind, address: Address },
+    Loads {
+        kind: Kind,
+        address: Address,
+    },
     Computes {
         operator: Alu,
         left: Operand,
@@ -96,10 +99,7 @@ fn is_other(claims: &[Vec<u32>], source: Source, kind: Kind, base: Base) -> bool
     ensures { result ≡ true → IsOther (map claim_of claims.now) kind (base_of base) (source_of source) }
 {
     match source {
-        Source::Loads {
-            kind: own,
-            address,
-        } => are_apart(claims, own, address.base, kind, base),
+        Source::Loads { kind: own, address } => are_apart(claims, own, address.base, kind, base),
         Source::Computes { .. } => true,
     }
 }
@@ -205,7 +205,7 @@ pub struct Given {
 }
 
 /// What an instruction gives, if that is what facts speak of.
-pub fn given(instr: &Instr) -> Option<Given>
+pub fn given_by(instr: &Instr) -> Option<Given>
     ensures { IfSome result (λ g. instr_of instr.now ≡ Do (giving g.into (source_of g.source))) }
 {
     match instr {

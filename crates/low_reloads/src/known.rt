@@ -1,5 +1,5 @@
 // What is known as a block goes on.
-ghost use Rattle.std.specs.Prelude.{◌≡◌, Some, map, slice_set, IfOk, IfSome};
+ghost use Rattle.std.specs.Prelude.{◌≡◌, Some, None, map, replicate, slice_set, IfOk, IfSome};
 ghost use Rattle.low_ir.specs.View.{claim_of, instr_of};
 ghost use Rattle.low_reloaded.specs.Facts.{Keeps, Knows, KnowsNothing, Learns};
 ghost use Rattle.low_reloads.specs.Making.{Answers, AreKept, IsAdded, fact_of, known_of, source_of};
@@ -85,15 +85,20 @@ fn forget(facts: &mut Vec<Option<Fact>>, claims: &[Vec<u32>], instr: &Instr)
     }
 }
 
+/// Places for facts, without any.
+fn no_facts(alloc: Global) -> Result<Vec<Option<Fact>>, Memory>
+    ensures { IfOk result (λ facts. facts.items ≡ replicate 32 None) }
+{
+    Ok(vec![in alloc; None; FACTS]?)
+}
+
 impl Known {
     /// Nothing is known.
     pub fn new(alloc: Global) -> Result<Known, Memory>
         ensures { IfOk result (λ k. KnowsNothing k) }
     {
-        Ok(Known {
-            facts: vec![in alloc; None; FACTS]?,
-            next: 0,
-        })
+        let facts = no_facts(alloc)?;
+        Ok(Known { facts, next: 0 })
     }
 
     /// The register that holds what a source would give, if one is known.

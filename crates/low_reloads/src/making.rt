@@ -7,7 +7,7 @@ ghost use Rattle.low_reloaded.specs.Reloads.{Becomes, BlockReloaded, BlocksReloa
 ghost use Rattle.low_reloads.specs.Making.{IsCode, facts_of, out_of};
 
 use super::beginnings::beginnings;
-use super::facts::{Fact, given};
+use super::facts::{Fact, given_by};
 use super::known::Known;
 use super::lists::{all_few, hands, known_by, list_for};
 use super::same::{same_instr, same_loops, same_registers};
@@ -19,7 +19,7 @@ use wcc_base::Memory;
 fn reload_of(known: &Known, instr: &Instr) -> Option<Instr>
     ensures { IfSome result (λ j. Becomes known.now (instr_of instr.now) (instr_of j)) }
 {
-    let Some(given) = given(instr) else {
+    let Some(given) = given_by(instr) else {
         return None;
     };
     match known.find(given.source) {

@@ -9,4 +9,7 @@
 
 mod laws;
 
-pub use laws::{functions_are_few, loops_are_kept, lowered_is_low, marks_are_few, reach_is_bounded, registers_are_few, room_is_bounded, weight_is_bounded};
+pub use laws::{
+    functions_are_few, loops_are_kept, lowered_is_low, marks_are_few, reach_is_bounded,
+    registers_are_few, room_is_bounded, weight_is_bounded,
+};

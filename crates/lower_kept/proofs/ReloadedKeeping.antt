@@ -1,4 +1,4 @@
--- A low program with copies in place of loads keeps what it kept.
+-- A low program with copies in place of loads and operations keeps what it kept.
 use Rattle.std.proofs.Common.{◌≡◌, ◌<◌, ◌+◌, ◌^◌, ℕ, List, [], ◌∷◌, ◌++◌, length, map, Option, Some, None, refl, sym, ap, ◌∙◌, subst, ⊎_elim, inl, inr, arith}
 use Rattle.std.specs.Prelude.{All, option_to_list, slice_get, slice_index_or, sum_by, true}
 use Rattle.std.specs.List.{AllZip, flat_map}

@@ -1,4 +1,4 @@
--- What a low program keeps of a program in the high form with copies in place of loads.
+-- What a low program keeps of a program in the high form with copies in place of loads and operations.
 use Rattle.high_ir.specs.Tree.{Program}
 use Rattle.low_ir.specs.Code.{Low}
 use Rattle.low_reloaded.specs.Reloads.{MayBeReloaded}

@@ -5,7 +5,7 @@ ghost use Rattle.lower_kept.specs.PromotedLaws.{PromotedKeeps};
 ghost use Rattle.lower_kept.specs.CopiedLaws.{CopiesKeep};
 ghost use Rattle.lower_kept.specs.ThreadedLaws.{ThreadsKeep};
 
-/// What a low program keeps of a program in the high form, it keeps with copies in place of loads.
+/// What a low program keeps of a program in the high form, it keeps with copies in place of loads and operations.
 pub fn reloads_keep()
     ensures { ReloadsKeep }
 {}

@@ -2,7 +2,7 @@
 //!
 //! Proved, each by a call with an empty body: what a low program keeps of a program in the high form, it keeps
 //!
-//! - with copies in place of loads of what a register holds ([`reloads_keep`]);
+//! - with copies in place of loads and operations whose value a register holds ([`reloads_keep`]);
 //! - with pointers that step ([`steps_keep`]);
 //! - with global scalars in registers, of which a function may have as many as it has spare registers ([`promoted_keeps`]);
 //! - without its copies ([`copies_keep`]);

@@ -132,13 +132,13 @@ module _ (g : Given) where
           (cases_eq (g.layout.starts f last) b)
 
   -- what a block that returns ends with, where the exit stands at the return or behind the other blocks
-  abbrev leave_by : PlacedRunning → Bool → Bool → List Noted
-  leave_by r true next = exit_items r.top.func
-  leave_by r false next = map noted (jump_items g.layout.memory g.layout.program r.top.func next (length (function_in g.layout.program r.top.func).blocks))
+  abbrev leave_by : ℕ → Bool → Bool → List Noted
+  leave_by f true next = exit_items f
+  leave_by f false next = map noted (jump_items g.layout.memory g.layout.program f next (length (function_in g.layout.program f).blocks))
 
-  leave_is : (r : PlacedRunning) (b : ℕ) (once : Bool) → map noted (leave_items g.layout.memory g.layout.program r.top.func once b) ≡ leave_by r once (length (function_in g.layout.program r.top.func).blocks == suc b)
-  leave_is r b true = noted_code (exit_code (is_leaf (function_in g.layout.program r.top.func)) (frame g r.top.func)) (items.Return ∷ [])
-  leave_is r b false = refl
+  leave_is : (f b : ℕ) (once : Bool) → map noted (leave_items g.layout.memory g.layout.program f once b) ≡ leave_by f once (length (function_in g.layout.program f).blocks == suc b)
+  leave_is f b true = noted_code (exit_code (is_leaf (function_in g.layout.program f)) (frame g f)) (items.Return ∷ [])
+  leave_is f b false = refl
 
   -- registers of values and memory are as before; x10 where it holds none
   still_holds : (called : Bool) (r : PlacedRunning) (n m : ℕ) (returns : List ℕ) (h : Holds g.layout r (view_of (state g n)) returns) → r.top.func < length g.layout.program.functions → ((q : ℕ) → IsSteady q → Spared called q → reg g m q ≡ reg g n q) → (state g m).world ≡ (state g n).world → Holds g.layout (forgotten g called r) (view_of (state g m)) returns
@@ -151,7 +151,7 @@ module _ (g : Given) where
 
   -- where the exit is to be run, at the return itself or in the block behind the others
   exits_by : (r : PlacedRunning) (n m v : ℕ) (h : Going_at g r n) (once next : Bool) → at_once g.layout.memory g.layout.program r.top.func ≡ once → (length (function_in g.layout.program r.top.func).blocks == suc h.block) ≡ next → v < 2 ^ 32
-      → Holds g.layout r (view_of (state g m)) h.returns → Exchanges g.layout (run_of g) r.world m → reg g m result ≡ v → At g (course_in g r r.world h.block h.returns) m (leave_by r once next) → Later (Runs g (come_back places r.world r.below v)) m
+      → Holds g.layout r (view_of (state g m)) h.returns → Exchanges g.layout (run_of g) r.world m → reg g m result ≡ v → At g (course_in g r r.world h.block h.returns) m (leave_by r.top.func once next) → Later (Runs g (come_back places r.world r.below v)) m
   exits_by r n m v h true next once is small holds exchanges value at = leaves_with r m v (course_in g r r.world h.block h.returns) h.returns h.inside.there small holds exchanges value refl refl at
   exits_by r n m v h false true once is small holds exchanges value at =
       let l = g.layout in
@@ -187,4 +187,4 @@ module _ (g : Given) where
       let at = subst (λ z. At g k n (noted_body l.memory l.program f h.block [] z)) end_is (subst (λ z. At g k n (body g r h.block z)) code_is h.at) in
       into g k goal n f result r.top.store (map noted (leave_items l.memory l.program f once h.block)) x (Word v) (omega arith) (omega arith) (ready_of g r n h) e (subst (λ z. At g k n z) (noted_code (into_code (frame g f) result x) (leave_items l.memory l.program f once h.block)) at)
       (λ m a. exits_by (forgotten g true r) n m v (going_on g true r n h) once next refl refl (operand-small g f r.top.store x (Word v) h.holds.room e) (still_holds true r n m h.returns h.holds h.inside.there (λ q s spare. a.others q (spare refl)) a.world) (still_exchanges r n m h.exchanges a.world) a.value
-      (subst (λ xs. At g k m xs) (leave_is r h.block once) a.at))
+      (subst (λ xs. At g k m xs) (leave_is f h.block once) a.at))

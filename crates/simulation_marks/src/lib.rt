@@ -14,4 +14,7 @@
 
 mod laws;
 
-pub use laws::{all_places_are_few, ends_are_exits, loops_are_kept, marks_are_counted, placed_keep_marks, placed_stand, places_are_few, starts_are_counted};
+pub use laws::{
+    all_places_are_few, ends_are_exits, loops_are_kept, marks_are_counted, placed_keep_marks,
+    placed_stand, places_are_few, starts_are_counted,
+};

@@ -112,7 +112,7 @@ module _ (g : Given) where
   operand-small f file (Constant c) v room e = subst (λ z. code g z < 2 ^ 32) (operands.some_word (c % 2 ^ 32) v e) (omega arith)
 
   -- where the environment was called
-  pub going_on : (b : Bool) (r : PlacedRunning) (n : ℕ) → Going_at r n → Going_at (forgotten g b r) n
+  abbrev pub going_on : (b : Bool) (r : PlacedRunning) (n : ℕ) → Going_at r n → Going_at (forgotten g b r) n
   going_on b r n h = record { block = h.block; inside = h.inside; returns = h.returns; holds = forgets g b r n h.returns h.holds; exchanges = h.exchanges; at = h.at }
 
   -- the code of the first instruction that is left

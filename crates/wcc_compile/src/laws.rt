@@ -2,7 +2,9 @@
 ghost use Rattle.wcc_compile.specs.Laws.{ReportedAreCompiled};
 
 use compile_reports::reported_hold;
-use compile_told::{made_take_what_is_placed, reported_are_lined, reported_run_as_sources, reported_tell_facts};
+use compile_told::{
+    made_take_what_is_placed, reported_are_lined, reported_run_as_sources, reported_tell_facts,
+};
 
 /// The image of a source and what is reported of it are what `compile` promises.
 pub fn reported_are_compiled()

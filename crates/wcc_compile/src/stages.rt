@@ -22,11 +22,11 @@ use compile_choices::{
     choices_can_be_placed, choices_fit, items_are_few, items_are_whole, nothing_can_be_placed,
 };
 use compile_image::{laid, lowered, planned, read, unlaid};
-use compile_told::texts_are_short;
 use compile_made::{Made, Stages};
 use compile_passes::{begun, passed};
 use compile_reporting::{find, flows_visit_few, gains_by, joined, tell};
 use compile_reports::reported_are_reports;
+use compile_told::texts_are_short;
 use elf_image::read_of_write;
 use facts_front::Source;
 use high_fold::Fold;

@@ -1,4 +1,4 @@
-use Rattle.std.proofs.Common.{List, ap, map, refl, subst, ℕ, ◌∙◌}
+use Rattle.std.proofs.Common.{List, ap, map, subst, ℕ, ◌∙◌}
 use Rattle.std.specs.Prelude.{Vec}
 use Rattle.std.specs.Global.{Global}
 use Rattle.low_ir.specs.declared.low.Block.{Block}
@@ -14,8 +14,8 @@ returns c =
     let lasting = c.in_ok-lasting.field-0.lasting.items in
     let lists = map list_of c.in_ok-lasting.field-0.lists.items in
     let fn = function_of c.args.function.now in
-    let gn = function_of (record { parameters = c.in_ok-registers_of.field-0; registers = c.grown.result; loops = c.in_ok-loops_of.field-0; blocks = c.in-Some.blocks }) in
-    function_made fn gn lasting lists (unknown lasting gn.size) (c.in_ok-registers_of.ensures ∙ c.deref-3.ensures.value) c.grown.ensures (ap (map loop_of) (c.in_ok-loops_of.ensures ∙ c.deref-4.ensures.value)) (known_unknown lasting gn.size)
+    let gn = function_of (record { parameters = c.in_ok-registers_of.field-0; registers = c.grown-registers.result; loops = c.in_ok-loops_of.field-0; blocks = c.in-Some.blocks }) in
+    function_made fn gn lasting lists (unknown lasting gn.size) (c.in_ok-registers_of.ensures ∙ c.deref-3.ensures.value) c.grown-registers.ensures (ap (map loop_of) (c.in_ok-loops_of.ensures ∙ c.deref-4.ensures.value)) (known_unknown lasting gn.size)
     (subst (λ (xs : List Block). AreBlocks gn.size lists (unknown lasting gn.size) (map block_of xs) gn.blocks) c.deref-2.ensures.value
     (subst (λ (ls : List (Vec ℕ Global)). AreBlocks gn.size (map list_of ls) (unknown lasting gn.size) (map block_of c.deref-2.result.now) gn.blocks) c.deref.ensures.value
     (subst (λ (k : Knowing). AreBlocks gn.size (map list_of c.deref.result.now) k (map block_of c.deref-2.result.now) gn.blocks) c.in_ok-known.ensures

@@ -1,4 +1,4 @@
-use Rattle.std.proofs.Common.{◌≡◌, ◌+◌, List, ◌∷◌, ◌++◌, ap, drop, map, subst, sym, ◌∙◌}
+use Rattle.std.proofs.Common.{◌≡◌, ◌+◌, ◌<◌, List, ◌∷◌, ◌++◌, length, get_or, ap, drop, map, subst, sym, ◌∙◌}
 use Rattle.std.proofs.lemmas.List.{drop_more}
 use Rattle.low_ir.specs.declared.instruction.Instr.{Instr}
 use Rattle.low_ir.specs.declared.low.Block.{Block}
@@ -14,7 +14,9 @@ loop-block-preserved c =
     let b = c.block-item.result in
     let old = c.loop-block.turns.items in
     let new = c.put_code.new.turns.items in
-    let cut = drop_more blocks i b c.loop-block-test.true ∙ ap (λ (x : Block). x ∷ drop (i + 1) blocks) (sym c.block-item.is) in
+    let within = subst (λ (bs : List Block). i < length bs) c.deref-block-items.ensures.value c.loop-block-test.true in
+    let is = subst (λ (bs : List Block). b ≡ get_or bs i b) c.deref-block-items.ensures.value c.block-item.is in
+    let cut = drop_more blocks i b within ∙ ap (λ (x : Block). x ∷ drop (i + 1) blocks) (sym is) in
     let put = subst (λ (is : List Instr). new ≡ old ++ code_turns (map instr_of is)) c.deref.ensures.value c.in_ok-put_code.ensures in
     turns_put old new (block_of b) (map block_of (drop (i + 1) blocks)) (map block_of blocks) put
     (ap (λ (bs : List Block). old ++ blocks_turns (map block_of bs)) (sym cut) ∙ c.loop-block.invariant)

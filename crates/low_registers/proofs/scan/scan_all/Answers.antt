@@ -26,8 +26,8 @@ loop-each-preserved c =
           omega (arith, e, more, few);
     }
 
-pub is_liked-requires : goal.is_liked-requires
-is_liked-requires c = c.as_slice.ensures.value ∙ c.in_ok-turns.ensures
+pub is_liked-brief-requires : goal.is_liked-brief-requires
+is_liked-brief-requires c = c.as_slice.ensures.value ∙ c.in_ok-turns.ensures
 
 pub follow-requires : goal.follow-requires
 follow-requires c =

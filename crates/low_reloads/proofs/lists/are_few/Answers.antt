@@ -1,4 +1,4 @@
-use Rattle.std.proofs.Common.{arith, subst, ◌<◌}
+use Rattle.std.proofs.Common.{subst, ◌<◌}
 use Rattle.std.proofs.lemmas.List.{take_all}
 use Rattle.std.proofs.lemmas.List.Elements.{All-more}
 use Rattle.low_reloads.specs.declared.facts.Fact.{Fact}
@@ -8,9 +8,7 @@ use Rattle.low_reloads.proofs.lists.are_few.Goals as goal
 pub loop-fact-preserved : goal.loop-fact-preserved
 loop-fact-preserved c =
     let few : Fact → Type 0 = λ f. f.register < c.args.registers in
-    let less = c.if-register-registers.false in
-    let below : c.fact-item.result.register < c.args.registers = omega (arith, less) in
-    All-more few c.args.list.now c.loop-fact.fact-index c.fact-item.result c.loop-fact-test.true c.loop-fact.invariant (subst few c.fact-item.is below)
+    All-more few c.args.list.now c.loop-fact.fact-index _ c.loop-fact-test.true c.loop-fact.invariant c.if-fact-registers.false
 
 pub returns : goal.returns
 returns c = λ done. subst (AreFew c.args.registers) (take_all c.loop-fact.fact-index c.args.list.now c.loop-fact-test.false) c.loop-fact.invariant

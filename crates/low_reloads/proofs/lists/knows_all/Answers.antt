@@ -9,7 +9,7 @@ use Rattle.low_reloads.proofs.lists.knows_all.Goals as goal
 pub loop-fact-preserved : goal.loop-fact-preserved
 loop-fact-preserved c =
     let known : Fact → Type 0 = λ f. Knows c.args.known.now (fact_of f) in
-    All-more known c.args.list.now c.loop-fact.fact-index c.fact-item.result c.loop-fact-test.true c.loop-fact.invariant (subst known c.fact-item.is c.in-Some.ensures)
+    All-more known c.args.list.now c.loop-fact.fact-index _ c.loop-fact-test.true c.loop-fact.invariant c.in-Some.ensures
 
 pub returns : goal.returns
 returns c = λ done. subst (All (λ f. Knows c.args.known.now (fact_of f))) (take_all c.loop-fact.fact-index c.args.list.now c.loop-fact-test.false) c.loop-fact.invariant

@@ -2,7 +2,7 @@ use Rattle.std.proofs.Common.{List, map, refl, subst}
 use Rattle.low_ir.specs.declared.instruction.Instr.{Instr}
 use Rattle.low_ir.specs.View.{block_of, claim_of, instr_of}
 use Rattle.low_reloads.specs.Making.{AreOf, IsCode, facts_of}
-use Rattle.low_reloads.proofs.Lists.{block_made}
+use Rattle.low_reloads.proofs.Listing.{block_made}
 use Rattle.low_reloads.proofs.making.block_of.Goals as goal
 
 pub returns : goal.returns

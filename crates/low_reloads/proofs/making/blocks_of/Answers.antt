@@ -4,7 +4,7 @@ use Rattle.low_ir.specs.declared.low.Block.{Block}
 use Rattle.low_ir.specs.View.{block_of, claim_of}
 use Rattle.low_reloaded.specs.Reloads.{BlockReloaded}
 use Rattle.low_reloads.specs.Making.{facts_of, out_of}
-use Rattle.low_reloads.proofs.Lists.{blocks_more}
+use Rattle.low_reloads.proofs.Listing.{blocks_more}
 use Rattle.low_reloads.proofs.making.blocks_of.Goals as goal
 
 pub loop-number-preserved : goal.loop-number-preserved

@@ -5,7 +5,7 @@ use Rattle.low_ir.specs.declared.low.Block.{Block}
 use Rattle.low_ir.specs.View.{block_of, claim_of, function_of, loop_of}
 use Rattle.low_reloaded.specs.Reloads.{BlocksReloaded}
 use Rattle.low_reloads.specs.Making.{facts_of, out_of}
-use Rattle.low_reloads.proofs.Lists.{function_made}
+use Rattle.low_reloads.proofs.Listing.{function_made}
 use Rattle.low_reloads.proofs.making.function_over.Goals as goal
 
 pub returns : goal.returns

@@ -2,12 +2,12 @@ use Rattle.std.proofs.Common.{inr, refl}
 use Rattle.low_reloads.specs.Making.{source_of}
 use Rattle.low_reloads.proofs.making.reload_of.Goals as goal
 
-pub returns-in-Some-register : goal.returns-in-Some-register
-returns-in-Some-register c =
+pub returns-in-Some-find : goal.returns-in-Some-find
+returns-in-Some-find c =
     inr (record {
-      fact = record { source = source_of c.in-Some.given.source; register = c.in-Some-register.register };
+      fact = record { source = source_of c.in-Some.given.source; register = c.in-Some-find.register };
       into = c.in-Some.given.into;
-      knows = c.in-Some-register.ensures;
+      knows = c.in-Some-find.ensures;
       is = c.in-Some.ensures;
       becomes = refl;
     })

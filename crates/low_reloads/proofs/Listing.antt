@@ -1,24 +1,24 @@
 -- What lists of facts say, and blocks over them.
-use Rattle.std.proofs.Common.{◌≡◌, ◌<◌, ⊎_elim, inl, inr, ℕ, zero, suc, ◌+◌, Bool, true, false, List, [], ◌∷◌, ◌++◌, length, map, take, Option, Some, None, refl, sym, ap, ◌∙◌, subst, arith}
+use Rattle.std.proofs.Common.{◌≡◌, ◌<◌, ⊎_elim, inl, inr, ℕ, zero, suc, ◌+◌, Bool, true, false, List, [], ◌∷◌, ◌++◌, length, map, take, Some, refl, sym, ap, ◌∙◌, subst, arith}
 use Rattle.std.specs.Prelude.{All, ◌==◌, if◌then◌else◌, Vec, option_map, slice_get, slice_index_or}
 use Rattle.std.specs.Global.{Global}
 use Rattle.std.proofs.lemmas.List.{length-map, map_more, map_push}
 use Rattle.std.proofs.lemmas.List.Elements.{All-head, All-tail}
 use Rattle.std.proofs.lemmas.Option.{slice_get-get_or, slice_get-map}
 use Rattle.low_ir.specs.declared.low.Block.{Block as Block'}
-use Rattle.low_ir.specs.Code.{Block, End, Function, Instr, Note}
-use Rattle.low_ir.specs.Formed.{LeadsOn}
+use Rattle.rv_core.specs.declared.row.Condition.{Condition}
+use Rattle.low_ir.specs.Code.{Operand, End, Jump, Branch, Block, Function, Instr, Note}
 use Rattle.low_ir.specs.View.{block_of}
-use Rattle.low_reloaded.specs.Facts.{Fact, Keeps, Known, Knows, Learns, Teaches}
-use Rattle.low_reloaded.specs.Reloads.{Becomes, Beginnings, BlockReloaded, BlocksReloaded, Code, Follows, FunctionReloaded, Hands, InRange, IsReload, Steps}
+use Rattle.low_reloaded.specs.Facts.{Fact, Keeps, Known, Knows, Teaches}
+use Rattle.low_reloaded.specs.Reloads.{Becomes, Beginnings, BlockReloaded, BlocksReloaded, Code, Follows, FunctionReloaded, Hands, InRange, IsReload}
 use Rattle.low_reloaded.proofs.Effects.{some_same}
 use Rattle.low_reloads.specs.declared.facts.Fact.{Fact as Fact'}
 use Rattle.low_reloads.specs.Making.{AreFew, AreHanded, AreKnown, AreOf, IsAdded, IsCode, fact_of, facts_of, list_for, listed, out_of}
 
 -- a fact of a list
-pub knows_listed : (list : List Fact') (i : ℕ) (fact : Fact') → i < length list → fact ≡ slice_index_or list i fact → Knows (listed list) (fact_of fact)
-knows_listed list i fact lt is =
-    (i, slice_get-map (λ (f : Fact'). Some (fact_of f)) list i ∙ ap (option_map (λ (f : Fact'). Some (fact_of f))) (slice_get-get_or list i fact lt ∙ ap Some (sym is)))
+pub knows_listed : (list : List Fact') (i : ℕ) (d : Fact') → i < length list → Knows (listed list) (fact_of (slice_index_or list i d))
+knows_listed list i d lt =
+    (i, slice_get-map (λ (f : Fact'). Some (fact_of f)) list i ∙ ap (option_map (λ (f : Fact'). Some (fact_of f))) (slice_get-get_or list i d lt))
 
 -- what each fact of a list has, one has that it lists
 each_listed : (P : Fact → Type 0) (list : List Fact') (f : Fact) (n : ℕ) → All (λ g. P (fact_of g)) list → slice_get (listed list) n ≡ Some (Some f) → P f
@@ -27,12 +27,26 @@ each_listed P (g ∷ list) f zero all e = subst P (some_same (fact_of g) f (some
 each_listed P (g ∷ list) f (suc n) all e = each_listed P list f n (All-tail (λ g. P (fact_of g)) g list all) e
 
 -- one fact more of a list is known
-pub learns_listed : (list : List Fact') (i : ℕ) (fact : Fact') (known now : Known) → i < length list → fact ≡ slice_index_or list i fact → AreOf list known → IsAdded (fact_of fact) known now → AreOf list now
-learns_listed list i fact known now lt is old added f knows =
-    ⊎_elim (λ (h : Knows known f). old f h) (λ (new : f ≡ fact_of fact). subst (Knows (listed list)) (sym new) (knows_listed list i fact lt is)) (added f knows)
+pub learns_listed : (list : List Fact') (i : ℕ) (d : Fact') (known now : Known) → i < length list → AreOf list known → IsAdded (fact_of (slice_index_or list i d)) known now → AreOf list now
+learns_listed list i d known now lt old added f knows =
+    ⊎_elim
+    (λ (h : Knows known f). old f h)
+    (λ (new : f ≡ fact_of (slice_index_or list i d)). subst (Knows (listed list)) (sym new) (knows_listed list i d lt))
+    (added f knows)
 
 pub handed : (lists : List (List Fact')) (end : End ℕ) (known : Known) → AreHanded lists end known → Hands (out_of lists) end known
 handed lists end known h n leads f knows = each_listed (Knows known) (list_for lists n) f knows.0 (h.by n leads) knows.1
+
+-- to the blocks to which an end leads
+pub handed_jump : (lists : List (List Fact')) (known : Known) (b : ℕ) → AreKnown known (list_for lists b) → AreHanded lists (Jump b) known
+handed_jump lists known b h = record { by = λ n e. subst (λ m. AreKnown known (list_for lists m)) e h }
+
+pub handed_branch : (lists : List (List Fact')) (known : Known) (c : Condition) (x y : Operand ℕ) (taken other : ℕ) → AreKnown known (list_for lists taken) → AreKnown known (list_for lists other) → AreHanded lists (Branch c x y taken other) known
+handed_branch lists known c x y taken other h k =
+    record {
+      by = λ n e.
+          ⊎_elim (λ (here : taken ≡ n). subst (λ m. AreKnown known (list_for lists m)) here h) (λ (there : other ≡ n). subst (λ m. AreKnown known (list_for lists m)) there k) e;
+    }
 
 -- with more known the rest of a block follows too
 becomes_more : (known more : Known) (i new : Instr ℕ Note) → ((f : Fact) → Knows known f → Knows more f) → Becomes known i new → Becomes more i new
