@@ -2,6 +2,7 @@
 use low_ir::Operand;
 use low_sketches::acts::{Act, written};
 use low_sketches::forms::{behind, negative, operated, word_in};
+use low_sketches::words::Words;
 use low_step_facts::Form;
 use rv_core::Alu;
 use std::alloc::Global;
@@ -254,7 +255,7 @@ impl Knowing {
         None
     }
 
-    fn operate(&mut self, act: Act) {
+    fn operate(&mut self, words: &Words, act: Act) {
         if let Act::Operate {
             operator,
             into,
@@ -265,7 +266,9 @@ impl Knowing {
             match self.step_of(act) {
                 Some(by) => self.grow(into, by),
                 None => {
-                    let form = operated(operator, self.form_of(left), self.form_of(right), right);
+                    let a = self.form_of(left);
+                    let b = self.form_of(right);
+                    let form = operated(operator, a, b, right, words.is_small(right));
                     self.write(into, form, true);
                 }
             }
@@ -273,12 +276,12 @@ impl Knowing {
     }
 
     /// The block goes on by an instruction.
-    pub fn pass(&mut self, act: Act) {
+    pub fn pass(&mut self, words: &Words, act: Act) {
         let Some(into) = written(act) else {
             return;
         };
         match act {
-            Act::Operate { .. } => self.operate(act),
+            Act::Operate { .. } => self.operate(words, act),
             Act::Set { value, .. } => {
                 let form = self.form_of(value);
                 self.write(into, Some(form), self.is_word(value));

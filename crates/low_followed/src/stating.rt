@@ -1,11 +1,12 @@
 // What is known as blocks begin, wherever that is wanted.
 use super::knowing::Knowing;
 use super::needs::Needs;
-use low_ir::{End, Function, Loop};
+use low_ir::{End, Function, Loop, Operand};
 use low_sketches::acts::{nexts, written};
 use low_sketches::forms::{behind, is_same};
 use low_sketches::sketch::{Draft, Pointer, Sketch, end_of, lines_of};
 use low_sketches::tables::{flag_at, list_at, set_flag};
+use low_sketches::words::Words;
 use low_step_facts::{Fact, Form, Origin};
 use std::alloc::Global;
 use wcc_base::Memory;
@@ -179,13 +180,13 @@ impl<'a> Stating<'a> {
         changed
     }
 
-    fn sweep(&mut self, knowing: &mut Knowing, drafts: &[Draft]) -> bool {
+    fn sweep(&mut self, knowing: &mut Knowing, words: &Words, drafts: &[Draft]) -> bool {
         let mut changed = false;
         for (block, draft) in drafts.iter().enumerate() {
             if flag_at(&self.seen, block) {
                 knowing.begin(list_at(self.lists, block), forms_at(&self.forms, block));
                 for line in &draft.lines {
-                    knowing.pass(line.act);
+                    knowing.pass(words, line.act);
                 }
                 if self.lead_on(knowing, draft.end) {
                     changed = true;
@@ -201,13 +202,33 @@ fn says_more(register: u32, form: Form) -> bool {
     !form.has(register)
 }
 
-/// Where a register must be a word, that is said; else it follows from what is done with it.
-fn fact_of(register: u32, form: Form, must: bool) -> Fact {
-    let origin = if must { Origin::Word } else { Origin::Any };
-    Fact {
+/// What is said of what a register holds. Where it must be a word, that is said; else it follows from what is done with it.
+fn origin_of(words: &Words, register: u32, must: bool) -> Origin {
+    if words.is_small(Operand::Register(register)) {
+        Origin::Small
+    } else if must {
+        Origin::Word
+    } else {
+        Origin::Any
+    }
+}
+
+/// What is said of a register, if there is anything to say.
+fn fact_of(register: u32, origin: Origin, form: Form) -> Option<Fact> {
+    let fact = Fact {
         register,
         origin,
         form,
+    };
+    match origin {
+        Origin::Any => {
+            if says_more(register, form) {
+                Some(fact)
+            } else {
+                None
+            }
+        }
+        _ => Some(fact),
     }
 }
 
@@ -225,6 +246,7 @@ impl Stated {
     fn add(
         &mut self,
         alloc: Global,
+        words: &Words,
         registers: &[u32],
         forms: &[Option<Form>],
         flags: &[bool],
@@ -243,8 +265,9 @@ impl Stated {
                     }
                 }
                 Some(form) => {
-                    if must || says_more(*register, form) {
-                        facts.push(fact_of(*register, form, must))?;
+                    let origin = origin_of(words, *register, must);
+                    if let Some(fact) = fact_of(*register, origin, form) {
+                        facts.push(fact)?;
                     }
                 }
             }
@@ -261,6 +284,7 @@ fn set_flags(flags: &mut [bool], registers: &[u32], new: bool) {
 
 fn all_facts(
     alloc: Global,
+    words: &Words,
     needs: &Needs,
     forms: &[Vec<Option<Form>>],
     reached: &[bool],
@@ -274,7 +298,7 @@ fn all_facts(
     for (block, list) in needs.forms.iter().enumerate() {
         if flag_at(reached, block) {
             set_flags(&mut flags, list_at(&needs.words, block), true);
-            stated.add(alloc, list, forms_at(forms, block), &flags)?;
+            stated.add(alloc, words, list, forms_at(forms, block), &flags)?;
             set_flags(&mut flags, list_at(&needs.words, block), false);
         } else {
             stated.facts.push(Vec::new(alloc))?;
@@ -286,6 +310,7 @@ fn all_facts(
 /// What is known of words; nothing, where it isn't found in time.
 pub fn words_known(
     alloc: Global,
+    words: &Words,
     sketch: &Sketch,
     needs: &Needs,
     function: &Function,
@@ -298,8 +323,15 @@ pub fn words_known(
         stating.note(alloc, &sketch.drafts, &mut flags, *each)?;
     }
     for _ in 0..SWEEPS {
-        if !stating.sweep(&mut knowing, &sketch.drafts) {
-            let stated = all_facts(alloc, needs, &stating.forms, &stating.seen, registers)?;
+        if !stating.sweep(&mut knowing, words, &sketch.drafts) {
+            let stated = all_facts(
+                alloc,
+                words,
+                needs,
+                &stating.forms,
+                &stating.seen,
+                registers,
+            )?;
             return Ok(Some(stated));
         }
     }

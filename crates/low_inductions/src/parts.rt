@@ -281,7 +281,7 @@ impl Parts {
             } => {
                 let a = self.form_of(words, begun, left)?;
                 let b = self.form_of(words, begun, right)?;
-                operated(operator, a, b, right)
+                operated(operator, a, b, right, words.is_small(right))
             }
             _ => None,
         }

@@ -123,7 +123,7 @@ fn followed(
     let Some(needs) = needs_of(alloc, sketch, known.function.registers)? else {
         return Ok(Answer::Nothing);
     };
-    let Some(stated) = words_known(alloc, sketch, &needs, known.function)? else {
+    let Some(stated) = words_known(alloc, known.words, sketch, &needs, known.function)? else {
         return Ok(Answer::Nothing);
     };
     let Stated { facts, lacking } = stated;

@@ -74,8 +74,8 @@ fn product(a: Form, b: Form) -> Option<Form> {
     }
 }
 
-fn difference(a: Form, right: Operand) -> Option<Form> {
-    Some(a.moved(negative(right)?))
+fn difference(a: Form, b: Form, is_small: bool) -> Option<Form> {
+    if is_small { a.plus(u32::MAX, b) } else { None }
 }
 
 fn shifted(a: Form, right: Operand) -> Option<Form> {
@@ -85,11 +85,11 @@ fn shifted(a: Form, right: Operand) -> Option<Form> {
     }
 }
 
-/// What an operation gives that has this right operand, of these forms of both.
-pub fn operated(operator: Alu, a: Form, b: Form, right: Operand) -> Option<Form> {
+/// What an operation gives that has this right operand, of these forms of both; whether that is surely a word below 2^32.
+pub fn operated(operator: Alu, a: Form, b: Form, right: Operand, is_small: bool) -> Option<Form> {
     match operator {
         Alu::Sum => a.plus(1, b),
-        Alu::Difference => difference(a, right),
+        Alu::Difference => difference(a, b, is_small),
         Alu::Product => product(a, b),
         Alu::ShiftLeft => shifted(a, right),
         _ => None,

@@ -1,8 +1,8 @@
 //! Functions as a search for pointers that step has them: what they are to become, and what is found of them once.
 //!
 //! A sketch has each instruction with what becomes of it, and those that are to come (`sketch`, over `acts`). Of a function its blocks
-//! and loops are found (`map`), and which registers hold words alone, or one word (`words`); linear forms over registers have their
-//! operations (`forms`), and sets of registers along code their tables (`living`, `tables`).
+//! and loops are found (`map`), and which registers hold words alone, small ones among them, or one word (`words`, `smalls`); linear
+//! forms over registers have their operations (`forms`), and sets of registers along code their tables (`living`, `tables`).
 //!
 //! Nothing is proved of it but that it is safe and ends: any proposal is right that is checked.
 //!
@@ -14,5 +14,6 @@ pub mod forms;
 pub mod living;
 pub mod map;
 pub mod sketch;
+mod smalls;
 pub mod tables;
 pub mod words;

@@ -1,5 +1,6 @@
-// Which registers of a function hold words alone, and which one word.
+// Which registers of a function hold words alone, which words below 2^32, and which one word.
 use super::acts::{Act, act_of, written};
+use super::smalls::{is_small, smalls_of};
 use super::tables::{add_one, flag_at, number_at, set_flag};
 use low_ir::{Block, Function, Operand};
 use std::alloc::Global;
@@ -14,6 +15,8 @@ pub struct Words {
     constants: Vec<Option<u32>>,
     /// By register, whether each write of it is one of a word; parameters may be pointers.
     are_words: Vec<bool>,
+    /// By register, whether it is taken off others and each write of it is one of a word below 2^32.
+    are_small: Vec<bool>,
 }
 
 /// How often each register is written, parameters twice more.
@@ -115,6 +118,7 @@ pub fn words_of(alloc: Global, function: &Function) -> Result<Words, Memory> {
     Ok(Words {
         constants: constants_of(alloc, function, &writes)?,
         are_words: words_in(alloc, function, &writes)?,
+        are_small: smalls_of(alloc, function)?,
     })
 }
 
@@ -137,6 +141,11 @@ impl Words {
 
     pub fn is_word(&self, register: u32) -> bool {
         flag_at(&self.are_words, register as usize)
+    }
+
+    /// Whether what is taken off others is surely a word below 2^32.
+    pub fn is_small(&self, operand: Operand) -> bool {
+        is_small(&self.are_small, operand)
     }
 
     /// The word that is read.

@@ -1,10 +1,10 @@
 -- What facts say of the registers of a function.
-use Rattle.std.specs.Prelude.{ℕ, ◌%◌, ◌^◌, ◌==◌, ◌&&◌, Bool, true, false, List, [], ◌∷◌, Option, Some, None, slice_index_or}
+use Rattle.std.specs.Prelude.{ℕ, ◌%◌, ◌^◌, ◌==◌, ◌&&◌, nat_lt, Bool, true, false, List, [], ◌∷◌, Option, Some, None, slice_index_or}
 use Rattle.low_ir.specs.declared.run.Value.{Value}
 use Rattle.low_ir.specs.declared.run.Value.TheVariants.{Word, Pointer}
 use Rattle.low_ir.specs.Runs.{Bank}
 use Rattle.low_step_facts.specs.declared.facts.Origin.{Origin}
-use Rattle.low_step_facts.specs.declared.facts.Origin.TheVariants.{Any, Word as AnyWord, Object}
+use Rattle.low_step_facts.specs.declared.facts.Origin.TheVariants.{Any, Word as AnyWord, Small, Object}
 use Rattle.low_step_facts.specs.declared.facts.Fact.{Fact}
 use Rattle.low_step_facts.specs.Forms.{form_value}
 
@@ -23,6 +23,9 @@ is_from Any v = true
 is_from AnyWord None = false
 is_from AnyWord (Some (Word w)) = true
 is_from AnyWord (Some (Pointer o n)) = false
+is_from Small None = false
+is_from Small (Some (Word w)) = nat_lt w (2 ^ 32)
+is_from Small (Some (Pointer o n)) = false
 is_from (Object object) None = false
 is_from (Object object) (Some (Word w)) = false
 is_from (Object object) (Some (Pointer o n)) = o == object

@@ -8,6 +8,8 @@ pub enum Origin {
     Any,
     /// A word.
     Word,
+    /// A word below 2^32, as sums give.
+    Small,
     /// A pointer into this array.
     Object(u32),
 }

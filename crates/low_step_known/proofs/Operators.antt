@@ -1,7 +1,8 @@
 -- Operators, modulo 2^32.
 use Rattle.std.proofs.Common.{◌≡◌, ◌<◌, ℕ, ◌+◌, ◌*◌, Some, refl, sym, ap, ◌∙◌, arith}
 use Rattle.std.specs.Prelude.{◌-◌, ◌%◌, ◌^◌}
-use Rattle.std.proofs.Math.Nat.{mod-mod}
+use Rattle.std.proofs.Math.Nat.{add-mul-mod_self_right, mod-lt, mod-mod}
+use Rattle.rv_core.specs.declared.row.Alu.{Alu}
 use Rattle.rv_core.specs.declared.row.Alu.TheVariants.{Sum, Difference, Product, ShiftLeft}
 use Rattle.rv_core.specs.Arithmetic.{alu_value}
 use Rattle.wcc_base.specs.Words.{left_shift_word}
@@ -12,7 +13,7 @@ use Rattle.low_step_facts.specs.declared.forms.Form.{Form}
 use Rattle.low_step_facts.specs.Facts.{number_in}
 use Rattle.low_step_facts.specs.Forms.{Numbers, Same, form_value}
 use Rattle.low_step_facts.proofs.Modulo.{same_multiple, same_numbers, same_sum}
-use Rattle.low_step_known.specs.Learning.{Gives, IsAlways, StepsBy}
+use Rattle.low_step_known.specs.Learning.{Counts, Gives, GivesHere, HoldsSmall, IsAlways, StepsBy}
 
 abbrev word : ℕ
 word = 2 ^ 32
@@ -100,21 +101,50 @@ less n w back low e none =
     ∙ same_sum back back (2 ^ 32) 0 refl refl
     ∙ same_numbers _ _ last
 
-pub difference_gives : (a b f : Form) (w back : ℕ) → Same (back + w) 0 → ((v : Numbers) → Same (form_value v f) (form_value v a + back)) → Gives Difference a b (Constant w) f
-difference_gives a b f w back none is s m n l r e =
+-- what operators give is below 2^32
+some : 0 < 2 ^ 32
+some = omega arith
+
+pub sums_small : (m n : ℕ) → alu_value Sum m n < 2 ^ 32
+unfolding alu_value
+sums_small m n = mod-lt (m + n) some
+
+pub products_small : (m n : ℕ) → alu_value Product m n < 2 ^ 32
+unfolding alu_value
+products_small m n = mod-lt (m * n) some
+
+pub differences_small : (m n : ℕ) → alu_value Difference m n < 2 ^ 32
+unfolding alu_value
+differences_small m n = mod-lt (m + (2 ^ 32 - n)) some
+
+pub shifts_small : (m n : ℕ) → alu_value ShiftLeft m n < 2 ^ 32
+unfolding alu_value
+shifts_small m n = mod-lt (m * 2 ^ (n % 32)) some
+
+-- a word below 2^32 taken off
+pub small_difference : (a b f : Form) (x y : Operand ℕ) (s : Bank) → Counts x a s → Counts y b s → HoldsSmall y s → ((v : Numbers) → Same (form_value v f) (form_value v a + 4294967295 * form_value v b)) → GivesHere Difference x y f s
+small_difference a b f x y s left right small is m n l r =
     let v = number_in s in
+    let low : n < 2 ^ 32 = small n r in
+    let k = 2 ^ 32 - n in
+    let whole : k + n * 2 ^ 32 ≡ 4294967295 * n + 1 * 2 ^ 32 = omega (arith, low) in
     differences m n
-    ∙ same_sum m (form_value v a) (2 ^ 32 - n) back l (less n w back (word_less s w n e) (same_word s w n e) none)
+    ∙ same_sum m (form_value v a) k (4294967295 * form_value v b) (left (Word m) l)
+    (sym (add-mul-mod_self_right k n (2 ^ 32)) ∙ same_numbers _ _ whole ∙ add-mul-mod_self_right (4294967295 * n) 1 (2 ^ 32) ∙ same_multiple 4294967295 n (form_value v b) (right (Word n) r))
     ∙ sym (is v)
+
+-- what is given of two forms, is where these are the operands'
+pub gives_here : (op : Alu) (a b f : Form) (x y : Operand ℕ) (s : Bank) → Counts x a s → Counts y b s → Gives op a b y f → GivesHere op x y f s
+gives_here op a b f x y s left right says m n l r = says s m n (left (Word m) l) (right (Word n) r) r
 
 -- steps
 pub sum_steps : (d c : ℕ) (y : Operand ℕ) (s : Bank) → IsAlways y c s → StepsBy Sum d (Register d) y c s
-sum_steps d c y s is m n l r = record { was = m; is = l; more = sums m n ∙ same_sum m m n c refl (is (Word n) r) }
+sum_steps d c y s is m n l r = record { was = m; is = l; more = sums m n ∙ same_sum m m n c refl (is (Word n) r); small = sums_small m n }
 
 pub sum_steps_turned : (d c : ℕ) (x : Operand ℕ) (s : Bank) → IsAlways x c s → StepsBy Sum d x (Register d) c s
 sum_steps_turned d c x s is m n l r =
     let turned : m + n ≡ n + m = omega arith in
-    record { was = n; is = r; more = sums m n ∙ same_numbers _ _ turned ∙ same_sum n n m c refl (is (Word m) l) }
+    record { was = n; is = r; more = sums m n ∙ same_numbers _ _ turned ∙ same_sum n n m c refl (is (Word m) l); small = sums_small m n }
 
 pub difference_steps : (d w back : ℕ) (s : Bank) → Same (back + w) 0 → StepsBy Difference d (Register d) (Constant w) back s
-difference_steps d w back s none m n l r = record { was = m; is = l; more = differences m n ∙ same_sum m m (2 ^ 32 - n) back refl (less n w back (word_less s w n r) (same_word s w n r) none) }
+difference_steps d w back s none m n l r = record { was = m; is = l; more = differences m n ∙ same_sum m m (2 ^ 32 - n) back refl (less n w back (word_less s w n r) (same_word s w n r) none); small = differences_small m n }

@@ -3,7 +3,8 @@ use Rattle.std.proofs.Common.{◌≡◌, ◌<◌, ℕ, zero, suc, ◌+◌, true,
 use Rattle.std.specs.Prelude.{◌%◌, ◌^◌, slice_index_or, slice_set}
 use Rattle.std.proofs.Math.Nat.{mod-mod}
 use Rattle.std.proofs.lemmas.Option.{same_Some}
-use Rattle.std.proofs.lemmas.Bool.{false≢true}
+use Rattle.std.proofs.lemmas.Bool.{false≢true, ltb-true}
+use Rattle.std.proofs.lemmas.Bool.Decides.{nat_tests}
 use Rattle.rv_core.specs.declared.row.Alu.{Alu}
 use Rattle.rv_core.specs.Arithmetic.{alu_value}
 use Rattle.low_ir.specs.declared.object.Kind.{Kind}
@@ -14,11 +15,11 @@ use Rattle.low_ir.specs.Effects.{Did, gives, got, next_byte}
 use Rattle.low_ir.specs.Runs.{Bank, operand_value, virtual}
 use Rattle.low_step_facts.specs.declared.facts.Fact.{Fact}
 use Rattle.low_step_facts.specs.declared.facts.Origin.{Origin}
-use Rattle.low_step_facts.specs.declared.facts.Origin.TheVariants.{Any, Word as AnyWord, Object}
+use Rattle.low_step_facts.specs.declared.facts.Origin.TheVariants.{Any, Word as AnyWord, Small, Object}
 use Rattle.low_step_facts.specs.declared.forms.Form.{Form}
 use Rattle.low_step_facts.specs.Facts.{all_true, is_from, number}
 use Rattle.low_step_facts.proofs.Modulo.{same_numbers}
-use Rattle.low_step_known.specs.Learning.{Adds, BaseIsFrom, Begins, BeginsAt, CallPasses, Comes, Counts, Gives, HoldsWord, IsBehind, Leads, LearnsStep, LearnsValue, LearnsWord, MayMeasure, Measures, Passes, StepsBy, Sure}
+use Rattle.low_step_known.specs.Learning.{Adds, BaseIsFrom, Begins, BeginsAt, CallPasses, Comes, Counts, GivesFrom, GivesHere, HoldsSmall, HoldsWord, IsBehind, Leads, LearnsStep, LearnsValue, LearnsWord, MayMeasure, Passes, StepsBy, Sure}
 use Rattle.low_step_known.proofs.Effects.{loaded_word, operated, resolve, was_set}
 
 -- a register that holds something is there
@@ -36,6 +37,23 @@ word_held x s o origin is e from = by_value o is (ap (λ q. is_from q o) (sym e)
     by_value (Some (Word w)) k h = record { word = w; is = k }
     by_value (Some (Pointer p n)) k h = absurd (false≢true h)
 
+pub small_held : (x : Operand ℕ) (s : Bank) (o : Option Value) (origin : Origin) → operand_value virtual s x ≡ o → origin ≡ Small → is_from origin o ≡ true → HoldsWord x s
+small_held x s o origin is e from = by_value o is (ap (λ q. is_from q o) (sym e) ∙ from)
+  where
+    by_value : (o : Option Value) → operand_value virtual s x ≡ o → is_from Small o ≡ true → HoldsWord x s
+    by_value None k h = absurd (false≢true h)
+    by_value (Some (Word w)) k h = record { word = w; is = k }
+    by_value (Some (Pointer p n)) k h = absurd (false≢true h)
+
+-- and below 2^32
+pub held_below : (x : Operand ℕ) (s : Bank) (o : Option Value) (origin : Origin) → operand_value virtual s x ≡ o → origin ≡ Small → is_from origin o ≡ true → HoldsSmall x s
+held_below x s o origin is e from n k =
+    let one : o ≡ Some (Word n) = sym is ∙ k in
+    ltb-true n (2 ^ 32) (ap (is_from Small) (sym one) ∙ ap (λ q. is_from q o) (sym e) ∙ from)
+
+pub below_from : (n : ℕ) → n < 2 ^ 32 → is_from Small (Some (Word n)) ≡ true
+below_from n low = grind (arith, nat_tests)
+
 module _ (size : ℕ) (old new : List Fact) where
   pub set_passes : (d : ℕ) (x : Operand ℕ) (origin : Origin) (form : Form) → Sure old (Comes x origin) → Sure old (Counts x form) → LearnsValue size d origin (Some form) old new → Passes size (Set d x) old new
   set_passes d x origin form comes counts learns claims s u did keeps e =
@@ -51,26 +69,27 @@ module _ (size : ℕ) (old new : List Fact) where
       (record {
         there = there_within s d (Word g.was) g.is;
         more = g.more ∙ same_numbers _ _ (ap (λ o. number o + by) (sym g.is));
-        origin = λ o from. word_from (alu_value op h.first h.second) g.was o (ap (is_from o) (sym g.is) ∙ from);
+        origin = λ o from. word_from (alu_value op h.first h.second) g.was g.small o (ap (is_from o) (sym g.is) ∙ from);
       })
       keeps.1)
     where
-      word_from : (n m : ℕ) (o : Origin) → is_from o (Some (Word m)) ≡ true → is_from o (Some (Word n)) ≡ true
-      word_from n m Any h = refl
-      word_from n m AnyWord h = refl
-      word_from n m (Object object) h = absurd (false≢true h)
+      word_from : (n m : ℕ) → n < 2 ^ 32 → (o : Origin) → is_from o (Some (Word m)) ≡ true → is_from o (Some (Word n)) ≡ true
+      word_from n m low Any h = refl
+      word_from n m low AnyWord h = refl
+      word_from n m low Small h = below_from n low
+      word_from n m low (Object object) h = absurd (false≢true h)
 
-  pub operate_writes : (op : Alu) (d : ℕ) (x y : Operand ℕ) (a b : Form) (form : Option Form) → Sure old (Counts x a) → Sure old (Counts y b) → ((f : Form) → form ≡ Some f → Gives op a b y f) → LearnsValue size d AnyWord form old new → Passes size (Operate op d x y) old new
-  operate_writes op d x y a b form left right says learns claims s u did keeps e =
+  pub operate_writes : (op : Alu) (d : ℕ) (x y : Operand ℕ) (origin : Origin) (form : Option Form) → GivesFrom op origin → ((f : Form) → form ≡ Some f → Sure old (GivesHere op x y f)) → LearnsValue size d origin form old new → Passes size (Operate op d x y) old new
+  operate_writes op d x y origin form from says learns claims s u did keeps e =
       let h = operated claims op d x y s u did e in
       subst (λ v. all_true new (slice_set s d (Some v)) ≡ true) (sym h.is)
       (learns s (Word (alu_value op h.first h.second)) keeps.0
-      (record { from = refl; measures = by_form form refl s h.first h.second (left s keeps.1 (Word h.first) h.left) (right s keeps.1 (Word h.second) h.right) h.right })
+      (record { from = from h.first h.second; measures = by_form form refl s keeps.1 h.first h.second h.left h.right })
       keeps.1)
     where
-      by_form : (o : Option Form) → form ≡ o → (s : Bank) (m n : ℕ) → Measures s m a → Measures s n b → operand_value virtual s y ≡ Some (Word n) → MayMeasure s (alu_value op m n) o
-      by_form None k s m n l r v = tt
-      by_form (Some f) k s m n l r v = says f k s m n l r v
+      by_form : (o : Option Form) → form ≡ o → (s : Bank) → all_true old s ≡ true → (m n : ℕ) → operand_value virtual s x ≡ Some (Word m) → operand_value virtual s y ≡ Some (Word n) → MayMeasure s (alu_value op m n) o
+      by_form None k s known m n l r = tt
+      by_form (Some f) k s known m n l r = says f k s known m n l r
 
   pub word_passes : (d : ℕ) → LearnsValue size d AnyWord None old new → LearnsWord size d old new
   word_passes d learns s w wide known = learns s (Word w) wide (record { from = refl; measures = tt }) known
@@ -107,6 +126,7 @@ module _ (size : ℕ) (old new : List Fact) where
       pointer_from : (object n m : ℕ) (o : Origin) → is_from o (Some (Pointer object m)) ≡ true → is_from o (Some (Pointer object n)) ≡ true
       pointer_from object n m Any h = refl
       pointer_from object n m AnyWord h = absurd (false≢true h)
+      pointer_from object n m Small h = absurd (false≢true h)
       pointer_from object n m (Object other) h = h
 
   pub point_writes : (d : ℕ) (a : Address ℕ) (origin : Origin) (form : Option Form) → Sure old (BaseIsFrom a.base origin) → ((f : Form) → form ≡ Some f → Sure old (Leads a f)) → LearnsValue size d origin form old new → Passes size (Point d a) old new

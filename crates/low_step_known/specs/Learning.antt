@@ -1,5 +1,5 @@
 -- How facts change with the registers, and what follows from them.
-use Rattle.std.specs.Prelude.{◌≡◌, ℕ, ◌+◌, ◌<◌, true, List, [], length, Option, Some, None, slice_index_or, slice_set}
+use Rattle.std.specs.Prelude.{◌≡◌, ℕ, ◌+◌, ◌^◌, ◌<◌, true, List, [], length, Option, Some, None, slice_index_or, slice_set}
 use Rattle.rv_core.specs.declared.row.Alu.{Alu}
 use Rattle.rv_core.specs.Arithmetic.{alu_value}
 use Rattle.low_ir.specs.declared.run.Value.{Value}
@@ -48,9 +48,21 @@ pub record HoldsWord (x : Operand ℕ) (s : Bank) : Type 0 where
   pub word : ℕ
   pub is : operand_value virtual s x ≡ Some (Word word)
 
+-- a word below 2^32, if it holds one
+abbrev pub HoldsSmall : Operand ℕ → Bank → Type 0
+HoldsSmall x s = (n : ℕ) → operand_value virtual s x ≡ Some (Word n) → n < 2 ^ 32
+
 -- what an operator gives is what a form says, if what it is given is what other forms say
 abbrev pub Gives : Alu → Form → Form → Operand ℕ → Form → Type 0
 Gives op a b y f = (s : Bank) (m n : ℕ) → Measures s m a → Measures s n b → operand_value virtual s y ≡ Some (Word n) → Measures s (alu_value op m n) f
+
+-- the same where an operation finds such words in a store
+abbrev pub GivesHere : Alu → Operand ℕ → Operand ℕ → Form → Bank → Type 0
+GivesHere op x y f s = (m n : ℕ) → operand_value virtual s x ≡ Some (Word m) → operand_value virtual s y ≡ Some (Word n) → Measures s (alu_value op m n) f
+
+-- what an operator gives is of this origin
+abbrev pub GivesFrom : Alu → Origin → Type 0
+GivesFrom op origin = (m n : ℕ) → is_from origin (Some (Word (alu_value op m n))) ≡ true
 
 -- once a register was written, whatever the value, one fact is true if another one was before
 abbrev pub Survives : ℕ → Fact → Fact → Type 0
@@ -70,6 +82,7 @@ pub record GivesMore (s : Bank) (d by n : ℕ) : Type 0 where
   pub was : ℕ
   pub is : slice_index_or s d None ≡ Some (Word was)
   pub more : Same n (was + by)
+  pub small : n < 2 ^ 32
 
 abbrev pub StepsBy : Alu → ℕ → Operand ℕ → Operand ℕ → ℕ → Bank → Type 0
 StepsBy op d x y by s = (m n : ℕ) → operand_value virtual s x ≡ Some (Word m) → operand_value virtual s y ≡ Some (Word n) → GivesMore s d by (alu_value op m n)

@@ -6,11 +6,11 @@ ghost use Rattle.low_ir.specs.Code.{Operate, Point, Register, Set};
 ghost use Rattle.low_ir.specs.View.{address_of, base_of, instr_of, operand_of};
 ghost use Rattle.low_stepped.specs.Knowing.{InstrTeaches};
 ghost use Rattle.low_step_facts.specs.Facts.{all_true};
-ghost use Rattle.low_step_known.specs.Learning.{BaseIsFrom, CallPasses, Gives, IsAlways, IsBehind, LearnsWord, Leads, Passes, StepsBy, Sure};
+ghost use Rattle.low_step_known.specs.Learning.{BaseIsFrom, CallPasses, Gives, GivesFrom, GivesHere, IsAlways, IsBehind, LearnsWord, Leads, Passes, StepsBy, Sure};
 
 use super::changing::negated;
 use super::known::Known;
-use super::reading::{form_held, form_of, origin_held, origin_of};
+use super::reading::{form_held, form_of, holds_small, origin_held, origin_of};
 use low_ir::{Address, Base, Instr, Operand};
 use low_step_facts::{Fact, Form, Origin};
 use rv_core::Alu;
@@ -26,16 +26,6 @@ fn product(a: Form, b: Form, right: Operand) -> Option<Form>
         return Form::constant(0).plus(a.constant, b);
     }
     None
-}
-
-/// A number less a word.
-fn difference(a: Form, b: Form, right: Operand) -> Option<Form>
-    ensures { IfSome result (Gives Difference a b (operand_of right)) }
-{
-    match right {
-        Operand::Register(_) => None,
-        Operand::Constant(word) => Some(a.moved(negated(word))),
-    }
 }
 
 /// What a shift by a word multiplies by.
@@ -55,13 +45,46 @@ fn shifted(a: Form, b: Form, right: Operand) -> Option<Form>
     }
 }
 
+fn is_difference(operator: Alu) -> bool
+    ensures { result ≡ true → operator ≡ Difference }
+{
+    match operator {
+        Alu::Difference => true,
+        _ => false,
+    }
+}
+
+/// What an operation gives.
+fn found(facts: &[Fact], operator: Alu, left: Operand, right: Operand) -> Option<Form>
+    ensures { IfSome result (λ f. Sure facts.now (GivesHere operator (operand_of left) (operand_of right) f)) }
+{
+    let a = form_held(facts, left);
+    let b = form_held(facts, right);
+    if is_difference(operator) && holds_small(facts, right) {
+        return a.plus(u32::MAX, b);
+    }
+    given(operator, a, b, right)
+}
+
+/// Which words an operator gives.
+fn origin_given(operator: Alu) -> Origin
+    ensures { GivesFrom operator result }
+{
+    match operator {
+        Alu::Sum => Origin::Small,
+        Alu::Difference => Origin::Small,
+        Alu::Product => Origin::Small,
+        Alu::ShiftLeft => Origin::Small,
+        _ => Origin::Word,
+    }
+}
+
 /// What an operator gives.
 fn given(operator: Alu, a: Form, b: Form, right: Operand) -> Option<Form>
     ensures { IfSome result (Gives operator a b (operand_of right)) }
 {
     match operator {
         Alu::Sum => a.plus(1, b),
-        Alu::Difference => difference(a, b, right),
         Alu::Product => product(a, b, right),
         Alu::ShiftLeft => shifted(a, b, right),
         _ => None,
@@ -140,14 +163,8 @@ fn pass_operate(known: &mut Known, size: u32, it: Operation)
     match step_of(&known.facts, it.operator, it.into, it.left, it.right) {
         Some(by) => known.step(it.into, by),
         None => {
-            let a = form_held(&known.facts, it.left);
-            let b = form_held(&known.facts, it.right);
-            known.write(
-                size,
-                it.into,
-                Origin::Word,
-                given(it.operator, a, b, it.right),
-            );
+            let form = found(&known.facts, it.operator, it.left, it.right);
+            known.write(size, it.into, origin_given(it.operator), form);
         }
     }
 }

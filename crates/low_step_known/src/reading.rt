@@ -4,7 +4,7 @@ ghost use Rattle.low_ir.specs.Runs.{Bank};
 ghost use Rattle.low_ir.specs.View.{operand_of};
 ghost use Rattle.low_step_facts.specs.Facts.{is_from, is_true, number_in};
 ghost use Rattle.low_step_facts.specs.Forms.{Numbers, Same, form_value};
-ghost use Rattle.low_step_known.specs.Learning.{Comes, Counts, HoldsWord, Measures, Sure};
+ghost use Rattle.low_step_known.specs.Learning.{Comes, Counts, HoldsSmall, HoldsWord, Measures, Sure};
 
 use low_ir::Operand;
 use low_step_facts::{Fact, Form, Origin, Term};
@@ -63,7 +63,7 @@ pub fn origin_held(facts: &[Fact], operand: Operand) -> Origin
 {
     match operand {
         Operand::Register(register) => origin_of(facts, register),
-        Operand::Constant(_) => Origin::Word,
+        Operand::Constant(_) => Origin::Small,
     }
 }
 
@@ -84,6 +84,20 @@ pub fn holds_word(facts: &[Fact], operand: Operand) -> bool
     match operand {
         Operand::Register(register) => match origin_of(facts, register) {
             Origin::Word => true,
+            Origin::Small => true,
+            _ => false,
+        },
+        Operand::Constant(_) => true,
+    }
+}
+
+/// Whether it surely holds a word below 2^32.
+pub fn holds_small(facts: &[Fact], operand: Operand) -> bool
+    ensures { result ≡ true → Sure facts.now (HoldsSmall (operand_of operand)) }
+{
+    match operand {
+        Operand::Register(register) => match origin_of(facts, register) {
+            Origin::Small => true,
             _ => false,
         },
         Operand::Constant(_) => true,

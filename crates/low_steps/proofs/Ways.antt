@@ -14,7 +14,7 @@ use Rattle.low_ir.specs.Runs.{Bank, operand_value, values, values_cons, virtual}
 use Rattle.low_stepped.specs.Knowing.{DoesTheSame}
 use Rattle.low_step_facts.specs.declared.facts.Fact.{Fact}
 use Rattle.low_step_facts.specs.declared.facts.Origin.{Origin}
-use Rattle.low_step_facts.specs.declared.facts.Origin.TheVariants.{Object}
+use Rattle.low_step_facts.specs.declared.facts.Origin.TheVariants.{Object, Small, Word as AnyWord}
 use Rattle.low_step_facts.specs.Facts.{all_true, is_from}
 use Rattle.low_step_known.specs.Learning.{BaseIsFrom, HoldsWord, Sure}
 use Rattle.low_step_known.proofs.Effects.{lead, reach, resolve, storing, stores, was_stored}
@@ -103,6 +103,12 @@ points_there claims d a s u h k =
       value = Pointer h.object ((h.bytes + k.more + a.displacement) % 2 ^ 32);
       is = reach claims a s h.object h.bytes k.more (λ o n. gives u (Pointer o n)) h.begins k.adds;
     }
+
+-- a word below 2^32 is a word
+pub small_is_word : (v : Option Value) → is_from Small v ≡ true → is_from AnyWord v ≡ true
+small_is_word None h = absurd (false≢true h)
+small_is_word (Some (Word w)) h = refl
+small_is_word (Some (Pointer o n)) h = absurd (false≢true h)
 
 -- what is known to be something is
 pub value_held : (x : Operand ℕ) (s : Bank) (o : Option Value) (origin known : Origin) → operand_value virtual s x ≡ o → origin ≡ known → is_from known None ≡ false → is_from origin o ≡ true → HoldsValue x s

@@ -12,6 +12,7 @@ use low_step_facts::{Change, Fact, Form, Origin};
 use low_step_known::reading::{agree, origin_of};
 
 /// Whether what is of one origin is of another one.
+#[tactic(auto, using(crate::proofs::Ways::small_is_word))]
 fn covers(origin: Origin, wanted: Origin) -> bool
     ensures { result ≡ true → (v : Option Value) → is_from origin v ≡ true → is_from wanted v ≡ true }
 {
@@ -19,6 +20,11 @@ fn covers(origin: Origin, wanted: Origin) -> bool
         Origin::Any => true,
         Origin::Word => match origin {
             Origin::Word => true,
+            Origin::Small => true,
+            _ => false,
+        },
+        Origin::Small => match origin {
+            Origin::Small => true,
             _ => false,
         },
         Origin::Object(object) => match origin {

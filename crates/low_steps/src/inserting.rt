@@ -20,6 +20,7 @@ fn holds_value(facts: &[Fact], operand: Operand) -> bool
         Operand::Register(register) => match origin_of(facts, register) {
             Origin::Any => false,
             Origin::Word => true,
+            Origin::Small => true,
             Origin::Object(_) => true,
         },
         Operand::Constant(_) => true,
