@@ -338,6 +338,40 @@ fn count_others(
     Ok(())
 }
 
+fn is_of_scalar(objects: &[Object], address: Address) -> bool {
+    match whole(address) {
+        None => false,
+        Some(object) => match objects.get(object as usize) {
+            None => false,
+            Some(it) => is_scalar(it),
+        },
+    }
+}
+
+fn code_accesses_scalars(objects: &[Object], code: &[Instr]) -> bool {
+    for instr in code {
+        let is_one = match instr {
+            Instr::Load { address, .. } => is_of_scalar(objects, *address),
+            Instr::Store { address, .. } => is_of_scalar(objects, *address),
+            _ => false,
+        };
+        if is_one {
+            return true;
+        }
+    }
+    false
+}
+
+/// Whether blocks access a scalar by its own name.
+fn access_scalars(objects: &[Object], blocks: &[Block]) -> bool {
+    for block in blocks {
+        if code_accesses_scalars(objects, &block.code) {
+            return true;
+        }
+    }
+    false
+}
+
 /// The scalars of a function that its loops use most.
 fn residents_in(
     alloc: Global,
@@ -347,7 +381,7 @@ fn residents_in(
     is_main: bool,
 ) -> Result<Vec<Resident>, Memory> {
     let mut residents = Vec::new(alloc);
-    if function.loops.is_empty() {
+    if function.loops.is_empty() || !access_scalars(&low.objects, &function.blocks) {
         return Ok(residents);
     }
     let begun = beginning_of(alloc, function)?;

@@ -145,6 +145,9 @@ fn paying(
     residents: &[Resident],
     function: &Function,
 ) -> Result<Vec<Resident>, Memory> {
+    if residents.is_empty() {
+        return Ok(Vec::new(alloc));
+    }
     let new = promoted_function(alloc, residents, function)?;
     if is_paid(&new, function) {
         Ok(Vec::from_slice(alloc, residents)?)
