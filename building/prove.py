@@ -25,6 +25,8 @@ MOST_JOBS = 4
 SECONDS, SECONDS_OF_A_LINE = 10, 0.11
 SECONDS_BEFORE_PACE = 300
 PAUSE = 0.1
+# The compiler's allocator keeps what the system has given it: to hand it back and ask anew takes a tenth of the time of a proof.
+KEEPING = {"MIMALLOC_PURGE_DELAY": "-1"}
 
 LIBC = ctypes.CDLL(None)
 PR_SET_PDEATHSIG = 1
@@ -142,7 +144,7 @@ class Proving:
             jobs = max(1, min(MOST_JOBS, idle // (len(ready) - number)))
             self.left.remove(name)
             with open(self.room / f"{name}.log", "wb") as log:
-                where = {"cwd": self.crates.folder(name), "stdout": log, "env": {**os.environ, "TMPDIR": str(self.room)}}
+                where = {"cwd": self.crates.folder(name), "stdout": log, "env": {**os.environ, **KEEPING, "TMPDIR": str(self.room)}}
                 self.running[name] = Job(name, jobs, self.words(name, jobs), **where)
 
     def end(self):
