@@ -25,7 +25,7 @@ MOST_JOBS = 4
 SECONDS, SECONDS_OF_A_LINE = 10, 0.11
 SECONDS_BEFORE_PACE = 300
 PAUSE = 0.1
-# The compiler's allocator keeps what the system has given it: to hand it back and ask anew takes a tenth of the time of a proof.
+# The compiler's allocator keeps what the system has given it: to hand it back and ask anew takes some percent of a proof's time.
 KEEPING = {"MIMALLOC_PURGE_DELAY": "-1"}
 
 LIBC = ctypes.CDLL(None)
