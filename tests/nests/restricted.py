@@ -173,7 +173,7 @@ def fault_of_columns(nest, columns):
 
 
 def least_bound(nest, columns, found):
-    """The least bound of all that were found: the first column's value, and that at the multipliers of each round with an optimum."""
+    """The least bound of the rounds: the first column's value, and that at the multipliers of each round with an optimum."""
     bounds = [columns[0][0]]
     for it in found:
         if it.ending == rounds.SECOND and not rounds.are_wide(it.asked_numbers(), len(nest.nest.loops)):
@@ -188,8 +188,8 @@ def fault_of_cause(nest, kind, bound, columns):
     if fault:
         return fault
     last, least = found[-1], least_bound(nest, columns, found)
-    if bound != least:
-        return f"the least bound is {least}"
+    if bound > least:
+        return f"a round's bound is {least}"
     match kind.split():
         case "wide", pivot:
             if last.made != int(pivot):

@@ -1,4 +1,4 @@
-//! How often loops of laid code jump back, in its flows and in its runs.
+//! Back edges: how often loops of laid code jump back, in its flows and in its runs.
 //!
 //! Proved, by calls with empty bodies: [`latches_are_counted`], that in each flow that is conserved the last instruction of a loop's
 //! latch is counted as often as its first one, also where the latch is a far jump of two instructions; and [`latches_are_visited`],

@@ -5,7 +5,6 @@ use Rattle.std.proofs.lemmas.List.{length-map, length-take, take-map}
 use Rattle.std.proofs.lemmas.List.Elements.{All-take}
 use Rattle.low_ir.specs.declared.low.Function as functions
 use Rattle.low_ir.specs.declared.places.Place.{Place}
-use Rattle.low_ir.specs.declared.places.Placing as placings
 use Rattle.low_ir.specs.declared.places.LowReg.{LowReg}
 use Rattle.low_ir.specs.Code.{Operand}
 use Rattle.low_ir.specs.View.{function_of}

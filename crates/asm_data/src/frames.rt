@@ -1,5 +1,5 @@
 // Where the code finds what a program keeps in memory.
-ghost use Rattle.std.specs.Prelude.{◌≡◌, ◌+◌, ◌<◌, ◌≤◌, ◌^◌, List, length, All, IfOk};
+ghost use Rattle.std.specs.Prelude.{◌≡◌, ◌+◌, ◌<◌, ◌≤◌, ◌^◌, length};
 ghost use Rattle.asm_program.specs.Frames.{frame_of, home_at, object_at, position, saved_at, slot_at};
 ghost use Rattle.asm_data.specs.Saving.{AreFew};
 

@@ -1,5 +1,5 @@
 -- The words of the registers that a function saves.
-use Rattle.std.proofs.Common.{◌≡◌, ℕ, ◌+◌, ◌*◌, ◌<◌, ◌≤◌, ℤ, Bool, true, false, List, [], ◌∷◌, ◌++◌, length, get_or, refl, sym, ap, ◌∙◌, subst, arith, length-append, if◌then◌else◌}
+use Rattle.std.proofs.Common.{◌≡◌, ℕ, ◌+◌, ◌<◌, ◌≤◌, ℤ, Bool, true, false, List, [], ◌∷◌, ◌++◌, length, get_or, refl, sym, ap, ◌∙◌, subst, arith, length-append, if◌then◌else◌}
 use Rattle.rv_core.specs.Instructions.{Instruction}
 use Rattle.low_ir.specs.Places.{result_register}
 use Rattle.asm_program.specs.Numbers.{machine_register, is_near, load_word, store_word}

@@ -1,13 +1,12 @@
 // Addresses come into machine registers.
 ghost use Rattle.std.specs.Prelude.{◌≡◌, ◌+◌, ◌%◌, ◌<◌, ◌^◌, ◌++◌, All, true, IfOk, OnOk};
 ghost use Rattle.std.specs.Option.{option_to_list};
-ghost use Rattle.rv_core.specs.Instructions.{is_within, instruction};
-ghost use Rattle.rv_core.specs.declared.op.Op.TheVariants.{Add};
+ghost use Rattle.rv_core.specs.Instructions.{is_within};
 ghost use Rattle.asm_program.specs.Frames.{object_at};
 ghost use Rattle.asm_program.specs.Numbers.{is_short, lower_of, object_register, object_code, object_offset};
 ghost use Rattle.asm_program.specs.Operands.{offset_code, offset_register, far_code, far_register, address_code, address_register, address_offset};
 ghost use Rattle.asm_program.specs.Functions.{singles};
-ghost use Rattle.asm_program.specs.Ranges.{IsRegister, InBase, InAddress};
+ghost use Rattle.asm_program.specs.Ranges.{IsRegister, InAddress};
 ghost use Rattle.asm_emission.specs.View.{address_of};
 ghost use Rattle.asm_emission.specs.Reaching.{pointer_code, pointer_register};
 

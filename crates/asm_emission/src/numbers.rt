@@ -1,5 +1,5 @@
 // Machine registers, and words and addresses in the immediates of instructions.
-ghost use Rattle.std.specs.Prelude.{◌≡◌, ◌+◌, ◌<◌, ◌≤◌, ◌^◌, true, IsTrue};
+ghost use Rattle.std.specs.Prelude.{◌≡◌, ◌+◌, ◌<◌, ◌≤◌, ◌^◌, true};
 ghost use Rattle.low_ir.specs.Places.{result_register};
 ghost use Rattle.rv_core.specs.Instructions.{is_within};
 ghost use Rattle.asm_program.specs.Numbers.{machine_register, is_near, is_beside, is_reached, is_short, upper_of, lower_of, reach_register, reach_offset, object_register, object_offset};

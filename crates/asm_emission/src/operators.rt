@@ -1,5 +1,5 @@
 // The instructions of operators, loads and stores.
-ghost use Rattle.std.specs.Prelude.{◌≡◌, ◌%◌, ◌<◌, ◌^◌, pos, true};
+ghost use Rattle.std.specs.Prelude.{◌≡◌, ◌<◌, ◌^◌, pos, true};
 ghost use Rattle.rv_core.specs.declared.row.Format.TheVariants.{R, I, Shift};
 ghost use Rattle.rv_core.specs.Rows.{row_of};
 ghost use Rattle.rv_core.specs.Instructions.{instruction, is_within};

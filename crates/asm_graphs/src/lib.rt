@@ -1,4 +1,4 @@
-//! Code that is laid as a graph of blocks and functions says: what is reached of it is code, and its
+//! Control flow graphs of laid code: where code is laid as its graph says, all that is reached is code, and its
 //! loops and functions fit its flow system.
 //!
 //! A graph (`specs/Graphs.antt`) says which blocks of a function may follow one another, which functions

@@ -1,4 +1,4 @@
-//! Loose flows of laid code: no more than the code is worth, and of a low program's code no more than its weight.
+//! A bound on the flows of laid code without a search: none takes more than blocks cost, as often as loops and calls may start them.
 //!
 //! A loose flow may lose at each address some of what arrives there, and turns each loop at most as often
 //! as its claim says (Li and Malik 1995). Of laid code it has a bound in closed form, by no search: what the

@@ -1,5 +1,5 @@
 // How many bytes items take, and where the blocks of a function begin.
-ghost use Rattle.std.specs.Prelude.{◌≡◌, ◌+◌, ◌≤◌, ◌<◌, ◌^◌, IfOk};
+ghost use Rattle.std.specs.Prelude.{◌≡◌, ◌+◌, ◌<◌, ◌^◌, IfOk};
 ghost use Rattle.asm_items.specs.Items.{form_size, jump_size, size, total};
 ghost use Rattle.asm_items.specs.Placings.{blocks_size, starts_from};
 

@@ -1,5 +1,5 @@
 // Where items lead.
-ghost use Rattle.std.specs.Prelude.{◌≡◌, slice_index, slice_index_or, []};
+ghost use Rattle.std.specs.Prelude.{◌≡◌};
 ghost use Rattle.asm_writing.specs.Targets.{starts_in, target};
 
 use asm_items::Item;

@@ -1,9 +1,7 @@
 // The words of items.
-ghost use Rattle.std.specs.Prelude.{◌≡◌, ◌+◌, ◌<◌, ◌≤◌, ◌^◌, ◌++◌, ◌∷◌, [], map, pos, true, IsTrue, OnOk};
-ghost use Rattle.rv_core.specs.Instructions.{instruction, in_row};
+ghost use Rattle.std.specs.Prelude.{◌≡◌, ◌+◌, ◌<◌, ◌≤◌, ◌^◌, ◌++◌, ◌∷◌, [], map, true, IsTrue, OnOk};
 ghost use Rattle.rv_core.specs.Words.{word_of};
-ghost use Rattle.asm_items.specs.Offsets.{offset};
-ghost use Rattle.asm_items.specs.Items.{branch_op, opposite, near_jump, far_jump, jump_words, branch_words, return_word, form_size, size, in_rows};
+ghost use Rattle.asm_items.specs.Items.{branch_op, opposite, near_jump, far_jump, jump_words, branch_words, form_size, size, in_rows};
 ghost use Rattle.asm_writing.specs.Targets.{words_to};
 
 use super::offsets::{lower_to, offset_to, upper_to};

@@ -1,6 +1,6 @@
 // Files and a sink in memory that never fail.
 ghost use Rattle.std.specs.Prelude.{◌≡◌, ◌<◌, ◌-◌, ◌++◌, [], Ok, length, min, IsSome, IfOk, OnErr, IsErrOf};
-ghost use Rattle.wcc_base.specs.Outside.{StoreState, SinkState, bytes_of, file_of, put_file, Reads};
+ghost use Rattle.wcc_base.specs.Outside.{bytes_of, file_of, put_file, Reads};
 ghost use Rattle.base_stores.specs.States.{calm_files, calm_store, calm_sink};
 
 use crate::file_list::{add_to, copy_from, empty_file, place};

@@ -1,6 +1,6 @@
 // Files and a sink in memory whose calls fail by a list.
 ghost use Rattle.std.specs.Prelude.{◌≡◌, ◌⊎◌, ◌↔◌, ◌<◌, ◌-◌, ◌++◌, [], length, take, min, IsTrue, IsErr, IsErrOf, IsNone, IsSome, IfOk, OnOk, OnErr};
-ghost use Rattle.wcc_base.specs.Outside.{StoreState, SinkState, bytes_of, file_of, put_file, raised, counted, Reads, CountsRead, CountsWrite};
+ghost use Rattle.wcc_base.specs.Outside.{bytes_of, file_of, put_file, raised, counted, Reads, CountsRead, CountsWrite};
 ghost use Rattle.base_stores.specs.Failing.{NextFails};
 
 use crate::file_list::{add_to, copy_from, empty_file, place};

@@ -1,5 +1,5 @@
 // Files kept as a list of names and contents.
-ghost use Rattle.std.specs.Prelude.{◌≡◌, ◌<◌, ◌≤◌, ◌-◌, [], ◌++◌, length, take, min, IfSome, IfNone, OnOk, OnErr, IsErrOf, IsNone, string_bytes};
+ghost use Rattle.std.specs.Prelude.{◌≡◌, ◌<◌, ◌-◌, [], ◌++◌, length, min, IfSome, IfNone, OnOk, OnErr, IsErrOf, IsNone, string_bytes};
 ghost use Rattle.wcc_base.specs.Outside.{file_of, bytes_of, put_file, Reads};
 ghost use Rattle.base_stores.specs.FileList.{told, IsAbsent, IsPlace};
 

@@ -1,6 +1,6 @@
 // The adapters over real files and the standard output: the trusted edge. They tell no content.
 ghost use Rattle.std.specs.Prelude.{◌≡◌, ◌<◌, ◌≤◌, None, length, IfOk, IsErrOf};
-ghost use Rattle.wcc_base.specs.Outside.{StoreState, SinkState, counted};
+ghost use Rattle.wcc_base.specs.Outside.{counted};
 
 use std::alloc::Global;
 use std::fs::{self, OpenOptions};

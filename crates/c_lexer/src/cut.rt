@@ -1,10 +1,10 @@
 // The longest piece at a place, form by form.
 ghost use Rattle.std.specs.Prelude.{◌≡◌, ◌≢◌, ◌↔◌, IsTrue, ◌<◌, ◌≤◌, ◌+◌, ◌-◌, ◌⊎◌, ℕ, true, IfSome, IfNone, length, slice_index, codes};
-ghost use Rattle.c_tree.specs.Bytes.{IsBlankByte, IsDigit, IsLetter, IsNameByte, Spans, SpansOne, Stands};
+ghost use Rattle.c_tree.specs.Bytes.{IsBlankByte, IsDigit, IsLetter, IsNameByte, SpansOne, Stands};
 ghost use Rattle.c_tree.specs.Pragmas.{IsPragmaWord};
 ghost use Rattle.c_lexer.specs.Bytes.{EndsBefore};
 ghost use Rattle.c_lexer.specs.Comments.{IsComment};
-ghost use Rattle.c_lexer.specs.Forms.{first_size, BeginsNumber, IsPrefixed, NoPiece, prefixes, punctuators};
+ghost use Rattle.c_lexer.specs.Forms.{first_size, BeginsNumber, NoPiece, prefixes, punctuators};
 ghost use Rattle.c_lexer.specs.Kinds.{IsKind, IsLineKind, IsMarker};
 ghost use Rattle.c_lexer.specs.Cut.{IsFresh, StandsAt};
 

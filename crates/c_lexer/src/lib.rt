@@ -29,7 +29,7 @@ mod words;
 
 use c_tree::token::{Token, TokenKind};
 use c_tree::tokens::Tokens;
-use cut::piece_at;
+pub use cut::piece_at;
 use pieces::{Kind, Piece};
 use std::alloc::{AllocError, Global};
 use thiserror::Error;

@@ -1,5 +1,5 @@
 // Fixed texts at a place.
-ghost use Rattle.std.specs.Prelude.{◌≡◌, ◌↔◌, ◌<◌, ◌≤◌, ◌+◌, IsTrue, length, map, slice_index};
+ghost use Rattle.std.specs.Prelude.{◌≡◌, ◌↔◌, ◌<◌, ◌≤◌, IsTrue, length, map, slice_index};
 ghost use Rattle.c_tree.specs.Bytes.{Each, Spans, Stands};
 ghost use Rattle.c_lexer.specs.Bytes.{are_set, IsOnLine};
 ghost use Rattle.c_lexer.specs.Forms.{first_size};

@@ -1,10 +1,9 @@
 // The number of main.
-ghost use Rattle.std.specs.Prelude.{◌≡◌, codes, map};
+ghost use Rattle.std.specs.Prelude.{◌≡◌, map};
 ghost use Rattle.facts_definitions.specs.FlowFacts.{id_in, index_of, main_of};
 ghost use Rattle.types_tree.specs.Tree.{function_name};
 ghost use Rattle.types_tree.specs.View.{function_of, program_of};
 
-use c_tree::expression::NameId;
 use types_tree::external::Function;
 use types_tree::program::Program;
 use wcc_base::Text;

@@ -1,5 +1,5 @@
 -- The names of a tree stand in the list of names, in the order in which they first stand.
-use Rattle.std.proofs.Common.{◌≡◌, ℕ, ◌<◌, List, [], ◌∷◌, ◌++◌, length, map, refl, sym, ◌∙◌, ap, subst}
+use Rattle.std.proofs.Common.{◌≡◌, ℕ, ◌<◌, List, [], ◌∷◌, ◌++◌, length, map, sym, ◌∙◌, ap, subst}
 use Rattle.std.specs.Prelude.{slice_index}
 use Rattle.std.specs.List.{All, Contains}
 use Rattle.c_tree.specs.declared.pragma.Pragma.{Pragma}
@@ -8,7 +8,7 @@ use Rattle.c_tree.specs.declared.token.TokenKind.TheVariants as kinds
 use Rattle.c_tree.specs.Formed.{EachOf}
 use Rattle.c_tree.specs.Holding.{HoldsExternal}
 use Rattle.c_tree.specs.Named.{map_row, named_external}
-use Rattle.c_tree.specs.Names.{name_of, names_among, names_of_tokens, names_said, with_names}
+use Rattle.c_tree.specs.Names.{names_among, names_of_tokens, names_said, with_names}
 use Rattle.c_tree.specs.Pragmas.{names_in}
 use Rattle.c_tree.specs.Said as lexemes
 use Rattle.c_tree.specs.Said.{Lexeme}

@@ -7,7 +7,7 @@ use Rattle.c_tree.specs.Formed.{EachOf}
 use Rattle.c_tree.specs.Holding.{Holds, HoldsAll, OfSome, HoldsShape, HoldsInitial, HoldsObject, HoldsParam, HoldsDeclaration, HoldsLabel, HoldsStart, HoldsStatement, HoldsItems, HoldsExternal}
 use Rattle.c_tree.specs.Named.{named, named_all, named_shape, named_initial, named_object, named_param, named_declaration, named_label, named_start, named_statement, named_items, named_external, map_row, map_option}
 use Rattle.c_tree.specs.Said as lexemes
-use Rattle.c_tree.specs.Said.{Lexeme, Plain}
+use Rattle.c_tree.specs.Said.{Lexeme}
 use Rattle.c_tree.specs.Spelling.{Spoken, Mark, Kept, Free, Fits, Agree, mark_said, free, kept, free_specifier, postfix_kind, binary_kind, assign_kind, spell, spell_all, spell_row, spell_optional, spell_specifiers, spell_shape, spell_comma, spell_initial, spell_object, spell_name, spell_param, spell_declaration, spell_pragma, spell_bound, spell_label, spell_start, spell_test, spell_statement, spell_items, spell_external, spell_externals}
 use Rattle.c_tree.specs.Tree.{Row, Nothing, Then, Expr, Number, Character, Name, Paren, Index, Call, Postfix, Prefix, Cast, Binary, Conditional, Assign, Exprs, NoExpr, AndExpr, Shape, Scalar, Unsized, Sized, Initial, Absent, Value, Listed, Object, Declared, Param, Parameter, Declaration, Objects, Prototype, Label, Case, Default, ForStart, NoStart, StartValue, StartDeclaration, Statement, Block, Empty, Evaluate, Marker, If, IfElse, While, Do, For, Switch, Break, Continue, Return, Items, NoItem, AndDeclaration, AndStatement, AndRestriction, AndLabel, External, Restriction, Declaring, Function}
 

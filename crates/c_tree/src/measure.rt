@@ -1,4 +1,4 @@
-ghost use Rattle.std.specs.Prelude.{◌≡◌, ◌+◌, ◌<◌, ◌≤◌, max};
+ghost use Rattle.std.specs.Prelude.{◌≡◌, ◌<◌};
 ghost use Rattle.c_tree.specs.Named.{map_option};
 ghost use Rattle.c_tree.specs.Size.{Fits, beside, empty, leaf, over, size, size_all, size_declaration, size_external, size_initial, size_items, size_label, size_object, size_optional, size_param, size_row, size_shape, size_start, size_statement};
 ghost use Rattle.c_tree.specs.Tree.{NoExpr, NoItem, Nothing};

@@ -1,7 +1,7 @@
 // The walk over a unit.
 ghost use Rattle.std.specs.Prelude.{◌≡◌, ◌++◌, ◌∷◌, [], map, IfOk, OnOk};
 ghost use Rattle.c_tree.specs.Tree.{Nothing};
-ghost use Rattle.c_tree.specs.View.{function_of as source_function, param_of as source_param, row_of};
+ghost use Rattle.c_tree.specs.View.{param_of as source_param, row_of};
 ghost use Rattle.types_rules.specs.DeclarationRules.{after_list, function_rule, redefines, routine};
 ghost use Rattle.types_rules.specs.Scope.{Around, with_definition, with_routine};
 ghost use Rattle.types_rules.specs.Typing.{typed_params};

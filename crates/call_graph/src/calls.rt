@@ -1,6 +1,6 @@
 // The calls in expressions and statements.
 ghost use Rattle.std.specs.Prelude.{◌≡◌, ◌++◌, ◌∷◌, [], OnOk, map};
-ghost use Rattle.types_calls.specs.Calls.{called, declaration_calls, expr_calls, exprs_calls, initial_calls, items_calls, label_calls, object_calls, objects_calls, option_calls, param_calls, params_calls, place_calls, shape_calls, start_calls, statement_calls};
+ghost use Rattle.types_calls.specs.Calls.{called, declaration_calls, expr_calls, exprs_calls, initial_calls, items_calls, label_calls, object_calls, objects_calls, option_calls, params_calls, place_calls, shape_calls, start_calls, statement_calls};
 ghost use Rattle.call_graph.specs.Items.{item_calls};
 ghost use Rattle.c_tree.specs.Named.{map_option};
 ghost use Rattle.types_tree.specs.View.{declaration_of, expr_of, exprs_of, initial_of, items_of, label_of, object_of, param_of, place_of, shape_of, start_of, statement_of};

@@ -1,7 +1,6 @@
 // Who calls whom.
-ghost use Rattle.std.specs.Prelude.{◌≡◌, ◌<◌, ◌++◌, ◌∷◌, [], length, IfOk, OnOk, filter, nat_lt};
+ghost use Rattle.std.specs.Prelude.{◌≡◌, ◌<◌, ◌++◌, ◌∷◌, [], IfOk, OnOk, filter};
 ghost use Rattle.types_calls.specs.Calls.{calls_below, function_calls, graph_of};
-ghost use Rattle.types_calls.specs.Chains.{Among};
 ghost use Rattle.types_tree.specs.View.{function_of, program_of};
 ghost use Rattle.call_graph.specs.Search.{IsInRange};
 

@@ -1,5 +1,5 @@
 // All ranks.
-ghost use Rattle.std.specs.Prelude.{◌≡◌, ◌<◌, ◌≤◌, length, List, ℕ, IfOk, IfErr, OnOk, ◌++◌, ◌∷◌, []};
+ghost use Rattle.std.specs.Prelude.{◌≡◌, ◌<◌, length, List, ℕ, IfOk, IfErr, OnOk, ◌++◌, ◌∷◌, []};
 ghost use Rattle.types_calls.specs.Calls.{graph_of};
 ghost use Rattle.types_calls.specs.Chains.{AreRanks, IsCallFault, IsFirstCycle, Reaches};
 ghost use Rattle.types_tree.specs.View.{program_of};

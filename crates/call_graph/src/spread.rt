@@ -1,6 +1,6 @@
 // What is reached from a function.
 
-ghost use Rattle.std.specs.Prelude.{◌≡◌, ◌<◌, ◌≤◌, length, List, ℕ, true, [], IfOk};
+ghost use Rattle.std.specs.Prelude.{◌≡◌, ◌<◌, length, true, [], IfOk};
 ghost use Rattle.std.proofs.Math.ListN.{set};
 ghost use Rattle.call_graph.specs.Search.{IsInRange, Spreads, is_seen, Tells, IsRoot};
 ghost use Rattle.types_calls.specs.Chains.{callees};

@@ -1,6 +1,6 @@
 // A search in depth.
 
-ghost use Rattle.std.specs.Prelude.{◌≡◌, ◌<◌, ◌≤◌, suc, length, IfOk, List, ℕ, slice_index_or};
+ghost use Rattle.std.specs.Prelude.{◌≡◌, ◌<◌, length};
 ghost use Rattle.std.proofs.Math.ListN.{set};
 ghost use Rattle.call_graph.specs.Search.{IsSound, IsPath, IsPathTo, IsInRange, Visits, IsHigher, mark_of};
 

@@ -1,4 +1,4 @@
-//! A laid program with its own claims is one whose greatest flow can be searched for.
+//! Why the greatest flow of a laid program can be searched for: its own claims bound all of its loops, and its numbers are small.
 //!
 //! A program over places in its chosen forms, with the claims that are made of it (`claims_definition`), has a flow
 //! system. Proved, each by a call with an empty body: [`loops_are_bounded`], that its loop claims bound the loops of

@@ -1,10 +1,9 @@
 // The ranges of functions.
-ghost use Rattle.std.specs.Prelude.{◌≡◌, ◌∷◌, [], ◌++◌, map, IfOk, OnOk};
+ghost use Rattle.std.specs.Prelude.{◌≡◌, map, IfOk};
 ghost use Rattle.claims_definition.specs.Listed.{Laid, code_ranges};
 ghost use Rattle.claims_lists.specs.Lists.{IsOf, first_mark, range_in, range_of};
-ghost use Rattle.claims_lists.specs.Outlines.{block_mark, outline_at};
+ghost use Rattle.claims_lists.specs.Outlines.{block_mark};
 ghost use Rattle.claims_lists.specs.Places.{IsRoomy};
-ghost use Rattle.claims_lists.specs.Rows.{ordered};
 
 use super::laying::{Laying, base_of, blocks_of, end_of};
 use super::order::by_address;

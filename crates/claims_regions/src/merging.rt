@@ -1,7 +1,7 @@
 // Lines that go on for as long as what is touched is the same.
-ghost use Rattle.std.specs.Prelude.{◌≡◌, ◌++◌, ◌∷◌, [], IfOk, OnOk};
+ghost use Rattle.std.specs.Prelude.{◌≡◌, ◌++◌, IfOk, OnOk};
 ghost use Rattle.claims_definition.specs.Lines.{same};
-ghost use Rattle.claims_regions.specs.Merging.{alike, begun, done, longer, merged, merged_behind};
+ghost use Rattle.claims_regions.specs.Merging.{alike, begun, done, merged, merged_behind};
 
 use code_flow_system::Within;
 use std::alloc::Global;

@@ -2,10 +2,7 @@
 use Rattle.std.specs.Prelude.{ℕ, ◌+◌, ◌-◌, ◌*◌, ◌/◌, ◌&&◌, Option, Some, None, nat_lt, nat_le, if◌then◌else◌}
 use Rattle.code_flow_system.specs.Claims.{is_aligned}
 
--- how many words flash has, and flash and scratchpad together
-abbrev pub flash_places : ℕ
-flash_places = 0x20_0000
-
+-- how many words flash and scratchpad have together
 abbrev pub all_places : ℕ
 all_places = 0x20_4000
 

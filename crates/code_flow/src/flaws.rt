@@ -1,5 +1,5 @@
 // The first claim that is bad by itself.
-ghost use Rattle.std.specs.Prelude.{◌≡◌, ◌+◌, ◌<◌, ◌≤◌, ◌^◌, ◌&&◌, ◌++◌, length, Some, None};
+ghost use Rattle.std.specs.Prelude.{◌≡◌, ◌+◌, ◌<◌, ◌^◌, ◌&&◌, ◌++◌, length, Some, None};
 ghost use Rattle.code_flow_system.specs.Claims.{is_aligned, are_aligned, is_above, is_past, is_filled, exit_flaws, never_flaws, region_flaws, loop_flaws, fact_flaws, flaws};
 ghost use Rattle.code_flow.specs.Faults.{first_from};
 

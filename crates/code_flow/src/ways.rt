@@ -1,5 +1,5 @@
 // How the instructions of an image go on.
-ghost use Rattle.std.specs.Prelude.{◌≡◌, ◌≤◌, ◌-◌, ◌++◌, Option, Some, None, IfSome, OnOk, nat_le, if◌then◌else◌};
+ghost use Rattle.std.specs.Prelude.{◌≡◌, ◌≤◌, ◌-◌, Option, Some, None, IfSome, nat_le, if◌then◌else◌};
 ghost use Rattle.std.specs.List.Sorted.{IsSorted};
 ghost use Rattle.std.specs.Ordering.{nat_cmp};
 ghost use Rattle.rv_core.specs.Arithmetic.{displaced};
@@ -7,13 +7,12 @@ ghost use Rattle.rv_core.specs.Code.{instruction_in};
 ghost use Rattle.rv_core.specs.Machine.{behind};
 ghost use Rattle.rv_core.specs.Runs.{sets_upper};
 ghost use Rattle.code_flow_system.specs.Claims.{is_listed};
-ghost use Rattle.code_flow_system.specs.Moves.{jump_way, far_target, register_way, way_of, moves_on, code_by, fetch_before};
+ghost use Rattle.code_flow_system.specs.Moves.{jump_way, register_way, way_of, code_by, fetch_before};
 ghost use Rattle.code_flow.specs.Walks.{way_at};
 
 use crate::sorted::is_among;
-use code_flow_system::{Move, Way};
+use code_flow_system::Way;
 use rv_core::{Effect, Image, Instr};
-use std::alloc::AllocError;
 
 /// An address plus an immediate.
 fn displaced(at: u32, imm: i32) -> u32

@@ -1,10 +1,9 @@
 // What a move costs.
-ghost use Rattle.std.specs.Prelude.{◌≡◌, ◌≢◌, ◌+◌, ◌<◌, ◌^◌, true, false, None, Some, IfSome, if◌then◌else◌, is_some};
+ghost use Rattle.std.specs.Prelude.{◌≡◌, ◌≢◌, ◌+◌, ◌<◌, ◌^◌, true, false, None, Some, IfSome, if◌then◌else◌};
 ghost use Rattle.rv_core.specs.declared.regions.Region.{Region};
 ghost use Rattle.rv_core.specs.Rows.{row_of};
-ghost use Rattle.rv_core.specs.Regions.{region_of};
-ghost use Rattle.rv_core.specs.Machine.{cost_at, behind};
-ghost use Rattle.rv_core.specs.Table.{table_of, access_cost, accesses, cost_of};
+ghost use Rattle.rv_core.specs.Machine.{behind};
+ghost use Rattle.rv_core.specs.Table.{table_of, accesses, cost_of};
 ghost use Rattle.code_flow_system.specs.Claims.{is_filled};
 ghost use Rattle.code_flow_system.specs.Systems.{IsPlaced, AreAscending};
 ghost use Rattle.code_flow_system.specs.MoveCosts.{instruction_among, wait_ahead, access_price, may_touch, move_cost};

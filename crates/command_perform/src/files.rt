@@ -1,5 +1,5 @@
 // Whole files, read and written.
-ghost use Rattle.std.specs.Prelude.{◌≡◌, ◌⊎◌, ◌<◌, ◌+◌, ◌^◌, ℕ, IsErrOf, length, take, IfSome, IfOk, OnOk, OnErr};
+ghost use Rattle.std.specs.Prelude.{◌≡◌, ◌<◌, ◌+◌, ◌^◌, IsErrOf, length, IfSome, IfOk, OnOk, OnErr};
 ghost use Rattle.wcc_base.specs.Outside.{bytes_of, told_put, CountsRead, CountsWrite};
 ghost use Rattle.command_perform.specs.Files.{IsReading, GoesOn};
 ghost use Rattle.command_perform.specs.Finishing.{IsPart};

@@ -5,7 +5,7 @@ ghost use Rattle.std.specs.Char.{digit_char};
 ghost use Rattle.report_check.specs.Summaries.{kind_word};
 ghost use Rattle.command_perform.specs.Lines.{address_text, all_shown, row, cycles_line, greatest_text, yes_line, exit_line, response_line, late_line, made_line, ran_line, value_line, undefined_line, broken_line, run_line};
 
-use path_answer::Kind;
+use code_flow_answer::Kind;
 use rv_sim::Ending;
 use std::alloc::Global;
 use wcc_base::Memory;

@@ -1,4 +1,4 @@
-//! The claims on an image as they are handed on to a report, and the lines of what was laid and bounded.
+//! Claims by the numbers of the source: those on an image, renumbered for its report, and the report's lines of functions and marks.
 //!
 //! The layout names a loop by its number in the program that was laid; a report names it by that of the source, which are
 //! numbered from 1 on, and by the factor that says how many of its starts are one. Where a pass left marks that no kept run

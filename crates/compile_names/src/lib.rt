@@ -1,4 +1,4 @@
-//! What is counted in a source has a name.
+//! Names of functions and markers: each one that a source counts has a name of the language.
 //!
 //! Proved, by a call with an empty body: [`counted_are_named`]. The facts of a source number its functions and markers by names; each of
 //! these numbers stands for a name of the source, which has letters, digits and underscores alone, and begins with no digit.

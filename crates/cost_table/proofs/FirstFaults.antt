@@ -7,7 +7,7 @@ use Rattle.cost_table.specs.declared.faults.TableFault.TheVariants as fault
 use Rattle.cost_table.specs.Keys.{Key, fetch, keys}
 use Rattle.cost_table.specs.Numbers.{cost_at}
 use Rattle.cost_table.specs.Faults.{first_from, is_missing, is_wrong, has_other, fault_by, fault_of}
-use Rattle.cost_table.specs.Tables.{IsDocument, HasFault, IsRefused}
+use Rattle.cost_table.specs.Tables.{IsDocument, IsRefused}
 
 never_not_toml : (m : Option ℕ) (b : Bool) (w : Option ℕ) → fault_by m b w ≡ Some fault.NotToml → ⊥
 never_not_toml (Some n) b w e = cc

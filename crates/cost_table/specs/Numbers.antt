@@ -1,5 +1,5 @@
 -- What a document gives the keys.
-use Rattle.std.specs.Prelude.{ℕ, ℤ, pos, negsuc, ◌&&◌, List, codes, Option, Some, None, if◌then◌else◌, nat_le, option_and_then, unwrap_or}
+use Rattle.std.specs.Prelude.{ℕ, ℤ, pos, negsuc, ◌&&◌, codes, Option, Some, None, if◌then◌else◌, nat_le, option_and_then, unwrap_or}
 use Rattle.toml.specs.Data.{Data, Members, as_integer, get_member}
 use Rattle.rv_core.specs.Table.{Table}
 use Rattle.cost_table.specs.Keys.{Key, fetch, part, extra}

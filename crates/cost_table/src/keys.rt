@@ -1,7 +1,6 @@
 // The keys of a table of costs.
-ghost use Rattle.std.specs.Prelude.{◌≡◌, map, length};
-ghost use Rattle.std.specs.List.{list_any};
-ghost use Rattle.cost_table.specs.Keys.{Key as SpecKey, fetch, part, extra, keys, is_key};
+ghost use Rattle.std.specs.Prelude.{◌≡◌, map};
+ghost use Rattle.cost_table.specs.Keys.{fetch, part, extra, keys, is_key};
 ghost use Rattle.cost_table.specs.Held.{key_of};
 
 /// A key, the least cost that it takes, and whether a table may leave it out.

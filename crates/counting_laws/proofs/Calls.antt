@@ -7,7 +7,6 @@ use Rattle.facts_definitions.specs.declared.facts.Bounds.{Bounds}
 use Rattle.meaning_semantics.specs.Runs.{calls, enter, given_back}
 use Rattle.meaning_semantics.specs.State.{State, Outcome, Fine, Stopped, bound, counted, stored, then_do, with_objects, write}
 use Rattle.meaning_semantics.specs.Statements.{Source, entered, run_items}
-use Rattle.meaning_semantics.specs.Values.{Calls}
 use Rattle.meaning_semantics.specs.declared.outcome.Flow.{Flow}
 use Rattle.meaning_semantics.specs.declared.outcome.Stop.TheVariants.{Undefined}
 use Rattle.c_tree.specs.declared.expression.Specifier.{Specifier}

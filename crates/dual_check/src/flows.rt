@@ -1,5 +1,5 @@
 // The listed flow: its moves are in the system, and what leaves an address is what arrives there.
-ghost use Rattle.std.specs.Prelude.{◌≡◌, ◌+◌, ◌<◌, ◌≤◌, ◌^◌, pos, neg_ℤ, ◌+ℤ◌, ◌-ℤ◌, ◌*ℤ◌, unsigned_abs, IfSome, IsNone, ◌↔◌, not};
+ghost use Rattle.std.specs.Prelude.{◌≡◌, ◌+◌, ◌<◌, ◌≤◌, ◌^◌, pos, neg_ℤ, ◌+ℤ◌, ◌-ℤ◌, unsigned_abs, IfSome, IsNone, ◌↔◌, not};
 ghost use Rattle.frac128.specs.Terms.{int_sum_by, coefficient, when_same};
 ghost use Rattle.code_flow_system.specs.Counts.{amount, inflow};
 ghost use Rattle.code_flow_system.specs.Lookups.{amount_at};

@@ -1,5 +1,5 @@
 // The multipliers of a certificate, by the numbers of limits.
-ghost use Rattle.std.specs.Prelude.{◌≡◌, ◌%◌, ◌==◌, if◌then◌else◌};
+ghost use Rattle.std.specs.Prelude.{◌≡◌, ◌%◌, ◌==◌};
 ghost use Rattle.code_flow_system.specs.Certificates.{limits};
 ghost use Rattle.code_flow_system.specs.Lookups.{by_at, HasMultipliers};
 ghost use Rattle.dual_check.specs.Multipliers.{never_by, loop_by, fact_by};

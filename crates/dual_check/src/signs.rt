@@ -1,8 +1,7 @@
 // The signs of the multipliers.
 ghost use Rattle.std.specs.Prelude.{◌≡◌, ◌+◌, ◌<◌, ◌^◌, length};
 ghost use Rattle.code_flow_system.specs.Certificates.{IsInForm};
-ghost use Rattle.code_flow_system.specs.Claims.{claim_count};
-ghost use Rattle.dual_check.specs.Rows.{first_failing, is_negative, is_negative_pair, is_wrong_for, first_wrong_fact, first_wrong_sign, earlier, nevers_from, loops_from, facts_from};
+ghost use Rattle.dual_check.specs.Rows.{first_failing, is_negative, is_negative_pair, is_wrong_for, first_wrong_fact, first_wrong_sign, nevers_from, loops_from, facts_from};
 
 use crate::numbers::{facts_from, loops_from, nevers_from};
 use code_flow_system::{Cert, FactClaim, System};

@@ -1,5 +1,5 @@
 // Whether the counts of the listed flow keep the claims.
-ghost use Rattle.std.specs.Prelude.{◌≡◌, ◌+◌, ◌<◌, ◌≤◌, ◌^◌, pos, ◌+ℤ◌, ◌*ℤ◌, neg_ℤ, unsigned_abs, IfSome, IsNone, ◌↔◌, length, ◌++◌, [], ◌∷◌};
+ghost use Rattle.std.specs.Prelude.{◌≡◌, ◌+◌, ◌<◌, ◌≤◌, ◌^◌, ◌+ℤ◌, ◌*ℤ◌, neg_ℤ, unsigned_abs, IfSome, IsNone, ◌↔◌, length, ◌++◌};
 ghost use Rattle.frac128.specs.Terms.{applied, int_sum_by};
 ghost use Rattle.code_flow_system.specs.Certificates.{size_by, least_terms, most_terms, negated, IsInForm};
 ghost use Rattle.dual_check.specs.Rows.{counts, first_failing, fails_never, fails_loop, fails_fact, first_unmet};

@@ -1,9 +1,9 @@
 -- A graph of calls has one list of ranks, or one first function that reaches itself.
-use Rattle.std.proofs.Common.{◌≡◌, ℕ, zero, suc, ◌+◌, ◌<◌, ◌≤◌, ◌⊎◌, inl, inr, List, [], ◌∷◌, length, get_or, refl, sym, ap, subst, ◌∙◌, arith}
+use Rattle.std.proofs.Common.{◌≡◌, ℕ, suc, ◌<◌, ◌≤◌, inl, inr, List, [], ◌∷◌, length, get_or, refl, sym, ap, ◌∙◌, arith}
 use Rattle.std.proofs.Math.Path.{ap₂}
 use Rattle.std.proofs.lemmas.Bool.{cases_lt}
 use Rattle.types_calls.specs.Calls.{Graph}
-use Rattle.types_calls.specs.Chains.{Among, callees, IsChain, end_of, IsRank, Reaches, AreRanks, IsFirstCycle}
+use Rattle.types_calls.specs.Chains.{IsChain, end_of, IsRank, Reaches, AreRanks, IsFirstCycle}
 
 one_rank : (graph : Graph) (f m n : ℕ) → IsRank graph f m → IsRank graph f n → m ≡ n
 one_rank graph f m n r s =

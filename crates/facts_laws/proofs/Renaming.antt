@@ -1,5 +1,5 @@
 -- A tree whose names are replaced, and then put back, is as it was.
-use Rattle.std.proofs.Common.{◌≡◌, ℕ, List, refl, ap, ◌∙◌}
+use Rattle.std.proofs.Common.{◌≡◌, ℕ, List, refl, ap}
 use Rattle.std.specs.Prelude.{Option, Some, None}
 use Rattle.std.proofs.Math.Path.{ap₂}
 use Rattle.c_tree.specs.declared.pragma.Pragma.{Pragma}

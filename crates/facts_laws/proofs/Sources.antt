@@ -13,7 +13,6 @@ use Rattle.c_lexer.proofs.Unique.{one_fault, tokens_or_fault}
 use Rattle.c_parser.specs.Refused.{Stops}
 use Rattle.c_tree.specs.Formed.{IsTreeOf}
 use Rattle.c_parser.specs.declared.fault.ParseFault.{ParseFault}
-use Rattle.c_parser.specs.declared.fault.ParseFault.TheVariants as parsing
 use Rattle.c_parser.proofs.Refusals.{only_memory}
 use Rattle.types_rules.specs.declared.fault.TypeFault.{TypeFault}
 use Rattle.types_rules.specs.declared.fault.TypeFault.TheVariants as typing
@@ -28,7 +27,7 @@ use Rattle.types_calls.specs.declared.ranks.CallFault.TheVariants as calling
 use Rattle.types_calls.specs.declared.ranks.Ranks.{Ranks}
 use Rattle.facts_front.specs.declared.refusal.Refusal.{Refusal}
 use Rattle.facts_front.specs.declared.refusal.Refusal.TheVariants.{TooLong, Lex, Parse, Types, Calls, Flow, Memory}
-use Rattle.facts_front.specs.Fronts.{RefusesTokens, RefusesUnit, RefusesCalls, RefusesFlow, RefusesSource, fault_place, cycle_place}
+use Rattle.facts_front.specs.Fronts.{RefusesSource, fault_place, cycle_place}
 use Rattle.facts_sources.specs.Sources.{HasUnit, HasProgram, HasFacts, IsSourceBy, derived_for}
 use Rattle.facts_laws.proofs.Ranking.{one_cycle, one_ranks, ranks_free}
 use Rattle.facts_laws.proofs.Stopping.{one_stop}

@@ -3,7 +3,7 @@ use Rattle.std.proofs.Common.{◌≡◌, ℕ, suc, ◌+◌, ◌-◌, ◌<◌, �
 use Rattle.std.specs.Prelude.{if◌then◌else◌, nat_eq, slice_index, slice_range}
 use Rattle.std.proofs.lemmas.Bool.Decides.{nat_tests}
 use Rattle.c_tree.specs.Bytes.{is_letter, is_name_byte}
-use Rattle.c_tree.specs.Pragmas.{Blanks, IsDirective, IsOperator, IsPragma, before_quote, behind_blanks, behind_first_word, behind_hash, from_close, from_open, from_quote, from_string, from_string_end, is_gap, names_from, names_in, pragma_text, string_text, with_run, without_return}
+use Rattle.c_tree.specs.Pragmas.{Blanks, IsDirective, IsOperator, IsPragma, before_quote, behind_first_word, behind_hash, from_open, from_quote, from_string, from_string_end, is_gap, names_from, names_in, pragma_text, string_text, with_run, without_return}
 use Rattle.c_lexer.proofs.Operators.{behind_size, operator_after}
 use Rattle.facts_limits.specs.Names.{names_length}
 

@@ -1,6 +1,6 @@
 -- The names of a source stand in its tokens, which share no byte.
-use Rattle.std.proofs.Common.{◌≡◌, ℕ, ◌+◌, ◌<◌, ◌≤◌, Bool, true, false, List, [], ◌∷◌, ◌++◌, length, map, length-append, refl, sym, ap, ◌∙◌, subst, arith}
-use Rattle.std.specs.Prelude.{codes, if◌then◌else◌, nat_eq, slice_range}
+use Rattle.std.proofs.Common.{◌≡◌, ℕ, ◌+◌, ◌<◌, ◌≤◌, Bool, true, false, List, [], ◌∷◌, ◌++◌, length, map, refl, sym, ap, ◌∙◌, subst, arith}
+use Rattle.std.specs.Prelude.{codes, if◌then◌else◌, nat_eq}
 use Rattle.std.specs.List.{list_any}
 use Rattle.std.specs.Cmp.Lexicographic.{pointwise}
 use Rattle.c_tree.specs.declared.token.Token.{Token}
@@ -9,8 +9,8 @@ use Rattle.c_tree.specs.declared.token.TokenKind.TheVariants as tokens
 use Rattle.c_tree.specs.Named.{named_unit}
 use Rattle.c_tree.specs.Names.{name_of, names_among, names_said, with_name, with_names}
 use Rattle.c_tree.specs.Pragmas.{pragma_text}
-use Rattle.c_tree.specs.Said.{IsToken, Lexeme, lexeme, said}
-use Rattle.c_tree.specs.Spelling.{mark_said, spell_unit, spoken}
+use Rattle.c_tree.specs.Said.{IsToken, lexeme, said}
+use Rattle.c_tree.specs.Spelling.{spell_unit, spoken}
 use Rattle.c_tree.specs.Tree.{TranslationUnit}
 use Rattle.c_tree.proofs.Holding.{said_agree}
 use Rattle.c_lexer.specs.declared.pieces.Kind.{Kind}

@@ -1,4 +1,4 @@
-//! How much a source says: of names, and of restrictions.
+//! Limits of what a source says: how long its names are, and how many restrictions it has.
 //!
 //! Proved, each by a call with an empty body: [`names_fit`], that the names of a source, each counted once, have no more bytes than
 //! it; and [`restrictions_are_limited`], that a source which nothing refuses has at most 32 restrictions, each of at most 64 terms in

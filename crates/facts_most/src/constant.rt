@@ -1,5 +1,5 @@
 // Tests that are constants (C11 6.6).
-ghost use Rattle.std.specs.Prelude.{◌≡◌, Result, Option, ℕ};
+ghost use Rattle.std.specs.Prelude.{◌≡◌, Result, Option};
 ghost use Rattle.facts_definitions.specs.Starts.{defined_word, is_always, is_always_or_absent, is_constant, is_nonzero, truth_of, with_word, word};
 ghost use Rattle.c_tree.specs.Named.{map_option};
 ghost use Rattle.types_tree.specs.View.{expr_of};

@@ -1,5 +1,5 @@
 // Numbers, and the bounds of a loop.
-ghost use Rattle.std.specs.Prelude.{◌≡◌, ◌≤◌, Some, [], ◌∷◌, drop, length, Option, ℕ};
+ghost use Rattle.std.specs.Prelude.{◌≡◌, Some, Option};
 ghost use Rattle.facts_definitions.specs.PragmaTexts.{at_most, bounded, bounds_among, digits, loop_bounds, number, runs};
 
 use super::bytes::{is_digit, same_bytes};

@@ -1,6 +1,6 @@
 // Flow restrictions.
-ghost use Rattle.std.specs.Prelude.{◌≡◌, IfOk, IfSome, IfNone, Some, None, ◌∷◌, []};
-ghost use Rattle.facts_definitions.specs.PragmaTexts.{behind_left, compare, restriction, runs, sum, with_left};
+ghost use Rattle.std.specs.Prelude.{◌≡◌, IfOk, Some, None};
+ghost use Rattle.facts_definitions.specs.PragmaTexts.{compare, restriction, runs, sum, with_left};
 ghost use Rattle.facts_definitions.specs.FlowFacts.{numbered_restriction};
 ghost use Rattle.facts_pragma.specs.Reading.{restricted};
 

@@ -1,5 +1,5 @@
 // The numbers of names.
-ghost use Rattle.std.specs.Prelude.{◌≡◌, IfOk, length};
+ghost use Rattle.std.specs.Prelude.{◌≡◌, IfOk};
 ghost use Rattle.facts_definitions.specs.FlowFacts.{id_in};
 
 use super::bytes::same_bytes;

@@ -1,5 +1,5 @@
 // What sites give, in their order.
-ghost use Rattle.std.specs.Prelude.{◌≡◌, ◌++◌, ◌∷◌, [], map, IfOk, OnOk, List, Option};
+ghost use Rattle.std.specs.Prelude.{◌≡◌, ◌++◌, [], map, IfOk, OnOk, Option};
 ghost use Rattle.facts_definitions.specs.FlowFacts.{and_one, bounds_at_site, bounds_of, function_at, function_ids, marker_at, marker_ids, name_id, restriction_at, restrictions_of};
 ghost use Rattle.types_tree.specs.Tree.{function_name};
 ghost use Rattle.types_tree.specs.View.{function_of};

@@ -1,6 +1,6 @@
 // Sites, one behind the other.
-ghost use Rattle.std.specs.Prelude.{◌≡◌, ◌-◌, ◌++◌, ◌∷◌, [], IfOk, OnOk, length, slice_get, Option};
-ghost use Rattle.facts_definitions.specs.Sites.{count_exprs, elements_of, filling_sites, loop_site};
+ghost use Rattle.std.specs.Prelude.{◌≡◌, ◌-◌, ◌++◌, ◌∷◌, [], IfOk, OnOk, slice_get, Option};
+ghost use Rattle.facts_definitions.specs.Sites.{elements_of, filling_sites, loop_site};
 ghost use Rattle.facts_definitions.specs.declared.site.Site.TheVariants.{Function, Marker, Restriction};
 ghost use Rattle.c_tree.specs.Named.{map_option};
 ghost use Rattle.types_tree.specs.View.{loop_of};

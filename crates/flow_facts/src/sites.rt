@@ -1,6 +1,6 @@
 // What stands in a program that facts are read from.
 ghost use Rattle.std.specs.Prelude.{◌≡◌, ◌++◌, Some, IfOk, OnOk, map};
-ghost use Rattle.facts_definitions.specs.Sites.{declaration_sites, external_sites, externals_sites, function_sites, initial_sites, items_sites, object_sites, objects_sites, sites_of, start_sites, statement_sites};
+ghost use Rattle.facts_definitions.specs.Sites.{declaration_sites, external_sites, externals_sites, function_sites, initial_sites, items_sites, objects_sites, sites_of, start_sites, statement_sites};
 ghost use Rattle.types_tree.specs.View.{declaration_of, external_of, function_of, initial_of, items_of, object_of, program_of, start_of, statement_of};
 ghost use Rattle.flow_facts.specs.Items.{item_sites};
 

@@ -3,7 +3,7 @@ ghost use Rattle.std.specs.Prelude.{◌≡◌, IfOk, map};
 ghost use Rattle.high_ir.specs.View.{expr_of};
 
 use high_ir::expression::Expr;
-use high_parts::expressions::{binary, element, let_go_expr, unary};
+use high_ir::expressions::{binary, element, let_go_expr, unary};
 use std::alloc::Global;
 use wcc_base::Memory;
 

@@ -1,4 +1,4 @@
-//! The pass that changes nothing: it makes the same program again.
+//! The identity pass: it makes the same program again.
 //!
 //! Proved: [`Again`] answers a program in the high form that is equal to the old one, in which each mark and each loop is its
 //! own copy; so it is lawful, as `high_pass` asks of each pass. It is the least pass over all programs: what another one has

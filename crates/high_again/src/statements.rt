@@ -5,10 +5,10 @@ ghost use Rattle.high_ir.specs.View.{expr_of, statement_of};
 
 use super::expressions::{copied_expr, copied_exprs};
 use high_ir::expression::Expr;
+use high_ir::expressions::let_go_expr;
 use high_ir::object::{Array, Base};
 use high_ir::statement::Statement;
-use high_parts::expressions::let_go_expr;
-use high_parts::statements::{block, choice, let_go, loop_of};
+use high_ir::statements::{block, choice, let_go, loop_of};
 use std::alloc::Global;
 use wcc_base::Memory;
 

@@ -7,10 +7,10 @@ ghost use Rattle.high_ir.specs.View.{expr_of, function_of, statement_of, stateme
 ghost use Rattle.high_cases.specs.Loops.{add_to, around, by_tens, count_up, main_of, unless};
 
 use high_ir::expression::{BinaryOperator, Expr};
+use high_ir::expressions::binary;
 use high_ir::statement::Statement;
+use high_ir::statements::{block, choice, loop_of};
 use high_ir::{Function, High};
-use high_parts::expressions::binary;
-use high_parts::statements::{block, choice, loop_of};
 use std::alloc::Global;
 use wcc_base::Memory;
 

@@ -3,24 +3,12 @@ ghost use Rattle.high_ir.specs.Meaning.{can_store, element, stored};
 ghost use Rattle.high_ir.specs.Runs.{contents};
 ghost use Rattle.high_ir.specs.View.{object_of};
 ghost use Rattle.high_eval.specs.Ends.{first_element, first_word};
-ghost use Rattle.high_ir.specs.Words.{kind_number, same_kind};
+ghost use Rattle.high_ir.specs.Words.{same_kind};
 
 use high_ir::object::{Kind, Object, Storage};
 use std::alloc::Global;
 use std::marker::Model;
 use wcc_base::Memory;
-
-fn number(kind: Kind) -> u8
-    ensures { result ≡ kind_number kind }
-{
-    match kind {
-        Kind::Unsigned8 => 0,
-        Kind::Signed8 => 1,
-        Kind::Unsigned16 => 2,
-        Kind::Signed16 => 3,
-        Kind::Word => 4,
-    }
-}
 
 fn can_store(storage: Storage) -> bool
     ensures { result ≡ can_store storage }
@@ -87,7 +75,7 @@ impl Cells {
     pub fn is_of(&self, kind: Kind) -> bool
         ensures { result ≡ same_kind self.now.kind kind }
     {
-        number(self.kind) == number(kind)
+        self.kind.same_as(kind)
     }
 
     /// The word of an element, where it is there and was written.

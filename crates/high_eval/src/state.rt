@@ -35,7 +35,7 @@ pub struct State {
 
 impl Model for State {
     ghost use Rattle.std.specs.Prelude.{drop};
-    ghost use Rattle.high_ir.specs.Meaning.{State as Stands, World};
+    ghost use Rattle.high_ir.specs.Meaning.{State as Stands};
 
     ghost Value = { Stands };
 

@@ -5,8 +5,8 @@ ghost use Rattle.high_folded.specs.Folded.{binary_folded, constant_of, folded_ex
 
 use super::ranges::{gives_left, gives_right, is_idle, is_lost};
 use high_ir::expression::{BinaryOperator, Expr, UnaryOperator};
+use high_ir::expressions::{binary, element, let_go_expr, unary};
 use high_ir::object::Kind;
-use high_parts::expressions::{binary, element, let_go_expr, unary};
 use std::alloc::Global;
 use wcc_base::Memory;
 

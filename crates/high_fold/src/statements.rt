@@ -6,10 +6,10 @@ ghost use Rattle.high_folded.specs.Folded.{folded, folded_all, folded_expr, kept
 
 use super::expressions::{constant_of, folded_expr, folded_exprs, stored_expr};
 use high_ir::expression::Expr;
+use high_ir::expressions::let_go_expr;
 use high_ir::object::{Array, Base, Kind};
 use high_ir::statement::Statement;
-use high_parts::expressions::let_go_expr;
-use high_parts::statements::{block, choice, let_go, loop_of};
+use high_ir::statements::{block, choice, let_go, loop_of};
 use std::alloc::Global;
 use wcc_base::Memory;
 

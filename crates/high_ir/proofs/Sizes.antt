@@ -3,7 +3,6 @@ use Rattle.std.proofs.Common.{◌≡◌, ℕ, ◌+◌, List, [], ◌∷◌, map,
 use Rattle.std.specs.Prelude.{Vec, sum_by}
 use Rattle.std.specs.Global.{Global}
 use Rattle.std.proofs.lemmas.List.Sums.{sum_by-cons}
-use Rattle.high_ir.specs.declared.expression.Expr as exprs
 use Rattle.high_ir.specs.declared.statement.Statement as statements
 use Rattle.high_ir.specs.Size.{nodes, nodes_all}
 use Rattle.high_ir.specs.View.{statement_of, statements_of}

@@ -1,6 +1,7 @@
 -- What a program in the high form keeps to.
 use Rattle.std.specs.Prelude.{◌≡◌, ◌<◌, ◌≤◌, ◌^◌, List, length, map, All}
 use Rattle.std.specs.List.{range_with_len}
+use Rattle.wcc_base.specs.Budgets.{most_depth}
 use Rattle.high_ir.specs.Tree.{Function, Program}
 use Rattle.high_ir.specs.Runs.{rank_or}
 use Rattle.high_ir.specs.Size.{program_nodes, program_depth}
@@ -24,5 +25,5 @@ pub record IsHigh (p : Program) : Type 0 where
   pub loops : map (λ l. l.id) (loops_in p.functions) ≡ range_with_len 0 p.loops
   pub leaves : All LeavesWithin p.functions
   pub ranks : All (RanksFall p.functions) p.functions
-  pub depth : program_depth p ≤ 1024
+  pub depth : program_depth p ≤ most_depth
   pub nodes : program_nodes p < 2 ^ 26

@@ -7,18 +7,21 @@
 //! bounds say.
 //!
 //! Proved: [`High`] keeps to `IsHigh`; [`size`] and [`loops`] are its numbers, and the operators
-//! compute what their definitions say. None of them takes memory.
+//! compute what their definitions say. None of them takes memory. [`expressions`] and [`statements`] put a part into the one that
+//! it becomes a part of, and never copy it.
 //!
 //! This crate knows no source language, no register and no pass.
 #![tactic(auto)]
 
 pub mod copies;
 pub mod expression;
+pub mod expressions;
 pub mod high;
 mod measure;
 pub mod object;
 pub mod operator;
 pub mod statement;
+pub mod statements;
 
 pub use copies::{Carried, Copies, LoopCopies, LoopCopy, MarkCopies, NeverMark};
 pub use high::{Function, High};

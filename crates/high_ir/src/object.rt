@@ -1,4 +1,6 @@
 // The arrays of a program, those of single elements among them.
+ghost use Rattle.std.specs.Prelude.{◌≡◌};
+ghost use Rattle.high_ir.specs.Words.{kind_number, same_kind};
 
 /// What the elements of an array are: numbers of so many bits, with a sign or without.
 #[derive(Clone, Copy)]
@@ -8,6 +10,27 @@ pub enum Kind {
     Unsigned16,
     Signed16,
     Word,
+}
+
+impl Kind {
+    fn number(self) -> u8
+        ensures { result ≡ kind_number self }
+    {
+        match self {
+            Kind::Unsigned8 => 0,
+            Kind::Signed8 => 1,
+            Kind::Unsigned16 => 2,
+            Kind::Signed16 => 3,
+            Kind::Word => 4,
+        }
+    }
+
+    /// Whether it is that kind.
+    pub fn same_as(self, other: Kind) -> bool
+        ensures { result ≡ same_kind self other }
+    {
+        self.number() == other.number()
+    }
 }
 
 /// Where an array lives, and what it holds at first: a constant is only read, a global has its values

@@ -1,5 +1,6 @@
 -- The law of a pass from one program to another.
 use Rattle.std.specs.Prelude.{◌≡◌, ℕ, ◌≤◌, map, All, sum_by}
+use Rattle.wcc_base.specs.Budgets.{most_depth, most_locals, most_operations}
 use Rattle.high_ir.specs.Tree.{Function, Program}
 use Rattle.high_ir.specs.Size.{program_operations, program_depth, local_bytes}
 use Rattle.high_ir.specs.Weight.{weight, reach}
@@ -10,9 +11,9 @@ use Rattle.high_pass.specs.Carries.{behaviour_of, Carries}
 -- a program that is not too large
 pub record WithinBudgets (p : Program) : Type 0 where
   -- six for each node of the largest source
-  pub operations : program_operations p ≤ 98304
-  pub depth : program_depth p ≤ 1024
-  pub locals : local_bytes p ≤ 524288
+  pub operations : program_operations p ≤ most_operations
+  pub depth : program_depth p ≤ most_depth
+  pub locals : local_bytes p ≤ most_locals
 
 -- no factor is greater
 pub record FactorsWithin (n : ℕ) (c : Listing) : Type 0 where

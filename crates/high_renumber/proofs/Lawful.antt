@@ -12,6 +12,7 @@ use Rattle.std.proofs.lemmas.List.Folds.{flat_map-map}
 use Rattle.std.proofs.lemmas.List.FromFn.{get_or-map-range_with_len, get_or-range_with_len, length-range_with_len}
 use Rattle.std.proofs.lemmas.List.Sums.{sum_by-cons}
 use Rattle.std.proofs.lemmas.Option.{none-some, same_Some, slice_get-get_or, slice_get-map, slice_get_within}
+use Rattle.wcc_base.specs.Budgets.{most_depth, most_locals, most_operations}
 use Rattle.high_ir.specs.Formed.{IsHigh, LeavesWithin, RanksFall}
 use Rattle.high_ir.specs.Meaning.{Given}
 use Rattle.high_ir.specs.Runs.{calls, count_of, hrun, rank_or, run_of, start}
@@ -202,7 +203,7 @@ renumbered_is_high p loose =
       ranks = each-numbered (RanksFall fs) (RanksFall made) (λ m n f falls.
           All-same (λ g. rank_or made g f.rank < f.rank) (callees_of (numbered m n f.body)) (callees_of f.body) (callees-numbered m n f.body)
           (λ i d lt. subst (λ r. r < f.rank) (sym (rank_or-numbered k 0 fs (get_or (callees_of f.body) i d) f.rank)) (falls i d lt))) k 0 fs loose.ranks;
-      depth = subst (λ n. n ≤ 1024) (sym (greatest-numbered k 0 fs)) loose.depth;
+      depth = subst (λ n. n ≤ most_depth) (sym (greatest-numbered k 0 fs)) loose.depth;
       nodes = subst (λ n. n < 2 ^ 26) (sym (nodes_in-numbered p)) loose.nodes;
     }
   where
@@ -329,9 +330,9 @@ module _ (old new : Program) (high : IsHigh old) (keeps : Keeps old new) where
     budgets = λ within.
         let kept = keeps.budgets within in
         record {
-          operations = subst (λ n. n ≤ 98304) (sym (operations_in-numbered new)) kept.operations;
-          depth = subst (λ n. n ≤ 1024) (sym (greatest-numbered (length gs) 0 gs)) kept.depth;
-          locals = subst (λ n. n ≤ 524288) (sym (bytes_in-numbered new)) kept.locals;
+          operations = subst (λ n. n ≤ most_operations) (sym (operations_in-numbered new)) kept.operations;
+          depth = subst (λ n. n ≤ most_depth) (sym (greatest-numbered (length gs) 0 gs)) kept.depth;
+          locals = subst (λ n. n ≤ most_locals) (sym (bytes_in-numbered new)) kept.locals;
         };
     weight = subst (λ n. n ≤ weight old) (sym (weight-renumbered new)) keeps.weight;
     reach = All-map (λ e. sum_by (reach (renumbered new)) e.new ≤ reach old e.old) (mark_at (mark_origins gs)) (range_with_len 0 new.marks) (λ i d lt.

@@ -1,5 +1,6 @@
 -- What a program whose marks and loops stand for those of another has to keep of it.
 use Rattle.std.specs.Prelude.{◌≡◌, ℕ, ◌<◌, ◌≤◌, ◌^◌, List, length, map, Option, Some, None, All}
+use Rattle.wcc_base.specs.Budgets.{most_depth}
 use Rattle.high_ir.specs.Formed.{IsHigh, LeavesWithin, RanksFall}
 use Rattle.high_ir.specs.Meaning.{Calls, Given, Labels, World}
 use Rattle.high_ir.specs.Runs.{calls}
@@ -20,7 +21,7 @@ pub record IsLoose (p : Program) : Type 0 where
   pub loops : All (λ l. l < p.loops) (loop_origins p.functions)
   pub leaves : All LeavesWithin p.functions
   pub ranks : All (RanksFall p.functions) p.functions
-  pub depth : program_depth p ≤ 1024
+  pub depth : program_depth p ≤ most_depth
   pub nodes : program_nodes p < 2 ^ 26
 
 -- where a call is good, the second gives the same

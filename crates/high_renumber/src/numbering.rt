@@ -11,7 +11,7 @@ use high_again::statements::copied;
 use high_ir::Function;
 use high_ir::expression::Expr;
 use high_ir::statement::Statement;
-use high_parts::statements::{block, choice, let_go, loop_of};
+use high_ir::statements::{block, choice, let_go, loop_of};
 use std::alloc::Global;
 use wcc_base::Memory;
 

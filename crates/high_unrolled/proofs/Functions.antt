@@ -4,6 +4,7 @@ use Rattle.std.specs.Prelude.{◌==◌, sum_by, slice_get}
 use Rattle.std.proofs.lemmas.List.Concat.{flat_map-cons}
 use Rattle.std.proofs.lemmas.List.Elements.{All-append, All-cons, All-head, All-nil, All-tail, All-weaker}
 use Rattle.std.proofs.lemmas.List.Sums.{sum_by-cons}
+use Rattle.wcc_base.specs.Budgets.{most_depth}
 use Rattle.high_ir.specs.Formed.{LeavesWithin}
 use Rattle.high_ir.specs.Meaning.{Labels}
 use Rattle.high_ir.specs.Size.{depth, function_nodes, greatest, operations}
@@ -56,14 +57,14 @@ module _ (k : ℕ) where
 
   -- sizes
   pub record FunctionsModest (z : Place) (fs : List Function) (r : Became (List Function)) : Type 0 where
-    pub deep : greatest function_depth r.code ≤ 1024
+    pub deep : greatest function_depth r.code ≤ most_depth
     pub size : sum_by function_nodes r.code + 3 * r.room ≤ sum_by function_nodes fs + 3 * z.room
     pub less : r.room ≤ z.room
     pub work : 2 ≤ k → sum_by function_work r.code + r.room ≡ sum_by function_busy fs + z.room
     pub leaving : All LeavesWithin fs → All LeavesWithin r.code
     pub tight : 2 ≤ k → All (IsTight k r.room) r.left
 
-  pub functions_modest : (z : Place) (fs : List Function) → greatest function_depth fs ≤ 1024 → FunctionsModest z fs (functions_spread k z fs)
+  pub functions_modest : (z : Place) (fs : List Function) → greatest function_depth fs ≤ most_depth → FunctionsModest z fs (functions_spread k z fs)
   functions_modest z [] fit = record {
     deep = fit;
     size = omega arith;
@@ -113,7 +114,7 @@ module _ (k : ℕ) where
   length_same z (f ∷ fs) = ap suc (length_same (after z (function_spread k z f)) fs)
 
   -- calls still go down, where `rank` is that of each function
-  pub calls_fall : (rank : ℕ → ℕ → ℕ) (z : Place) (fs : List Function) → greatest function_depth fs ≤ 1024 → All (λ f. All (λ g. rank g f.rank < f.rank) (callees_of f.body)) fs → All (λ f. All (λ g. rank g f.rank < f.rank) (callees_of f.body)) (functions_spread k z fs).code
+  pub calls_fall : (rank : ℕ → ℕ → ℕ) (z : Place) (fs : List Function) → greatest function_depth fs ≤ most_depth → All (λ f. All (λ g. rank g f.rank < f.rank) (callees_of f.body)) fs → All (λ f. All (λ g. rank g f.rank < f.rank) (callees_of f.body)) (functions_spread k z fs).code
   calls_fall rank z [] fit all = All-nil (λ f. All (λ g. rank g f.rank < f.rank) (callees_of f.body))
   calls_fall rank z (f ∷ fs) fit all =
       let x = function_spread k z f in
@@ -150,7 +151,7 @@ module _ (k : ℕ) where
       (All-tail (λ f. All (λ y. m y ≡ Some y) (marks_of f.body)) g fs own) (numbered_back (IsLabelled m) z.marks x.made y.made h) f)
 
   -- weights
-  pub functions_weigh : (z : Place) (fs : List Function) → greatest function_depth fs ≤ 1024 → (c d : ℕ → ℕ) → ((f : ℕ) → d f ≤ c f) → (f : ℕ) → body_weight (slice_get (functions_spread k z fs).code f) d ≤ body_weight (slice_get fs f) c
+  pub functions_weigh : (z : Place) (fs : List Function) → greatest function_depth fs ≤ most_depth → (c d : ℕ → ℕ) → ((f : ℕ) → d f ≤ c f) → (f : ℕ) → body_weight (slice_get (functions_spread k z fs).code f) d ≤ body_weight (slice_get fs f) c
   functions_weigh z [] fit c d less f = omega arith
   functions_weigh z (g ∷ fs) fit c d less zero = let a = (modest_of k 0 z g.body (omega (arith, fit))).weighing c d less in omega (arith, a)
   functions_weigh z (g ∷ fs) fit c d less (suc f) = functions_weigh (after z (function_spread k z g)) fs (omega (arith, fit)) c d less f

@@ -2,6 +2,7 @@
 use Rattle.std.proofs.Common.{◌≡◌, ℕ, zero, suc, ◌+◌, ◌-◌, ◌*◌, ◌/◌, ◌%◌, ◌<◌, ◌≤◌, ◌==◌, Bool, true, false, not, ◌&&◌, nat_le, sym, ap, ◌∙◌, subst, arith, ⊎_elim}
 use Rattle.std.proofs.Math.Nat.{mul-le-mul_left}
 use Rattle.std.proofs.lemmas.Bool.{cases_lt, cond-false, cond-true, eqb-true, le-leb, lt-ltb}
+use Rattle.wcc_base.specs.Budgets.{most_depth}
 use Rattle.high_ir.specs.Size.{depth, operations}
 use Rattle.high_ir.specs.Weight.{most_starts}
 use Rattle.high_unrolled.specs.Factor.{Rolled, depth_by, first_starts, growth, has_loop, is_short, is_taken, operations_by}
@@ -41,15 +42,15 @@ module _ (k : ℕ) (x : Rolled) where
   long_depth e = cond-false (is_short k x) (depth x.body + 1) (depth x.body + 3) e
 
   -- an idle loop is taken
-  pub idle_taken : (room level : ℕ) → 2 ≤ k → level + (depth x.body + 1) ≤ 1024 → is_idle x.bounds.most x.body ≡ true → is_taken k room level x ≡ true
+  pub idle_taken : (room level : ℕ) → 2 ≤ k → level + (depth x.body + 1) ≤ most_depth → is_idle x.bounds.most x.body ≡ true → is_taken k room level x ≡ true
   idle_taken room level two shallow idle =
       let zero_most : x.bounds.most ≡ 0 = eqb-true x.bounds.most 0 (and_front (x.bounds.most == 0) (not (has_loop x.body)) idle) in
       let innermost : not (has_loop x.body) ≡ true = and_back (x.bounds.most == 0) (not (has_loop x.body)) idle in
       let short : is_short k x ≡ true = lt-ltb x.bounds.most k (omega (arith, zero_most, two)) in
       let no_growth : growth k x ≡ 0 = ap (λ n. n - (operations x.body + 1)) (short_work short ∙ ap (λ m. 2 + m * operations x.body) zero_most) ∙ none_grown (operations x.body) (some_work x.body) in
       let room_enough : growth k x ≤ room = omega (arith, no_growth) in
-      let deep_enough : level + depth_by k x ≤ 1024 = omega (arith, short_depth short, shallow) in
-      all_four (nat_le 2 k) (not (has_loop x.body)) (nat_le (growth k x) room) (nat_le (level + depth_by k x) 1024) (le-leb 2 k two) innermost (le-leb (growth k x) room room_enough) (le-leb (level + depth_by k x) 1024 deep_enough)
+      let deep_enough : level + depth_by k x ≤ most_depth = omega (arith, short_depth short, shallow) in
+      all_four (nat_le 2 k) (not (has_loop x.body)) (nat_le (growth k x) room) (nat_le (level + depth_by k x) most_depth) (le-leb 2 k two) innermost (le-leb (growth k x) room room_enough) (le-leb (level + depth_by k x) most_depth deep_enough)
     where
       all_four : (a b c d : Bool) → a ≡ true → b ≡ true → c ≡ true → d ≡ true → (a && (b && (c && d))) ≡ true
       all_four a b c d p q r t = ap (λ z. z && (b && (c && d))) p ∙ ap (λ z. z && (c && d)) q ∙ ap (λ z. z && d) r ∙ t

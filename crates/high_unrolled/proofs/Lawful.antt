@@ -7,6 +7,7 @@ use Rattle.std.proofs.lemmas.List.{length-map}
 use Rattle.std.proofs.lemmas.List.Elements.{All-cons, All-head, All-map, All-nil, All-tail, All-weaker, Contains-get_or}
 use Rattle.std.proofs.lemmas.List.FromFn.{get_or-map-range_with_len, get_or-range_with_len, length-range_with_len}
 use Rattle.std.proofs.lemmas.List.Sums.{sum_by-cons}
+use Rattle.wcc_base.specs.Budgets.{most_depth, most_locals, most_operations}
 use Rattle.high_ir.specs.Formed.{IsHigh}
 use Rattle.high_ir.specs.Meaning.{Labels}
 use Rattle.high_ir.specs.Runs.{count_of, rank_or}
@@ -211,10 +212,10 @@ module _ (k : ℕ) (p : Program) (high : IsHigh p) where
           omega (arith, here, get_or-range_with_len 0 p.marks i d here)
 
   -- the budget of operations
-  works : 2 ≤ k → program_operations q + r.room ≡ program_busy p + (98304 - program_busy p)
+  works : 2 ≤ k → program_operations q + r.room ≡ program_busy p + (most_operations - program_busy p)
   works two = sizes_are.work two
 
-  operations_within : 2 ≤ k → program_operations p ≤ 98304 → program_operations q ≤ 98304
+  operations_within : 2 ≤ k → program_operations p ≤ most_operations → program_operations q ≤ most_operations
   operations_within two le = let a = works two in let b = all_busy_most p.functions in omega (arith, a, b, le)
 
   bytes_same : local_bytes q ≡ local_bytes p
@@ -224,22 +225,22 @@ module _ (k : ℕ) (p : Program) (high : IsHigh p) where
   budgets_twice two h = record {
     operations = operations_within two h.operations;
     depth = sizes_are.deep;
-    locals = subst (λ b. b ≤ 524288) (sym bytes_same) h.locals;
+    locals = subst (λ b. b ≤ most_locals) (sym bytes_same) h.locals;
   }
 
   nodes_below : 2 ≤ k → program_nodes q < 2 ^ 26
   nodes_below two = ⊎_elim
-      (λ (room : program_busy p < 98304).
+      (λ (room : program_busy p < most_operations).
       let a = works two in
       let b = all_nodes_few q.functions in
-      let c : program_operations q ≤ 98304 = omega (arith, a, room) in
+      let c : program_operations q ≤ most_operations = omega (arith, a, room) in
       omega (arith, b, c))
-      (λ (none : 98304 ≤ program_busy p).
+      (λ (none : most_operations ≤ program_busy p).
       let a = sizes_are.size in
       let b = high.nodes in
-      let c : 98304 - program_busy p ≡ 0 = omega (arith, none) in
+      let c : most_operations - program_busy p ≡ 0 = omega (arith, none) in
       omega (arith, a, b, c))
-      (cases_lt (program_busy p) 98304)
+      (cases_lt (program_busy p) most_operations)
 
   marks_below : (Q : ℕ → Type 0) → All Q (marks_in p.functions) → ((y : ℕ) → p.marks ≤ y → y < p.marks + length r.made → Q y) → All Q (marks_in q.functions)
   marks_below Q all new = All-flat_map Q body_marks q.functions
@@ -266,7 +267,7 @@ module _ (k : ℕ) (p : Program) (high : IsHigh p) where
   left_tight two = All-weaker (IsTight k r.room) (PassesBudget k q)
       (λ l h. ⊎_elim
       (λ (want : r.room < growth k l.rolled). let a = works two in inl (omega (arith, a, want)))
-      (λ (deep : 1024 < l.level + depth_by k l.rolled). inr deep)
+      (λ (deep : most_depth < l.level + depth_by k l.rolled). inr deep)
       h)
       r.left (sizes_are.tight two)
 

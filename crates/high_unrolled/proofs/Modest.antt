@@ -3,6 +3,7 @@ use Rattle.std.proofs.Common.{◌≡◌, ℕ, ◌+◌, ◌-◌, ◌*◌, ◌<◌
 use Rattle.std.proofs.Math.Nat.{mul-le-mul_left}
 use Rattle.std.proofs.lemmas.Bool.{cases_lt, cond-false, cond-true, ltb-false, ne_eqb}
 use Rattle.std.proofs.lemmas.List.Elements.{All-append, All-cons, All-nil, All-weaker}
+use Rattle.wcc_base.specs.Budgets.{most_depth}
 use Rattle.high_ir.specs.Size.{depth, depth_all, nodes, nodes_all, operations, operations_all}
 use Rattle.high_ir.specs.Splitting.{split}
 use Rattle.high_ir.specs.Standing.{blocks_needed, blocks_needed_all, callees_of, callees_of_all}
@@ -20,7 +21,7 @@ use Rattle.high_unrolled.proofs.Taking.{left_for_want, taken_depth, taken_growth
 
 -- an innermost loop for which this room is too small, or that would be too deep
 abbrev pub IsTight : (k room : ℕ) → Left → Type 0
-IsTight k room l = (room < growth k l.rolled) ⊎ (1024 < l.level + depth_by k l.rolled)
+IsTight k room l = (room < growth k l.rolled) ⊎ (most_depth < l.level + depth_by k l.rolled)
 
 true_is_false : true ≡ false → ⊥
 true_is_false e = cc
@@ -55,7 +56,7 @@ module _ (c d : ℕ → ℕ) (less : (f : ℕ) → d f ≤ c f) where
 
 -- of a piece of code of a measure: its own, and that of what it became
 pub record Modest (k level : ℕ) (z : Place) (deep_s deep_t size_s size_t work_s work_t leave_s leave_t : ℕ) (calls_s calls_t : List ℕ) (weigh_s weigh_t : (ℕ → ℕ) → ℕ) (room : ℕ) (left : List Left) : Type 1 where
-  pub deep : level + deep_t ≤ 1024
+  pub deep : level + deep_t ≤ most_depth
   pub size : size_t + 3 * room ≤ size_s + 3 * z.room
   pub less : room ≤ z.room
   pub work : 2 ≤ k → work_t + room ≡ work_s + z.room
@@ -73,11 +74,11 @@ AreModest k level z a r =
     Modest k level z (depth_all a) (depth_all r.code) (nodes_all a) (nodes_all r.code) (busy_all a) (operations_all r.code) (blocks_needed_all a) (blocks_needed_all r.code) (callees_of_all a) (callees_of_all r.code) (λ c. weight_of_all c a) (λ c. weight_of_all c r.code) r.room r.left
 
 pub tighter : (k room less : ℕ) → less ≤ room → (l : Left) → IsTight k room l → IsTight k less l
-tighter k room less le l h = ⊎_elim (λ (want : room < growth k l.rolled). inl (omega (arith, le, want))) (λ (deep : 1024 < l.level + depth_by k l.rolled). inr deep) h
+tighter k room less le l h = ⊎_elim (λ (want : room < growth k l.rolled). inl (omega (arith, le, want))) (λ (deep : most_depth < l.level + depth_by k l.rolled). inr deep) h
 
 module _ (k : ℕ) where
   -- a statement that stays as it is
-  modest_same : (level : ℕ) (z : Place) (s : Statement) → busy s ≡ operations s → level + depth s ≤ 1024 → IsModest k level z s (record { code = s; room = z.room; made = []; entries = []; loops = 0; left = [] })
+  modest_same : (level : ℕ) (z : Place) (s : Statement) → busy s ≡ operations s → level + depth s ≤ most_depth → IsModest k level z s (record { code = s; room = z.room; made = []; entries = []; loops = 0; left = [] })
   modest_same level z s quiet fit = record {
     deep = fit;
     size = same_most (nodes s + 3 * z.room);
@@ -90,7 +91,7 @@ module _ (k : ℕ) where
   }
 
   -- an innermost loop by the factor: its code has some starts of the body and some statements around them
-  module _ (level : ℕ) (z : Place) (x : Rolled) (id : ℕ) (fit : level + (depth x.body + 1) ≤ 1024) (takes : is_taken k z.room level x ≡ true) where
+  module _ (level : ℕ) (z : Place) (x : Rolled) (id : ℕ) (fit : level + (depth x.body + 1) ≤ most_depth) (takes : is_taken k z.room level x ≡ true) where
     quiet : busy x.body ≡ operations x.body
     quiet = busy_innermost x.body (taken_innermost k z.room level x takes)
 
@@ -206,7 +207,7 @@ module _ (k : ℕ) where
     modest_taken false e = modest_turned e
 
   -- a loop that stays, with what its body became
-  modest_kept : (level : ℕ) (z : Place) (x : Rolled) (id : ℕ) (inner : Became Statement) → level + (depth x.body + 1) ≤ 1024 → is_taken k z.room level x ≡ false → IsModest k (level + 1) (inside z) x.body inner →
+  modest_kept : (level : ℕ) (z : Place) (x : Rolled) (id : ℕ) (inner : Became Statement) → level + (depth x.body + 1) ≤ most_depth → is_taken k z.room level x ≡ false → IsModest k (level + 1) (inside z) x.body inner →
       IsModest k level z (Loop id x.bounds.least x.bounds.most x.body) (at_loop k false level z x inner)
   modest_kept level z x id inner fit stays h = record {
     deep = let a = h.deep in omega (arith, a);
@@ -238,13 +239,13 @@ module _ (k : ℕ) where
           (tighter k z.room inner.room h.less (record { level = level; rolled = x }) (left_for_want k z.room level x two e stays))
           (All-nil (IsTight k inner.room))
 
-  modest_loop : (takes : Bool) (level : ℕ) (z : Place) (x : Rolled) (id : ℕ) (inner : Became Statement) → level + (depth x.body + 1) ≤ 1024 → is_taken k z.room level x ≡ takes → IsModest k (level + 1) (inside z) x.body inner →
+  modest_loop : (takes : Bool) (level : ℕ) (z : Place) (x : Rolled) (id : ℕ) (inner : Became Statement) → level + (depth x.body + 1) ≤ most_depth → is_taken k z.room level x ≡ takes → IsModest k (level + 1) (inside z) x.body inner →
       IsModest k level z (Loop id x.bounds.least x.bounds.most x.body) (at_loop k takes level z x inner)
   modest_loop true level z x id inner fit e h = modest_taken level z x id fit e (is_short k x) refl
   modest_loop false level z x id inner fit e h = modest_kept level z x id inner fit e h
 
   mutual
-    pub modest_of : (level : ℕ) (z : Place) (s : Statement) → level + depth s ≤ 1024 → IsModest k level z s (spread k level z s)
+    pub modest_of : (level : ℕ) (z : Place) (s : Statement) → level + depth s ≤ most_depth → IsModest k level z s (spread k level z s)
     modest_of level z (Loop id least most body) fit =
         modest_loop (is_taken k z.room level (as_loop id least most body)) level z (as_loop id least most body) id (spread k (level + 1) (inside z) body) fit refl
         (modest_of (level + 1) (inside z) body (omega (arith, fit)))
@@ -296,7 +297,7 @@ module _ (k : ℕ) where
     modest_of level z (Call f values arrays into) fit = modest_same level z (Call f values arrays into) refl fit
     modest_of level z (Return e) fit = modest_same level z (Return e) refl fit
 
-    pub all_modest : (level : ℕ) (z : Place) (parts : Statements) → level + depth_all parts ≤ 1024 → AreModest k level z parts (spread_all k level z parts)
+    pub all_modest : (level : ℕ) (z : Place) (parts : Statements) → level + depth_all parts ≤ most_depth → AreModest k level z parts (spread_all k level z parts)
     all_modest level z End fit = record {
       deep = fit;
       size = same_most (0 + 3 * z.room);

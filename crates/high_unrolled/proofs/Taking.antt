@@ -1,6 +1,7 @@
 -- Which loops are unrolled.
 use Rattle.std.proofs.Common.{◌≡◌, ℕ, ◌+◌, ◌<◌, ◌≤◌, ◌⊎◌, inl, inr, ⊎_elim, Bool, true, false, not, ◌&&◌, nat_le, refl, sym, ap, ◌∙◌, arith}
 use Rattle.std.proofs.lemmas.Bool.{cases_lt, le-leb, leb-true}
+use Rattle.wcc_base.specs.Budgets.{most_depth}
 use Rattle.high_unrolled.specs.Factor.{Rolled, depth_by, fits, growth, has_loop, is_taken}
 
 pub and_front : (a b : Bool) → (a && b) ≡ true → a ≡ true
@@ -34,20 +35,20 @@ module _ (k room level : ℕ) (x : Rolled) where
 
   -- there is room for it
   pub taken_growth : is_taken k room level x ≡ true → growth k x ≤ room
-  taken_growth e = leb-true (growth k x) room (and_front (nat_le (growth k x) room) (nat_le (level + depth_by k x) 1024) (taken_fits e))
+  taken_growth e = leb-true (growth k x) room (and_front (nat_le (growth k x) room) (nat_le (level + depth_by k x) most_depth) (taken_fits e))
 
-  pub taken_depth : is_taken k room level x ≡ true → level + depth_by k x ≤ 1024
-  taken_depth e = leb-true (level + depth_by k x) 1024 (and_back (nat_le (growth k x) room) (nat_le (level + depth_by k x) 1024) (taken_fits e))
+  pub taken_depth : is_taken k room level x ≡ true → level + depth_by k x ≤ most_depth
+  taken_depth e = leb-true (level + depth_by k x) most_depth (and_back (nat_le (growth k x) room) (nat_le (level + depth_by k x) most_depth) (taken_fits e))
 
   -- an innermost one that is left has no room, or would be too deep
-  pub left_for_want : 2 ≤ k → has_loop x.body ≡ false → is_taken k room level x ≡ false → (room < growth k x) ⊎ (1024 < level + depth_by k x)
+  pub left_for_want : 2 ≤ k → has_loop x.body ≡ false → is_taken k room level x ≡ false → (room < growth k x) ⊎ (most_depth < level + depth_by k x)
   left_for_want two none e = ⊎_elim
       (λ (tight : room < growth k x). inl tight)
       (λ (roomy : growth k x ≤ room). ⊎_elim
-      (λ (deep : 1024 < level + depth_by k x). inr deep)
-      (λ (shallow : level + depth_by k x ≤ 1024). absurd (never
-      (four (nat_le 2 k) (has_loop x.body) (nat_le (growth k x) room) (nat_le (level + depth_by k x) 1024) (le-leb 2 k two) none (le-leb (growth k x) room roomy) (le-leb (level + depth_by k x) 1024 shallow)) e))
-      (cases_lt 1024 (level + depth_by k x)))
+      (λ (deep : most_depth < level + depth_by k x). inr deep)
+      (λ (shallow : level + depth_by k x ≤ most_depth). absurd (never
+      (four (nat_le 2 k) (has_loop x.body) (nat_le (growth k x) room) (nat_le (level + depth_by k x) most_depth) (le-leb 2 k two) none (le-leb (growth k x) room roomy) (le-leb (level + depth_by k x) most_depth shallow)) e))
+      (cases_lt most_depth (level + depth_by k x)))
       (cases_lt room (growth k x))
     where
       never : is_taken k room level x ≡ true → is_taken k room level x ≡ false → ⊥

@@ -1,5 +1,6 @@
 -- A loop by a factor: some starts of its body, and then a loop whose body is so many of them as the factor says.
 use Rattle.std.specs.Prelude.{ℕ, ◌+◌, ◌-◌, ◌*◌, Bool, true, false, not, ◌&&◌, ◌||◌, nat_le, nat_lt, if◌then◌else◌}
+use Rattle.wcc_base.specs.Budgets.{most_depth}
 use Rattle.high_ir.specs.Size.{depth, operations}
 use Rattle.high_ir.specs.Splitting.{peeled, split}
 use Rattle.high_ir.specs.Standing.{Bounds}
@@ -69,7 +70,7 @@ depth_by k x = if is_short k x then depth x.body + 1 else depth x.body + 3
 
 -- whether a loop that so many statements stand around passes no budget by the factor
 abbrev pub fits : (k room level : ℕ) → Rolled → Bool
-fits k room level x = nat_le (growth k x) room && nat_le (level + depth_by k x) 1024
+fits k room level x = nat_le (growth k x) room && nat_le (level + depth_by k x) most_depth
 
 -- whether a loop is unrolled: an innermost one that fits; a factor of 1 changes nothing
 abbrev pub is_taken : (k room level : ℕ) → Rolled → Bool

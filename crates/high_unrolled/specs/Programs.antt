@@ -1,6 +1,7 @@
 -- The program with its innermost loops by a factor, and what became of marks and loops.
 use Rattle.std.specs.Prelude.{ℕ, ◌+◌, ◌-◌, ◌==◌, Bool, not, ◌&&◌, List, [], ◌∷◌, length, map, sum_by, if◌then◌else◌}
 use Rattle.std.specs.List.{range_with_len}
+use Rattle.wcc_base.specs.Budgets.{most_operations}
 use Rattle.high_ir.specs.Size.{expr_operations}
 use Rattle.high_ir.specs.Tree.{Statement, Set, Put, Get, Keep, Mark, Seq, If, Loop, Block, Leave, Call, Return, Statements, End, Then, Function, Program}
 use Rattle.high_ir.specs.declared.copies.NeverMark.{NeverMark}
@@ -39,7 +40,7 @@ program_busy p = sum_by (λ f. busy f.body + 1) p.functions
 
 -- where the first loop stands: the budget of operations leaves so much room
 abbrev pub begun : Program → Place
-begun p = record { room = 98304 - program_busy p; marks = p.marks; loops = 0 }
+begun p = record { room = most_operations - program_busy p; marks = p.marks; loops = 0 }
 
 abbrev pub with_body : Function → Statement → Function
 with_body f body = record { values = f.values; arrays = f.arrays; locals = f.locals; rank = f.rank; body = body }

@@ -1,5 +1,6 @@
 -- What unrolling promises beside the law of passes.
 use Rattle.std.specs.Prelude.{◌≡◌, ℕ, ◌+◌, ◌≤◌, ◌<◌, ◌⊎◌, All}
+use Rattle.wcc_base.specs.Budgets.{most_depth, most_operations}
 use Rattle.high_ir.specs.Size.{program_operations}
 use Rattle.high_ir.specs.Tree.{Program}
 use Rattle.high_pass.specs.Listing.{Listing}
@@ -9,7 +10,7 @@ use Rattle.high_unrolled.specs.Unrolling.{Left}
 
 -- the loop by the factor, in the place where it stands in the program, would pass a budget
 abbrev pub PassesBudget : (factor : ℕ) → Program → Left → Type 0
-PassesBudget k p l = (98304 < program_operations p + growth k l.rolled) ⊎ (1024 < l.level + depth_by k l.rolled)
+PassesBudget k p l = (most_operations < program_operations p + growth k l.rolled) ⊎ (most_depth < l.level + depth_by k l.rolled)
 
 pub record Unrolls (k : ℕ) (old new : Program) (c : Listing) : Type 0 where
   pub program : new ≡ unrolled k old

@@ -1,4 +1,5 @@
-//! A program in the high form with its innermost loops by a factor, as a definition, and why it keeps the law of passes.
+//! Loop unrolling, as a definition: a program in the high form whose innermost loops are unrolled by a factor, and why it keeps the
+//! law of passes.
 //!
 //! Each innermost loop becomes the starts that are left over, and then a loop whose body is so many starts as the factor says;
 //! of a loop that makes fewer starts than the factor only its starts remain, and a mark behind them to which no good run comes.

@@ -1,6 +1,7 @@
 -- When a program is so small that its image has room.
 use Rattle.std.specs.Prelude.{◌≡◌, ℕ, suc, ◌+◌, ◌*◌, ◌^◌, ◌≤◌, Bool, false, if◌then◌else◌, List, [], ◌∷◌, length, map, All, slice_index_or}
 use Rattle.std.specs.List.{range_with_len}
+use Rattle.wcc_base.specs.Budgets.{most_instructions}
 use Rattle.low_ir.specs.declared.object.Storage.{Storage}
 use Rattle.low_ir.specs.declared.object.Storage.TheVariants.{Constant as Fixed', Global, Local}
 use Rattle.low_ir.specs.Arrays.{array_size}
@@ -57,7 +58,7 @@ frames_room (fn ∷ fns) = 4 * (49 + fn.size) + frames_room fns
 
 -- whatever is placed: in instructions, and all else in bytes
 pub record HasRoom (p : Placed) : Type 0 where
-  pub code : room p ≤ 1589248
+  pub code : room p ≤ most_instructions
   pub constants : constants_room p.objects ≤ 2 ^ 18
   pub variables : frames_room p.functions + variables_room p.objects ≤ 2 ^ 21
 

@@ -2,6 +2,7 @@
 use Rattle.std.proofs.Common.{◌≡◌, ℕ, suc, ◌+◌, ◌^◌, ◌<◌, ◌≤◌, true, false, List, [], ◌∷◌, length, map, refl, sym, ap, ◌∙◌, subst, arith}
 use Rattle.std.specs.Prelude.{Bool, drop, if◌then◌else◌, slice_index, slice_index_or}
 use Rattle.std.proofs.lemmas.List.{drop_more, length-map}
+use Rattle.wcc_base.specs.Budgets.{most_instructions}
 use Rattle.low_ir.specs.declared.places.LowReg.{LowReg}
 use Rattle.low_ir.specs.Code.{Function, Note}
 use Rattle.low_ir.specs.Places.{Assignment, Placed, place_functions}
@@ -21,10 +22,10 @@ start_is code placed =
     sym (ap (λ n. slice_index_or placed n false) (placed_length (assignment_of code) 0 (map function_of code.low.functions.items) ∙ length-map code.low.functions.items function_of))
 
 module _ (p : Placed) where
-  pub has_parts : room p ≤ 1589248 → constants_room p.objects ≤ 2 ^ 18 → frames_room p.functions + variables_room p.objects ≤ 2 ^ 21 → HasRoom p
+  pub has_parts : room p ≤ most_instructions → constants_room p.objects ≤ 2 ^ 18 → frames_room p.functions + variables_room p.objects ≤ 2 ^ 21 → HasRoom p
   has_parts code constants variables = record { code = code; constants = constants; variables = variables }
 
-  pub no_code : 1589248 < room p → HasRoom p → false ≡ true
+  pub no_code : most_instructions < room p → HasRoom p → false ≡ true
   no_code h s = absurd (let k = s.code in omega (arith, h, k))
 
   pub no_constants : 2 ^ 18 < constants_room p.objects → HasRoom p → false ≡ true

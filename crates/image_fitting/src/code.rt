@@ -1,10 +1,11 @@
 // The machine instructions that code takes at most.
-ghost use Rattle.std.specs.Prelude.{◌≡◌, ◌*◌, ◌+◌, ◌≤◌, map, length, sum_by};
-ghost use Rattle.low_ir.specs.Room.{far_room, offset_room, access_room, address_room, instr_room, end_room, block_room, function_room};
-ghost use Rattle.low_ir.specs.View.{base_of, block_of, end_of, function_of, instr_of};
+ghost use Rattle.std.specs.Prelude.{◌*◌, ◌+◌, map, length, sum_by};
+ghost use Rattle.low_ir.specs.Room.{instr_room, block_room, function_room};
+ghost use Rattle.low_ir.specs.View.{block_of, function_of, instr_of};
 ghost use Rattle.image_fitting.specs.Spending.{Spends};
 
-use low_ir::{Address, Base, Block, End, Function, Instr, Operand};
+use low_ir::{Block, Function, Instr, Operand};
+use low_parts::rooms::{access_part, address_part, end_part};
 
 /// Takes an amount.
 pub fn spend(from: u64, amount: u64) -> Option<u64>
@@ -14,52 +15,6 @@ pub fn spend(from: u64, amount: u64) -> Option<u64>
         return None;
     }
     Some(from - amount)
-}
-
-/// The upper part of a displacement that doesn't fit into the 12 bits of an instruction.
-fn far_part(displacement: u32) -> u64
-    ensures value { result ≡ far_room displacement }
-    ensures few { result ≤ 2 }
-{
-    if displacement < 0x800 || displacement >= 0xffff_f800 {
-        0
-    } else {
-        2
-    }
-}
-
-fn offset_part(offset: Option<u32>) -> u64
-    ensures value { result ≡ offset_room offset }
-    ensures few { result ≤ 3 }
-{
-    match offset {
-        None => 0,
-        Some(_) => 3,
-    }
-}
-
-fn address_part(address: Address) -> u64
-    ensures value { result ≡ address_room (base_of address.base) address.offset address.displacement }
-    ensures few { result ≤ 7 }
-{
-    match address.base {
-        Base::Object(_) => 1 + offset_part(address.offset),
-        Base::Pointer { .. } => 2 + offset_part(address.offset) + far_part(address.displacement),
-    }
-}
-
-/// The same for a load or a store, of which one without an offset counts more.
-fn access_part(address: Address) -> u64
-    ensures value { result ≡ access_room (base_of address.base) address.offset address.displacement }
-    ensures few { result ≤ 7 }
-{
-    match address.base {
-        Base::Object(_) => match address.offset {
-            None => 5,
-            Some(_) => 4,
-        },
-        Base::Pointer { .. } => address_part(address),
-    }
 }
 
 /// Ten for each argument.
@@ -85,16 +40,6 @@ fn spend_instr(from: u64, instr: &Instr) -> Option<u64>
         Instr::Put { .. } => spend(from, 4),
         Instr::Get { .. } => spend(from, 4),
         Instr::Call { arguments, .. } => spend_call(from, arguments),
-    }
-}
-
-fn end_part(end: End) -> u64
-    ensures { result ≡ end_room (end_of end) }
-{
-    match end {
-        End::Jump { .. } => 2,
-        End::Branch { .. } => 9,
-        End::Return { .. } => 4,
     }
 }
 

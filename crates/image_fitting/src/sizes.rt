@@ -1,5 +1,6 @@
 // The bounds of code and data.
 ghost use Rattle.std.specs.Prelude.{◌≡◌, ◌+◌, ◌^◌, ◌<◌, ◌≤◌, true, false, length, slice_index_or};
+ghost use Rattle.wcc_base.specs.Budgets.{most_instructions};
 ghost use Rattle.low_ir.specs.Placings.{placed_of};
 ghost use Rattle.low_ir.specs.Room.{room};
 ghost use Rattle.image_definition.specs.Sizes.{
@@ -19,12 +20,13 @@ use super::data::{
 };
 use image_memory::Placement;
 use low_ir::LowReg;
+use wcc_base::MOST_INSTRUCTIONS;
 
 fn has_code(code: &LowReg) -> bool
-    ensures whole { result ≡ true → room (placed_of code.now) ≤ 1589248 }
-    ensures exact { result ≡ false → 1589248 < room (placed_of code.now) }
+    ensures whole { result ≡ true → room (placed_of code.now) ≤ most_instructions }
+    ensures exact { result ≡ false → most_instructions < room (placed_of code.now) }
 {
-    match spend_functions(1_589_248, &code.low.functions) {
+    match spend_functions(MOST_INSTRUCTIONS, &code.low.functions) {
         None => false,
         Some(_) => true,
     }

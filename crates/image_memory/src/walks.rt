@@ -1,5 +1,5 @@
 // The frames of a program's functions.
-ghost use Rattle.std.specs.Prelude.{◌≡◌, ◌<◌, ◌^◌, ◌++◌, [], ◌∷◌, map, length, IfOk, OnOk};
+ghost use Rattle.std.specs.Prelude.{◌≡◌, ◌<◌, ◌^◌, map, length, IfOk};
 ghost use Rattle.low_ir.specs.View.{function_of};
 ghost use Rattle.low_ir.specs.Programs.{low_of};
 ghost use Rattle.low_ir.specs.Placings.{assignment_of, placed_of};

@@ -1,13 +1,13 @@
 -- The registers in a mask, and one step of spreading needs.
-use Rattle.std.proofs.Common.{◌≡◌, ◌≢◌, ◌⊎◌, inl, inr, ℕ, zero, suc, ◌+◌, ◌-◌, ◌/◌, ◌%◌, ◌^◌, ◌<◌, ◌≤◌, Bool, true, false, List, [], ◌∷◌, length, refl, sym, ap, ◌∙◌, subst, arith, if◌then◌else◌}
-use Rattle.std.specs.Prelude.{Option, Some, None, ◌==◌, replicate, slice_get, slice_index_or, slice_set}
-use Rattle.std.proofs.lemmas.Bool.{cases_eq, false≢true}
+use Rattle.std.proofs.Common.{◌≡◌, ◌≢◌, ◌⊎◌, inl, inr, ℕ, zero, suc, ◌-◌, ◌/◌, ◌%◌, ◌^◌, ◌<◌, ◌≤◌, Bool, true, false, List, [], ◌∷◌, length, refl, sym, ap, ◌∙◌, subst, arith, if◌then◌else◌}
+use Rattle.std.specs.Prelude.{◌==◌, replicate, slice_index_or, slice_set}
+use Rattle.std.proofs.lemmas.Bool.{cases_eq}
 use Rattle.low_ir.specs.Effects.{is_member}
 use Rattle.low_ir.specs.Places.{machine_registers, registers_of}
 use Rattle.image_frames.specs.Registers.{holds}
 use Rattle.image_saving.specs.Tables.{kept_list}
 use Rattle.image_frames.specs.Needs.{Site, Outline, outline_at, spread_sites, spread}
-use Rattle.image_frames.proofs.TableLemmas.{member_first, member_rest, member_cases}
+use Rattle.image_frames.proofs.TableLemmas.{member_first}
 
 -- numbers from n on are no members
 no_member : (n mask q : ℕ) → n ≤ q → is_member (registers_of n mask) q ≡ false

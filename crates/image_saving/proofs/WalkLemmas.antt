@@ -1,5 +1,5 @@
 -- What is found on a walk over code is what the placed code has.
-use Rattle.std.proofs.Common.{◌≡◌, ℕ, zero, suc, ◌+◌, ◌<◌, Bool, true, false, List, [], ◌∷◌, ◌++◌, map, length, refl, sym, ap, ◌∙◌, subst, arith, if◌then◌else◌}
+use Rattle.std.proofs.Common.{◌≡◌, ℕ, zero, suc, ◌+◌, Bool, true, false, List, [], ◌∷◌, ◌++◌, map, length, refl, sym, ap, ◌∙◌, if◌then◌else◌}
 use Rattle.std.specs.Prelude.{Option, Some, None, option_map, slice_index_or, slice_set}
 use Rattle.std.specs.List.{flat_map}
 use Rattle.std.specs.Option.{option_to_list}
@@ -9,14 +9,14 @@ use Rattle.low_ir.specs.declared.places.Place.TheVariants.{Register as InRegiste
 use Rattle.low_ir.specs.Code.{Plain, Set, Operate, Point, Load, Store, Put, Get, Instr, Do, Call, Block, Function, Note, Low}
 use Rattle.low_ir.specs.Effects.{dest, is_member}
 use Rattle.low_ir.specs.Formed.{written_by, callee}
-use Rattle.low_ir.specs.Places.{Assignment, Placing, assignment, Placed, place_plain, place_instr, place_code, place_block, place_blocks, place_function, place_functions, placed}
+use Rattle.low_ir.specs.Places.{Assignment, Placing, assignment, Placed, place_plain, place_instr, place_code, place_blocks, place_function, place_functions, placed}
 use Rattle.asm_program.specs.Emission.{registers_among, kept_among}
-use Rattle.asm_program.specs.Functions.{PlacedFunction, no_function, function_in}
+use Rattle.asm_program.specs.Functions.{no_function}
 use Rattle.image_frames.specs.Registers.{Table, no_registers, marked, table_of}
-use Rattle.image_frames.specs.Needs.{parameters_of, writes_of, block_writes, function_writes, Site, code_sites, blocks_sites, sites_homes, Outline, outline_of, outlines_of}
+use Rattle.image_frames.specs.Needs.{parameters_of, writes_of, block_writes, function_writes, Site, code_sites, blocks_sites, sites_homes, outline_of, outlines_of}
 use Rattle.image_frames.proofs.TableLemmas.{marked_append}
-use Rattle.image_saving.specs.Tables.{kept_list, place_marked, places_marked, keeps_place, kept_marked}
-use Rattle.image_saving.specs.Walks.{parameters_from, mask_at, passed_marked, result_marked, code_marked, blocks_marked, site_at, code_calls, blocks_call, homes_marked, written_in, calls_in, outline_in, outlines_from}
+use Rattle.image_saving.specs.Tables.{kept_list, places_marked, kept_marked}
+use Rattle.image_saving.specs.Walks.{parameters_from, mask_at, passed_marked, result_marked, code_marked, blocks_marked, code_calls, blocks_call, homes_marked, calls_in, outline_in, outlines_from}
 
 pub places-marked : (t : Table) (ps : List Place) → places_marked t ps ≡ marked t (registers_among ps)
 places-marked t [] = refl

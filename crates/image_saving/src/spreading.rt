@@ -7,7 +7,7 @@ ghost use Rattle.image_frames.specs.Needs.{outline_at, asks, spread_sites, sprea
 use super::sites::Site;
 use super::walks::Outline;
 use std::alloc::Global;
-use wcc_base::{Items, Memory};
+use wcc_base::Memory;
 
 /// Whether a function gets an argument in a register.
 #[tactic(auto, using(crate::proofs::KeptLemmas::passed_past))]

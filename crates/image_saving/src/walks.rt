@@ -1,6 +1,6 @@
 // What functions do with registers.
 ghost use Rattle.std.specs.Prelude.{◌≡◌, ◌+◌, ◌^◌, ◌<◌, ◌++◌, [], map, length, IfOk, OnOk, slice_index_or};
-ghost use Rattle.low_ir.specs.Formed.{written_by, callee};
+ghost use Rattle.low_ir.specs.Formed.{callee};
 ghost use Rattle.low_ir.specs.View.{instr_of, block_of, function_of};
 ghost use Rattle.low_ir.specs.Programs.{low_of};
 ghost use Rattle.low_ir.specs.Placings.{placings_of, assignment_of, placed_of};
@@ -11,6 +11,7 @@ ghost use Rattle.image_saving.specs.Walks.{parameters_from, mask_at, result_mark
 use super::sites::Site;
 use super::tables::{Table, mark, mark_all, mark_kept};
 use low_ir::{Block, Function, Instr, LowReg, Place};
+use low_parts::accesses::written;
 use std::alloc::Global;
 use std::marker::Model;
 use wcc_base::{Items, Memory};
@@ -78,22 +79,6 @@ fn parameters_at(parameters: &[Items<Place>], function: usize) -> &[Place]
     }
 }
 
-/// The register that an instruction writes.
-fn result_of(instr: &Instr) -> Option<u32>
-    ensures { result ≡ written_by (instr_of instr.now) }
-{
-    match instr {
-        Instr::Set { into, .. } => Some(*into),
-        Instr::Operate { into, .. } => Some(*into),
-        Instr::Point { into, .. } => Some(*into),
-        Instr::Load { into, .. } => Some(*into),
-        Instr::Store { .. } => None,
-        Instr::Put { .. } => None,
-        Instr::Get { into } => Some(*into),
-        Instr::Call { into, .. } => *into,
-    }
-}
-
 /// The function that an instruction calls.
 fn callee(instr: &Instr) -> Option<u32>
     ensures { result ≡ callee (instr_of instr.now) }
@@ -138,7 +123,7 @@ fn mark_code(
     ensures { table.new ≡ code_marked (placings_of code.now) number parameters.now table.old (map instr_of instrs.now) }
 {
     for instr in instrs {
-        mark_result(table, code, number, result_of(instr));
+        mark_result(table, code, number, written(instr));
         mark_passed(table, parameters, callee(instr));
     }
 }

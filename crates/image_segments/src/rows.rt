@@ -1,8 +1,8 @@
 // The rows of arrays.
-ghost use Rattle.std.specs.Prelude.{◌≡◌, ◌+◌, ◌^◌, ◌<◌, ◌≤◌, false, nat_le, map, IfOk, slice_index_or};
+ghost use Rattle.std.specs.Prelude.{◌≡◌, ◌+◌, ◌^◌, ◌<◌, false, map, IfOk, slice_index_or};
 ghost use Rattle.low_ir.specs.Arrays.{bytes_of, array_size};
 ghost use Rattle.low_ir.specs.View.{object_of};
-ghost use Rattle.image_segments.specs.Rows.{small_room, row_by, row_of, row_number, spots, addresses, row_room, HaveSizes, HaveRoom};
+ghost use Rattle.image_segments.specs.Rows.{row_by, row_of, row_number, spots, addresses, row_room, HaveSizes, HaveRoom};
 
 use low_ir::object::{Object, Storage};
 use std::alloc::Global;

@@ -2,6 +2,7 @@
 use Rattle.std.proofs.Common.{◌≡◌, ℕ, ◌+◌, ◌-◌, ◌*◌, ◌<◌, ◌≤◌, max, Bool, true, false, length, Option, Some, None, refl, sym, ap, ◌∙◌, arith}
 use Rattle.std.specs.Prelude.{nat_le, ◌&&◌}
 use Rattle.std.proofs.lemmas.Bool.{le-leb, lt-leb}
+use Rattle.wcc_base.specs.Budgets.{most_depth, most_locals, most_operations}
 use Rattle.high_ir.specs.Size.{depth, expr_depth, function_nodes, greatest, operations}
 use Rattle.high_ir.specs.Tree.{Function}
 use Rattle.inliner.specs.declared.measuring.Measure.{Measure}
@@ -34,13 +35,13 @@ module _ (limit : ℕ) (used : Used) (around : ℕ) (s : Site) (h : Function) wh
   small = nat_le (function_nodes h) limit
 
   abbrev few : Bool
-  few = nat_le (used.operations + operations (opening s used.next h.body)) (98304 + operations (call_of s))
+  few = nat_le (used.operations + operations (opening s used.next h.body)) (most_operations + operations (call_of s))
 
   abbrev short : Bool
-  short = nat_le (used.bytes + 4 * variables h) 524288
+  short = nat_le (used.bytes + 4 * variables h) most_locals
 
   abbrev flat : Bool
-  flat = nat_le (around + depth (opening s used.next h.body)) 1024
+  flat = nat_le (around + depth (opening s used.next h.body)) most_depth
 
   counted : operations (opening s used.next h.body) + length s.arrays ≡ operations (call_of s) + 2 + body.operations
   counted = omega (arith, opening_operations s used.next h.body, ap (λ m. m.operations) (size_at h s.into))
@@ -53,23 +54,23 @@ module _ (limit : ℕ) (used : Used) (around : ℕ) (s : Site) (h : Function) wh
   too_large le = front_false small (few && (short && flat)) (lt-leb (function_nodes h) limit (omega (arith, le, nodes_kept h.body)))
 
   -- more operations than the budget
-  pub too_many : 98304 + length s.arrays < used.operations + body.operations + 2 → fits limit used around s h ≡ false
+  pub too_many : most_operations + length s.arrays < used.operations + body.operations + 2 → fits limit used around s h ≡ false
   too_many lt =
       and_false small (few && (short && flat))
-      (front_false few (short && flat) (lt-leb (used.operations + operations (opening s used.next h.body)) (98304 + operations (call_of s)) (omega (arith, lt, counted))))
+      (front_false few (short && flat) (lt-leb (used.operations + operations (opening s used.next h.body)) (most_operations + operations (call_of s)) (omega (arith, lt, counted))))
 
   -- more bytes than the budget
-  pub too_long : 524288 < used.bytes + 4 * variables h → fits limit used around s h ≡ false
-  too_long lt = and_false small (few && (short && flat)) (and_false few (short && flat) (front_false short flat (lt-leb (used.bytes + 4 * variables h) 524288 lt)))
+  pub too_long : most_locals < used.bytes + 4 * variables h → fits limit used around s h ≡ false
+  too_long lt = and_false small (few && (short && flat)) (and_false few (short && flat) (front_false short flat (lt-leb (used.bytes + 4 * variables h) most_locals lt)))
 
   -- what is left is the depth
-  pub by_depth : (sizes_of h).whole.nodes < limit → used.operations + body.operations + 2 ≤ 98304 + length s.arrays → used.bytes + 4 * variables h ≤ 524288 → nat_le (around + max (greatest expr_depth s.values) body.depth + 2) 1024 ≡ fits limit used around s h
+  pub by_depth : (sizes_of h).whole.nodes < limit → used.operations + body.operations + 2 ≤ most_operations + length s.arrays → used.bytes + 4 * variables h ≤ most_locals → nat_le (around + max (greatest expr_depth s.values) body.depth + 2) most_depth ≡ fits limit used around s h
   by_depth nodes ops bytes =
       let one : small ≡ true = le-leb (function_nodes h) limit (omega (arith, nodes, nodes_kept h.body)) in
-      let two : few ≡ true = le-leb (used.operations + operations (opening s used.next h.body)) (98304 + operations (call_of s)) (omega (arith, ops, counted)) in
-      let three : short ≡ true = le-leb (used.bytes + 4 * variables h) 524288 bytes in
+      let two : few ≡ true = le-leb (used.operations + operations (opening s used.next h.body)) (most_operations + operations (call_of s)) (omega (arith, ops, counted)) in
+      let three : short ≡ true = le-leb (used.bytes + 4 * variables h) most_locals bytes in
       let same : around + max (greatest expr_depth s.values) body.depth + 2 ≡ around + depth (opening s used.next h.body) = omega (arith, deep) in
-      ap (λ n. nat_le n 1024) same
+      ap (λ n. nat_le n most_depth) same
       ∙ sym (front_true small (few && (short && flat)) one ∙ front_true few (short && flat) two ∙ front_true short flat three)
 
   -- what is used behind the opening

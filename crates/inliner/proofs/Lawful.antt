@@ -4,6 +4,7 @@ use Rattle.std.specs.Prelude.{slice_get, sum_by, if◌then◌else◌, ◌==◌}
 use Rattle.std.proofs.lemmas.List.{length-map}
 use Rattle.std.proofs.lemmas.List.Elements.{All-cons, All-head, All-map, All-nil, All-tail}
 use Rattle.std.proofs.lemmas.Option.{get_or_from_slice_get, slice_get-get_or, slice_get_within}
+use Rattle.wcc_base.specs.Budgets.{most_depth}
 use Rattle.high_ir.specs.Formed.{IsHigh, RanksFall}
 use Rattle.high_ir.specs.Runs.{rank_or}
 use Rattle.high_ir.specs.Size.{depth, function_nodes, greatest, program_nodes}
@@ -55,7 +56,7 @@ module _ (limit : ℕ) (p : Program) (high : IsHigh p) where
     leaves = each_of_all (λ h. blocks_needed h.body ≡ 0) p.functions high.leaves;
     marks = each_of_all (λ h. All (λ k. k < p.marks) (marks_of h.body)) p.functions (All-flat_map_back (λ k. k < p.marks) (λ h. marks_of h.body) p.functions high.marks);
     loops = each_of_all (λ h. All (IsCopy p) (loops_of h.body)) p.functions (All-flat_map_back (IsCopy p) (λ h. loops_of h.body) p.functions own_loops);
-    depth = each_of_all (λ h. depth h.body ≤ 1024) p.functions (least-greatest 1024 p.functions high.depth);
+    depth = each_of_all (λ h. depth h.body ≤ most_depth) p.functions (least-greatest most_depth p.functions high.depth);
     operations = refl;
     bytes = refl;
     within = omega arith;
@@ -99,7 +100,7 @@ module _ (limit : ℕ) (p : Program) (high : IsHigh p) where
       loops = All-map (λ k. k < p.loops) (λ l. l.id) (loops_in (swept limit p n).functions) (λ i d lt. let c = copies i d lt in c.1);
       leaves = all_of_each (λ h. blocks_needed h.body ≡ 0) (swept limit p n).functions kept.leaves;
       ranks = all_of_each (RanksFall (swept limit p n).functions) (swept limit p n).functions kept.falls;
-      depth = greatest-least 1024 (swept limit p n).functions (all_of_each (λ h. depth h.body ≤ 1024) (swept limit p n).functions kept.depth);
+      depth = greatest-least most_depth (swept limit p n).functions (all_of_each (λ h. depth h.body ≤ most_depth) (swept limit p n).functions kept.depth);
       nodes = few_nodes (swept_untouched n);
     }
 

@@ -3,6 +3,7 @@ use Rattle.std.proofs.Common.{◌≡◌, ℕ, zero, suc, ◌+◌, ◌*◌, max, 
 use Rattle.std.specs.Prelude.{if◌then◌else◌, nat_le, slice_get, ◌&&◌, ◌||◌, ◌==◌}
 use Rattle.std.proofs.lemmas.Bool.{eqb-true}
 use Rattle.std.proofs.lemmas.List.Elements.{All-append, All-cons, All-head, All-nil, All-tail}
+use Rattle.wcc_base.specs.Budgets.{most_depth, most_locals, most_operations}
 use Rattle.high_ir.specs.Formed.{IsHigh}
 use Rattle.high_ir.specs.Size.{depth, expr_depth, function_nodes, greatest, operations}
 use Rattle.high_ir.specs.Standing.{loops_of, marks_of}
@@ -69,12 +70,12 @@ module _ (limit : ℕ) (fs : List Function) (used : Used) where
 fits_same : (limit : ℕ) (used now : Used) (around : ℕ) (s : Site) (h k : Function) → now.operations ≡ used.operations → now.bytes ≡ used.bytes → function_nodes k ≡ function_nodes h → variables k ≡ variables h → operations (opening s now.next k.body) ≡ operations (opening s used.next h.body) → depth (opening s now.next k.body) ≡ depth (opening s used.next h.body) →
     fits limit now around s k ≡ fits limit used around s h
 fits_same limit used now around s h k ops bytes small vars same deep =
-    ap (λ n. nat_le n limit && (nat_le (now.operations + operations (opening s now.next k.body)) (98304 + operations (call_of s)) && (nat_le (now.bytes + 4 * variables k) 524288 && nat_le (around + depth (opening s now.next k.body)) 1024))) small
-    ∙ ap (λ n. nat_le (function_nodes h) limit && (nat_le (n + operations (opening s now.next k.body)) (98304 + operations (call_of s)) && (nat_le (now.bytes + 4 * variables k) 524288 && nat_le (around + depth (opening s now.next k.body)) 1024))) ops
-    ∙ ap (λ n. nat_le (function_nodes h) limit && (nat_le (used.operations + n) (98304 + operations (call_of s)) && (nat_le (now.bytes + 4 * variables k) 524288 && nat_le (around + depth (opening s now.next k.body)) 1024))) same
-    ∙ ap (λ n. nat_le (function_nodes h) limit && (nat_le (used.operations + operations (opening s used.next h.body)) (98304 + operations (call_of s)) && (nat_le (n + 4 * variables k) 524288 && nat_le (around + depth (opening s now.next k.body)) 1024))) bytes
-    ∙ ap (λ n. nat_le (function_nodes h) limit && (nat_le (used.operations + operations (opening s used.next h.body)) (98304 + operations (call_of s)) && (nat_le (used.bytes + 4 * n) 524288 && nat_le (around + depth (opening s now.next k.body)) 1024))) vars
-    ∙ ap (λ n. nat_le (function_nodes h) limit && (nat_le (used.operations + operations (opening s used.next h.body)) (98304 + operations (call_of s)) && (nat_le (used.bytes + 4 * variables h) 524288 && nat_le (around + n) 1024))) deep
+    ap (λ n. nat_le n limit && (nat_le (now.operations + operations (opening s now.next k.body)) (most_operations + operations (call_of s)) && (nat_le (now.bytes + 4 * variables k) most_locals && nat_le (around + depth (opening s now.next k.body)) most_depth))) small
+    ∙ ap (λ n. nat_le (function_nodes h) limit && (nat_le (n + operations (opening s now.next k.body)) (most_operations + operations (call_of s)) && (nat_le (now.bytes + 4 * variables k) most_locals && nat_le (around + depth (opening s now.next k.body)) most_depth))) ops
+    ∙ ap (λ n. nat_le (function_nodes h) limit && (nat_le (used.operations + n) (most_operations + operations (call_of s)) && (nat_le (now.bytes + 4 * variables k) most_locals && nat_le (around + depth (opening s now.next k.body)) most_depth))) same
+    ∙ ap (λ n. nat_le (function_nodes h) limit && (nat_le (used.operations + operations (opening s used.next h.body)) (most_operations + operations (call_of s)) && (nat_le (n + 4 * variables k) most_locals && nat_le (around + depth (opening s now.next k.body)) most_depth))) bytes
+    ∙ ap (λ n. nat_le (function_nodes h) limit && (nat_le (used.operations + operations (opening s used.next h.body)) (most_operations + operations (call_of s)) && (nat_le (used.bytes + 4 * n) most_locals && nat_le (around + depth (opening s now.next k.body)) most_depth))) vars
+    ∙ ap (λ n. nat_le (function_nodes h) limit && (nat_le (used.operations + operations (opening s used.next h.body)) (most_operations + operations (call_of s)) && (nat_le (used.bytes + 4 * variables h) most_locals && nat_le (around + n) most_depth))) deep
 
 -- measures do not go by what marks and loops are called
 module _ (r : Returns) where

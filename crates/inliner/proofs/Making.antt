@@ -4,6 +4,7 @@ use Rattle.std.specs.Prelude.{slice_get, slice_set, sum_by}
 use Rattle.std.proofs.lemmas.Bool.{cases_eq}
 use Rattle.std.proofs.lemmas.Option.{none-some, same_Some}
 use Rattle.std.proofs.lemmas.List.Sums.{sum_by-cons}
+use Rattle.wcc_base.specs.Budgets.{most_depth, most_locals, most_operations}
 use Rattle.high_ir.specs.Formed.{RanksFall}
 use Rattle.high_ir.specs.Runs.{rank_or}
 use Rattle.high_ir.specs.Size.{depth, frame_bytes, local_bytes, local_object_bytes, operations, program_operations}
@@ -79,11 +80,11 @@ pub record Keeping (p : Program) (m : Making) : Type 0 where
   pub leaves : Each (λ h. blocks_needed h.body ≡ 0) m.functions
   pub marks : Each (λ h. All (λ k. k < p.marks) (marks_of h.body)) m.functions
   pub loops : Each (λ h. All (IsCopy p) (loops_of h.body)) m.functions
-  pub depth : Each (λ h. depth h.body ≤ 1024) m.functions
+  pub depth : Each (λ h. depth h.body ≤ most_depth) m.functions
   pub operations : m.used.operations ≡ sum_by (λ f. operations f.body + 1) m.functions
   pub bytes : m.used.bytes ≡ sum_by frame_bytes m.functions + sum_by (λ o. local_object_bytes o.storage o) p.objects
-  pub within : m.used.operations ≤ max (program_operations p) 98304
-  pub small : m.used.bytes ≤ max (local_bytes p) 524288
+  pub within : m.used.operations ≤ max (program_operations p) most_operations
+  pub small : m.used.bytes ≤ max (local_bytes p) most_locals
   pub weights : (n : ℕ) → Below p.functions (weights m.functions n)
   pub reaches : (mark n : ℕ) → ReachBelow mark p.functions (reaches m.functions mark n)
   pub words : Each (λ h. HasWords h.body) p.functions → Each (λ h. HasWords h.body) m.functions
@@ -156,7 +157,7 @@ module _ (limit : ℕ) (p : Program) (openings : (f : ℕ) (h : Function) → sl
           (opened_marks (λ j. j < p.marks) limit m.functions (λ g k found. (of_function g k found, keeping.marks g k found)) 0 h.body (used_in m.used h) (keeping.marks f h there));
       loops = each_set (λ k. All (IsCopy p) (loops_of k.body)) m.functions f h new there keeping.loops
           (opened_loops (IsCopy p) limit m.functions keeping.loops 0 h.body (used_in m.used h) (keeping.loops f h there));
-      depth = each_set (λ k. depth k.body ≤ 1024) m.functions f h new there keeping.depth (shallow (opened_depth limit m.functions 0 h.body (used_in m.used h) (omega (arith, keeping.depth f h there))));
+      depth = each_set (λ k. depth k.body ≤ most_depth) m.functions f h new there keeping.depth (shallow (opened_depth limit m.functions 0 h.body (used_in m.used h) (omega (arith, keeping.depth f h there))));
       operations = omega (arith, counts.operations, keeping.operations, sum_by_set (λ g. operations g.body + 1) m.functions f h new there);
       bytes = omega (arith, counts.bytes, keeping.bytes, frames, sum_by_set frame_bytes m.functions f h new there);
       within = omega (arith, counts.within, keeping.within);
@@ -168,7 +169,7 @@ module _ (limit : ℕ) (p : Program) (openings : (f : ℕ) (h : Function) → sl
           each_set (λ k. HasWords k.body) m.functions f h new there had (opened_words limit m.functions had 0 h.body (used_in m.used h) (had f h there));
     }
       where
-        shallow : 0 + depth walk.statement ≤ 1024 → depth walk.statement ≤ 1024
+        shallow : 0 + depth walk.statement ≤ most_depth → depth walk.statement ≤ most_depth
         shallow le = omega (arith, le)
 
         of_function : (g : ℕ) (k : Function) → slice_get m.functions g ≡ Some k → g < p.marks

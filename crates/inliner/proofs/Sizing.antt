@@ -4,6 +4,7 @@ use Rattle.std.specs.Prelude.{nat_le, slice_get, sum_by, ◌&&◌}
 use Rattle.std.proofs.lemmas.Bool.{leb-true}
 use Rattle.std.proofs.lemmas.List.{length-map}
 use Rattle.std.proofs.lemmas.List.Sums.{sum_by-cons}
+use Rattle.wcc_base.specs.Budgets.{most_depth, most_locals, most_operations}
 use Rattle.high_ir.specs.declared.object.Base.{Base}
 use Rattle.high_ir.specs.Size.{depth, depth_all, expr_depth, expr_nodes, expr_operations, function_nodes, greatest, nodes, nodes_all, operations, operations_all}
 use Rattle.high_ir.specs.Tree.{Expr, Constant, Variable, Element, Unary, Binary, Statement, Set, Put, Get, Keep, Mark, Seq, If, Loop, Block, Leave, Call, Return, Statements, End, Then, Function}
@@ -158,9 +159,9 @@ opening_depth-anywhere s n m body = omega (arith, opening_depth s n body, openin
 -- what a call that is opened keeps to
 pub record Fitting (limit : ℕ) (used : Used) (around : ℕ) (s : Site) (h : Function) : Type 0 where
   pub nodes : function_nodes h ≤ limit
-  pub operations : used.operations + operations (opening s used.next h.body) ≤ 98304 + operations (call_of s)
-  pub bytes : used.bytes + 4 * variables h ≤ 524288
-  pub depth : around + depth (opening s used.next h.body) ≤ 1024
+  pub operations : used.operations + operations (opening s used.next h.body) ≤ most_operations + operations (call_of s)
+  pub bytes : used.bytes + 4 * variables h ≤ most_locals
+  pub depth : around + depth (opening s used.next h.body) ≤ most_depth
 
 pub first_true : (a b : Bool) → (a && b) ≡ true → a ≡ true
 first_true true b e = refl
@@ -173,24 +174,24 @@ second_true false b e = cc
 pub fitting : (limit : ℕ) (used : Used) (around : ℕ) (s : Site) (h : Function) → fits limit used around s h ≡ true → Fitting limit used around s h
 fitting limit used around s h is =
     let small = nat_le (function_nodes h) limit in
-    let few = nat_le (used.operations + operations (opening s used.next h.body)) (98304 + operations (call_of s)) in
-    let short = nat_le (used.bytes + 4 * variables h) 524288 in
-    let flat = nat_le (around + depth (opening s used.next h.body)) 1024 in
+    let few = nat_le (used.operations + operations (opening s used.next h.body)) (most_operations + operations (call_of s)) in
+    let short = nat_le (used.bytes + 4 * variables h) most_locals in
+    let flat = nat_le (around + depth (opening s used.next h.body)) most_depth in
     let second = second_true small (few && (short && flat)) is in
     let third = second_true few (short && flat) second in
     record {
       nodes = leb-true (function_nodes h) limit (first_true small (few && (short && flat)) is);
-      operations = leb-true (used.operations + operations (opening s used.next h.body)) (98304 + operations (call_of s)) (first_true few (short && flat) second);
-      bytes = leb-true (used.bytes + 4 * variables h) 524288 (first_true short flat third);
-      depth = leb-true (around + depth (opening s used.next h.body)) 1024 (second_true short flat third);
+      operations = leb-true (used.operations + operations (opening s used.next h.body)) (most_operations + operations (call_of s)) (first_true few (short && flat) second);
+      bytes = leb-true (used.bytes + 4 * variables h) most_locals (first_true short flat third);
+      depth = leb-true (around + depth (opening s used.next h.body)) most_depth (second_true short flat third);
     }
 
 -- what is used is counted exactly, and passes no budget that it had not passed before
 pub record Counts (used : Used) (size : ℕ) (w : Used) (made : ℕ) : Type 0 where
   pub operations : w.operations + size ≡ used.operations + made
-  pub within : w.operations ≤ max used.operations 98304
+  pub within : w.operations ≤ max used.operations most_operations
   pub bytes : w.bytes + 4 * used.next ≡ used.bytes + 4 * w.next
-  pub small : w.bytes ≤ max used.bytes 524288
+  pub small : w.bytes ≤ max used.bytes most_locals
 
 counts_none : (used : Used) (size : ℕ) → Counts used size used size
 counts_none used size = record { operations = refl; within = omega arith; bytes = refl; small = omega arith }
@@ -261,17 +262,17 @@ module _ (limit : ℕ) (fs : List Function) where
         counts_pair used first.used (opened_all limit fs around rest first.used).used (operations s) (operations first.statement) (operations_all rest) _ one two
 
   -- nothing gets too deep
-  if_depth : (b : Bool) (used : Used) (around : ℕ) (s : Site) (h : Function) → (b ≡ true → Fitting limit used around s h) → around + depth (call_of s) ≤ 1024 → around + depth (opened_if b used s h).statement ≤ 1024
+  if_depth : (b : Bool) (used : Used) (around : ℕ) (s : Site) (h : Function) → (b ≡ true → Fitting limit used around s h) → around + depth (call_of s) ≤ most_depth → around + depth (opened_if b used s h).statement ≤ most_depth
   if_depth false used around s h fit le = le
   if_depth true used around s h fit le = (fit refl).depth
 
-  call_depth : (used : Used) (around : ℕ) (s : Site) (o : Option Function) → around + depth (call_of s) ≤ 1024 → around + depth (at_call limit used around s o).statement ≤ 1024
+  call_depth : (used : Used) (around : ℕ) (s : Site) (o : Option Function) → around + depth (call_of s) ≤ most_depth → around + depth (at_call limit used around s o).statement ≤ most_depth
   call_depth used around s None le = le
   call_depth used around s (Some h) le =
       if_depth (fits limit used around s h) used around s h (λ e. fitting limit used around s h e) le
 
   mutual
-    pub opened_depth : (around : ℕ) (s : Statement) (used : Used) → around + depth s ≤ 1024 → around + depth (opened limit fs around s used).statement ≤ 1024
+    pub opened_depth : (around : ℕ) (s : Statement) (used : Used) → around + depth s ≤ most_depth → around + depth (opened limit fs around s used).statement ≤ most_depth
     opened_depth around (Set x e) used le = le
     opened_depth around (Put e) used le = le
     opened_depth around (Get x) used le = le
@@ -287,7 +288,7 @@ module _ (limit : ℕ) (fs : List Function) where
     opened_depth around (Call f values arrays into) used le = call_depth used around (record { function = f; values = values; arrays = arrays; into = into }) (slice_get fs f) le
     opened_depth around (Return e) used le = le
 
-    opened_depth_all : (around : ℕ) (ss : Statements) (used : Used) → around + depth_all ss ≤ 1024 → around + depth_all (opened_all limit fs around ss used).parts ≤ 1024
+    opened_depth_all : (around : ℕ) (ss : Statements) (used : Used) → around + depth_all ss ≤ most_depth → around + depth_all (opened_all limit fs around ss used).parts ≤ most_depth
     opened_depth_all around End used le = le
     opened_depth_all around (Then s rest) used le =
         let first = opened limit fs around s used in

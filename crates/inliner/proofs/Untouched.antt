@@ -1,6 +1,7 @@
 -- Either no call was opened, or what is used is within the budget of operations.
 use Rattle.std.proofs.Common.{◌≡◌, ℕ, ◌+◌, ◌-◌, ◌≤◌, ◌⊎◌, inl, inr, Bool, true, false, List, [], ◌∷◌, Option, Some, None, refl, sym, ap, ◌∙◌, subst, arith}
 use Rattle.std.specs.Prelude.{slice_get, slice_set}
+use Rattle.wcc_base.specs.Budgets.{most_operations}
 use Rattle.high_ir.specs.Tree.{Expr, Statement, Set, Put, Get, Keep, Mark, Seq, If, Loop, Block, Leave, Call, Return, Statements, End, Then, Function}
 use Rattle.inliner.specs.declared.used.Used.{Used}
 use Rattle.inliner.specs.Budgets.{fits, variables}
@@ -11,7 +12,7 @@ use Rattle.inliner.proofs.Making.{set_itself}
 use Rattle.inliner.proofs.Sizing.{Fitting, fitting}
 
 abbrev pub Few : Used → Type 0
-Few used = used.operations ≤ 98304
+Few used = used.operations ≤ most_operations
 
 module _ (limit : ℕ) (fs : List Function) where
   if_untouched : (b : Bool) (used : Used) (around : ℕ) (s : Site) (h : Function) → (b ≡ true → Fitting limit used around s h) → (opened_if b used s h ≡ walked (call_of s) used) ⊎ Few (opened_if b used s h).used

@@ -1,5 +1,6 @@
 -- What is used of the budgets of a program, and which calls may be opened with that.
 use Rattle.std.specs.Prelude.{ℕ, ◌+◌, ◌-◌, ◌*◌, nat_le, Bool, false, ◌&&◌, List, Option, Some, None, slice_get}
+use Rattle.wcc_base.specs.Budgets.{most_depth, most_locals, most_operations}
 use Rattle.high_ir.specs.Size.{depth, function_nodes, local_bytes, operations, program_operations}
 use Rattle.high_ir.specs.Tree.{Function, Program}
 use Rattle.inliner.specs.declared.used.Used.{Used}
@@ -13,9 +14,9 @@ variables h = h.values + h.locals
 abbrev pub fits : (limit : ℕ) → Used → (around : ℕ) → Site → Function → Bool
 fits limit used around s h =
     nat_le (function_nodes h) limit
-    && (nat_le (used.operations + operations (opening s used.next h.body)) (98304 + operations (call_of s))
-    && (nat_le (used.bytes + 4 * variables h) 524288
-    && nat_le (around + depth (opening s used.next h.body)) 1024))
+    && (nat_le (used.operations + operations (opening s used.next h.body)) (most_operations + operations (call_of s))
+    && (nat_le (used.bytes + 4 * variables h) most_locals
+    && nat_le (around + depth (opening s used.next h.body)) most_depth))
 
 -- a call of a function that is not there is never opened
 abbrev pub fits_any : (limit : ℕ) → Used → (around : ℕ) → Site → Option Function → Bool

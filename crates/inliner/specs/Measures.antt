@@ -23,9 +23,6 @@ within a = measure (a.nodes + 1) (a.operations + 1) (a.depth + 1)
 abbrev pub expr_measure : Expr → Measure
 expr_measure e = measure (expr_nodes e) (expr_operations e) (expr_depth e)
 
-abbrev pub statement_measure : Statement → Measure
-statement_measure s = measure (nodes s) (operations s) (depth s)
-
 -- a value that is passed is one operation more
 abbrev pub passed_measure : Expr → Measure
 passed_measure e = measure (expr_nodes e) (expr_operations e + 1) (expr_depth e)

@@ -6,10 +6,10 @@ ghost use Rattle.inliner.specs.Moving.{ended, moved, moved_all, moved_array, mov
 ghost use Rattle.inliner.specs.View.{place_of};
 
 use high_ir::expression::Expr;
+use high_ir::expressions::{binary, element, let_go_expr, unary};
 use high_ir::object::{Array, Base};
 use high_ir::statement::Statement;
-use high_parts::expressions::{binary, element, let_go_expr, unary};
-use high_parts::statements::{block, choice, let_go, loop_of};
+use high_ir::statements::{block, choice, let_go, loop_of};
 use high_renumber::numbers::sum;
 use std::alloc::Global;
 use wcc_base::Memory;

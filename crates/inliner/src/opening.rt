@@ -13,7 +13,7 @@ use high_again::statements::copied_call;
 use high_ir::expression::Expr;
 use high_ir::object::Base;
 use high_ir::statement::Statement;
-use high_parts::statements::{block, let_go};
+use high_ir::statements::{block, let_go};
 use high_renumber::numbers::offset;
 use std::alloc::Global;
 use wcc_base::Memory;

@@ -1,7 +1,7 @@
 // Whether there is a call still that may be opened, and the functions once there is none.
 ghost use Rattle.std.specs.Prelude.{◌≡◌, ◌<◌, ℕ, true, false, IfOk, slice_get};
 ghost use Rattle.high_ir.specs.Programs.{program_of};
-ghost use Rattle.high_ir.specs.View.{function_of, statement_of, statements_of};
+ghost use Rattle.high_ir.specs.View.{statement_of, statements_of};
 ghost use Rattle.inliner.specs.Budgets.{fits_any};
 ghost use Rattle.inliner.specs.Inlining.{swept};
 ghost use Rattle.inliner.specs.Sites.{any_fits, any_fits_all, any_fits_in, is_open};

@@ -1,5 +1,6 @@
 // The walk over a body, which opens the calls that fit.
 ghost use Rattle.std.specs.Prelude.{◌≡◌, ◌+◌, ◌*◌, ◌≤◌, IfOk, slice_get};
+ghost use Rattle.wcc_base.specs.Budgets.{most_locals};
 ghost use Rattle.high_ir.specs.View.{expr_of, function_of, statement_of, statements_of};
 ghost use Rattle.inliner.specs.Budgets.{fits, used_behind, variables};
 ghost use Rattle.inliner.specs.Measures.{size_into, sizes_of};
@@ -15,10 +16,10 @@ use high_again::statements::copied;
 use high_ir::Function;
 use high_ir::expression::Expr;
 use high_ir::statement::Statement;
-use high_parts::statements::{block, choice, let_go, loop_of};
+use high_ir::statements::{block, choice, let_go, loop_of};
 use high_renumber::numbers::{offset, sum};
 use std::alloc::Global;
-use wcc_base::Memory;
+use wcc_base::{MOST_DEPTH, MOST_LOCALS, MOST_OPERATIONS, Memory};
 
 /// The functions as they are now, with how large they are, and how many nodes a function may have that is put in the place
 /// of a call.
@@ -49,24 +50,26 @@ pub fn fits(
     if sizes.whole.nodes >= limit {
         return Ok(false);
     }
-    if u64::from(used.operations) + u64::from(body.operations) + 2 > 98304 + u64::from(arrays) {
+    if u64::from(used.operations) + u64::from(body.operations) + 2
+        > MOST_OPERATIONS as u64 + u64::from(arrays)
+    {
         return Ok(false);
     }
     let variables = u64::from(function.values) + u64::from(function.locals);
-    if used.bytes > 524288 {
+    if used.bytes > MOST_LOCALS {
         return Ok(false);
     }
-    if 4 * variables > 524288 - used.bytes {
+    if 4 * variables > MOST_LOCALS - used.bytes {
         return Ok(false);
     }
-    Ok(u64::from(around) + u64::from(values.depth.max(body.depth)) + 2 <= 1024)
+    Ok(u64::from(around) + u64::from(values.depth.max(body.depth)) + 2 <= MOST_DEPTH)
 }
 
 /// What is used behind an opening.
 #[tactic(auto, using(crate::proofs::Fitted::behind_operations))]
 fn used_behind(used: Used, call: &Call, function: &Function, body: Measure) -> Result<Used, Memory>
     requires body { body ≡ size_into (sizes_of (function_of function.now)) call.now.into }
-    requires bytes { used.bytes + 4 * variables (function_of function.now) ≤ 524288 }
+    requires bytes { used.bytes + 4 * variables (function_of function.now) ≤ most_locals }
     ensures { IfOk result (λ u. u ≡ used_behind used (site_of call.now) (function_of function.now)) }
 {
     let variables = u64::from(function.values) + u64::from(function.locals);

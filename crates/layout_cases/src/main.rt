@@ -24,7 +24,7 @@ use arrays::{ARRAYS, objects};
 use claims_lists::by_address;
 use image_memory::Placement;
 use layout_fitting::{lay_placed, sizes_of};
-use layout_laid::Laid;
+use layout_program::Laid;
 use low_ir::{LowReg, all_slots};
 use std::alloc::Global;
 use std::io;

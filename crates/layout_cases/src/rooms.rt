@@ -3,7 +3,6 @@ ghost use Rattle.std.specs.Prelude.{◌≡◌, ◌*◌, ◌<◌, ◌≤◌, ◌^
 ghost use Rattle.low_ir.specs.Kinds.{kind_bytes};
 ghost use Rattle.low_ir.specs.View.{block_of, function_of, object_of};
 ghost use Rattle.low_ir.specs.Placings.{assignment_of};
-ghost use Rattle.asm_items.specs.Items.{total};
 ghost use Rattle.asm_items.specs.Placings.{blocks_size};
 ghost use Rattle.asm_forms.specs.Regions.{functions_size};
 ghost use Rattle.asm_forms.specs.Shorter.{blocks_longest, functions_longest};

@@ -1,7 +1,7 @@
 // What is said of a laid program.
 use claims_lists::CodeRange;
 use code_flow_system::{Claims, LoopClaim, LoopShape, Span, Within};
-use layout_laid::Laid;
+use layout_program::Laid;
 use rv_core::Segment;
 use std::alloc::{AllocError, Global};
 

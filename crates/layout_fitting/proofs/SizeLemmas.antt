@@ -7,7 +7,7 @@ use Rattle.low_ir.specs.Places.{Placed}
 use Rattle.image_definition.specs.Sizes.{code_size, function_sizes}
 use Rattle.claims_definition.specs.declared.item.LaidItem.{LaidItem}
 use Rattle.claims_definition.specs.Movables.{movable_of}
-use Rattle.layout_kept.specs.Items.{arrays_sized, item_sizes, sized}
+use Rattle.layout_relation.specs.Items.{arrays_sized, item_sizes, sized}
 use Rattle.layout_fitting.specs.Fitted.{size_listed}
 
 -- what is listed at a number

@@ -7,9 +7,9 @@ use Rattle.low_ir.specs.Placings.{placed_of}
 use Rattle.image_frames.specs.Memories.{Placement}
 use Rattle.image_definition.specs.Sizes.{function_sizes, HasRoom, HasSizes}
 use Rattle.claims_definition.specs.Movables.{movable_of}
-use Rattle.layout_kept.specs.Items.{item_sizes, sized}
-use Rattle.layout_laid.specs.declared.laid.Laid.{Laid}
-use Rattle.layout_laid.specs.Laid.{IsLaid}
+use Rattle.layout_relation.specs.Items.{item_sizes, sized}
+use Rattle.layout_program.specs.declared.laid.Laid.{Laid}
+use Rattle.layout_program.specs.Laid.{IsLaid}
 
 abbrev pub nothing : Placement
 nothing = record { functions = []; objects = [] }

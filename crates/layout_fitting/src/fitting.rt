@@ -3,7 +3,7 @@ ghost use Rattle.std.specs.Prelude.{◌≡◌, map, IfOk};
 ghost use Rattle.low_ir.specs.Placings.{placed_of};
 ghost use Rattle.image_definition.specs.Sizes.{function_sizes};
 ghost use Rattle.claims_definition.specs.Movables.{movable_of};
-ghost use Rattle.layout_kept.specs.Items.{item_sizes, sized};
+ghost use Rattle.layout_relation.specs.Items.{item_sizes, sized};
 ghost use Rattle.layout_fitting.specs.Fitted.{AreSizes, HasListed, IsPlaced, IsUnplaced, nothing, size_listed};
 
 use claims_definition::LaidItem;

@@ -4,7 +4,7 @@
 //! nothing in the scratchpad, [`sizes_of`] takes the sizes from that layout, and by them [`lay_placed`] lays it with a placement.
 //!
 //! Proved: each has an answer exactly where the program keeps to the bounds of `image_definition`, or memory ran out; the layouts are
-//! those of `layout_laid`, and the sizes those of the functions with any placement.
+//! those of `layout_program`, and the sizes those of the functions with any placement.
 //!
 //! The crate chooses no placement.
 #![tactic(auto)]

@@ -21,8 +21,8 @@ use Rattle.asm_sound.proofs.SizeLemmas.{chosen_has_room}
 use Rattle.claims_definition.specs.ClaimLaws.{IsSettled}
 use Rattle.claims_definition.proofs.Counts.{claims_few}
 use Rattle.claims_image.specs.Images.{laid_of}
-use Rattle.layout_kept.specs.Items.{instructions_in}
-use Rattle.layout_kept.specs.Images.{AreCounted}
+use Rattle.layout_relation.specs.Items.{instructions_in}
+use Rattle.layout_relation.specs.Images.{AreCounted}
 
 -- both rows together have all functions
 rows_all : (here : ℕ → Bool) (f : ℕ) (fs : List Blocks) → row_size (λ g. not (here g)) f fs + row_size here f fs ≡ functions_size fs

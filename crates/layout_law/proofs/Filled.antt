@@ -40,8 +40,8 @@ use Rattle.claims_definition.specs.ClaimLaws.{IsSettled}
 use Rattle.claims_definition.specs.Listed.{placing, regions_of as lines_of}
 use Rattle.claims_definition.proofs.Blocks.{block_some}
 use Rattle.claims_image.specs.Images.{laid_of}
-use Rattle.layout_kept.specs.Segments.{AreFilled, IsFilled}
-use Rattle.layout_kept.specs.Items.{HasElements}
+use Rattle.layout_relation.specs.Segments.{AreFilled, IsFilled}
+use Rattle.layout_relation.specs.Items.{HasElements}
 use Rattle.image_frames.specs.Placings.{MovesItems}
 use Rattle.layout_law.proofs.Counting.{flash_row}
 use Rattle.layout_law.proofs.Lying.{InRow, function_in_row}

@@ -16,7 +16,7 @@ use Rattle.image_definition.specs.Sizes.{code_size}
 use Rattle.claims_definition.specs.Listed.{Laid}
 use Rattle.claims_image.specs.Images.{laid_of}
 use Rattle.claims_definition.specs.Movables.{Movable, array_item, arrays_from, function_item, is_local, movables_of, unless}
-use Rattle.layout_kept.specs.Items.{arrays_sized, item_sizes, sized}
+use Rattle.layout_relation.specs.Items.{arrays_sized, item_sizes, sized}
 
 module _ (pl : Placement) (p : Placed) where
   abbrev l : Laid

@@ -13,8 +13,8 @@ use Rattle.image_segments.proofs.ContentLemmas.{row_length}
 use Rattle.image_segments.specs.Segments.{Data, present, all_segments, values_in}
 use Rattle.image_frames.specs.Memories.{Placement}
 use Rattle.image_definition.specs.Images.{data_in, flash_bytes, image_in, scratchpad_bytes}
-use Rattle.layout_kept.specs.Segments.{bytes_kept}
-use Rattle.layout_kept.specs.Items.{instructions_in}
+use Rattle.layout_relation.specs.Segments.{bytes_kept}
+use Rattle.layout_relation.specs.Items.{instructions_in}
 use Rattle.image_definition.specs.Sizes.{globals_size, unless_local}
 use Rattle.image_frames.specs.Placings.{MovesItems}
 use Rattle.layout_law.proofs.Counting.{flash_length, scratchpad_length}

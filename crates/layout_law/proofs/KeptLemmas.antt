@@ -13,8 +13,8 @@ use Rattle.asm_program.specs.Frames.{Frame, frame_of, no_frame}
 use Rattle.asm_program.specs.Formed.{IsProgram}
 use Rattle.asm_program.proofs.FormedLemmas.{program}
 use Rattle.asm_program.specs.Ranges.{IsSaving, InProgram}
-use Rattle.low_places.proofs.Ways.{all_safe}
-use Rattle.low_places.proofs.Follow.{carried}
+use Rattle.register_places.proofs.Ways.{all_safe}
+use Rattle.register_places.proofs.Follow.{carried}
 use Rattle.asm_code.proofs.Registers.{placed_there}
 use Rattle.simulation_loaded.proofs.PlacedLemmas.{placed_keeps}
 use Rattle.image_frames.specs.Memories.{Placement, memory_of}
@@ -48,7 +48,7 @@ use Rattle.layout_law.proofs.Lying.{all_lie}
 use Rattle.layout_law.proofs.Taken.{all_small}
 use Rattle.claims_image.specs.Images.{HasClaims, laid_of}
 use Rattle.claims_image.proofs.Whole.{has_claims}
-use Rattle.layout_kept.specs.Kept.{IsLight, KeepsLow, Simulates}
+use Rattle.layout_relation.specs.Kept.{IsLight, KeepsLow, Simulates}
 use Rattle.layout_law.proofs.RoomLemmas.{rooms_kept, turns_same}
 
 saved_from : (fs : List Frame) (f : ℕ) → All IsSaving fs → length (slice_index_or fs f no_frame).saved ≤ 24

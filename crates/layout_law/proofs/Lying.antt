@@ -25,8 +25,8 @@ use Rattle.claims_definition.specs.Listed.{placing}
 use Rattle.claims_definition.proofs.Blocks.{count}
 use Rattle.claims_image.specs.Images.{laid_of}
 use Rattle.claims_definition.specs.Movables.{code_region}
-use Rattle.layout_kept.specs.Items.{array_region}
-use Rattle.layout_kept.specs.Images.{LieWherePlaced}
+use Rattle.layout_relation.specs.Items.{array_region}
+use Rattle.layout_relation.specs.Images.{LieWherePlaced}
 use Rattle.layout_law.proofs.Counting.{flash_row, scratchpad_row}
 
 -- n bytes lie in one of two rows, which begin at x and y

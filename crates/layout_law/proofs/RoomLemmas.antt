@@ -7,9 +7,9 @@ use Rattle.low_ir.specs.Code.{Function, Note, Low}
 use Rattle.low_ir.specs.Places.{Assignment, place_function, place_functions, placed}
 use Rattle.asm_program.specs.Functions.{PlacedFunction}
 use Rattle.low_ir.specs.Turns.{CanTurn}
-use Rattle.low_places.proofs.Rooms.{room_kept}
-use Rattle.low_places.proofs.Weights.{reach_kept, weight_kept}
-use Rattle.layout_kept.specs.Rooms.{KeepsRoom}
+use Rattle.register_places.proofs.Rooms.{room_kept}
+use Rattle.register_places.proofs.Weights.{reach_kept, weight_kept}
+use Rattle.layout_relation.specs.Rooms.{KeepsRoom}
 
 module _ (a : Assignment) where
   count_same : (k : ℕ) (fns : List (Function ℕ Note)) → length (place_functions a k fns) ≡ length fns

@@ -30,10 +30,10 @@ use Rattle.claims_definition.proofs.Blocks.{count}
 use Rattle.claims_image.specs.Images.{laid_of}
 use Rattle.claims_definition.specs.Movables.{Movable, array_item, arrays_from, code_region, function_item, is_local, movables_of, unless}
 use Rattle.claims_definition.proofs.Movables.{function_movable}
-use Rattle.layout_kept.specs.Segments.{taken_in}
-use Rattle.layout_kept.specs.Items.{array_region, scratchpad_size}
+use Rattle.layout_relation.specs.Segments.{taken_in}
+use Rattle.layout_relation.specs.Items.{array_region, scratchpad_size}
 use Rattle.image_frames.specs.Placings.{MovesItems}
-use Rattle.layout_kept.specs.Images.{AreSmall}
+use Rattle.layout_relation.specs.Images.{AreSmall}
 use Rattle.layout_law.proofs.Counting.{instructions_few, scratchpad_row}
 use Rattle.layout_law.proofs.Kept.{kept_few}
 use Rattle.layout_law.proofs.Lying.{region_is}

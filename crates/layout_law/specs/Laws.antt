@@ -9,9 +9,9 @@ use Rattle.claims_definition.specs.ClaimLaws.{IsSettled}
 use Rattle.claims_definition.specs.Listed.{regions_of}
 use Rattle.claims_image.specs.Images.{laid_of}
 use Rattle.claims_definition.specs.Movables.{movables_of}
-use Rattle.layout_kept.specs.Segments.{AreFilled}
-use Rattle.layout_kept.specs.Items.{HasElements, item_sizes, sized}
-use Rattle.layout_kept.specs.Images.{AreCounted, AreSmall, LieWherePlaced}
+use Rattle.layout_relation.specs.Segments.{AreFilled}
+use Rattle.layout_relation.specs.Items.{HasElements, item_sizes, sized}
+use Rattle.layout_relation.specs.Images.{AreCounted, AreSmall, LieWherePlaced}
 
 -- the image has a segment that isn't empty in each region that a line names
 abbrev pub RegionsAreFilled : Type 0

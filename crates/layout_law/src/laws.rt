@@ -1,6 +1,6 @@
 // What is proved, by calls with empty bodies.
 ghost use Rattle.layout_law.specs.Laws.{ClaimsAreCounted, ItemsKeepSizes, ItemsLie, RegionsAreFilled, SegmentsAreSmall};
-ghost use Rattle.layout_kept.specs.Kept.{LayoutsKeep};
+ghost use Rattle.layout_relation.specs.Kept.{LayoutsKeep};
 
 /// An image has a segment that isn't empty in each region that a line of regions names, where each array
 /// has elements (C11 6.7.6.2).

@@ -1,6 +1,6 @@
 //! What the image of a program in the low form keeps of it, with the claims on it, in one record, and how much it takes.
 //!
-//! What is kept is said in `layout_kept`, for every assignment of places and every placement: a machine that runs the image ends
+//! What is kept is said in `layout_relation`, for every assignment of places and every placement: a machine that runs the image ends
 //! as each good run of the program, keeps the claims, and visits the addresses of a mark as often as the run passes it; no
 //! claim is bad, and each load and store lies in a line of its regions, in each of which the image has a segment; loops, marks, functions and
 //! arrays lie where the lists say, and in the regions that the placement says; code takes no more than its room, and what

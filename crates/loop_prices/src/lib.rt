@@ -1,4 +1,4 @@
-//! A law on loose flows: prices over a nest of loops bound them.
+//! Weak duality for loose flows over a nest of loops: the worths of addresses bound the total of each.
 //!
 //! Of each address a worth says what is still to come from it, and of each loop what a turn adds at its header. Where
 //! each move's price, the worths of where it arrives and of all turns of the loops that it starts there are at most the

@@ -1,4 +1,4 @@
-//! How large the numbers of a search by loops get, beside those of its loose walk.
+//! Bounds on the numbers of a search by loops: each stays near that of a walk that may go everywhere.
 //!
 //! Beside each worth of the walks stands a loose one: what is still to come at most, wherever a search may not go. A worth is
 //! open, and no larger in size than the loose one, or it is blocked, and at most the loose one less the price of a block.

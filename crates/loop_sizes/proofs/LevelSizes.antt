@@ -1,5 +1,5 @@
 -- The sizes of all numbers when the loops are settled.
-use Rattle.std.proofs.Common.{◌≡◌, ◌≢◌, ℕ, zero, suc, ◌+◌, ◌-◌, ◌≤◌, ◌<◌, ◌^◌, ℤ, pos, neg_ℤ, ◌+ℤ◌, ◌-ℤ◌, ◌*ℤ◌, ◌≤ℤ◌, ◌<ℤ◌, arith, refl, sym, ap, ◌∙◌, subst, List, [], ◌∷◌, length, drop, inl, inr, Bool, true, false, cond, Option, Some, None, get_or-set_other}
+use Rattle.std.proofs.Common.{◌≡◌, ℕ, zero, suc, ◌+◌, ◌-◌, ◌≤◌, ◌<◌, ◌^◌, ℤ, pos, ◌+ℤ◌, ◌-ℤ◌, ◌≤ℤ◌, ◌<ℤ◌, arith, refl, ap, ◌∙◌, subst, List, [], ◌∷◌, length, drop, inl, inr, Bool, true, false, cond, Option, Some, None, get_or-set_other}
 use Rattle.std.specs.Prelude.{◌==◌, slice_set}
 use Rattle.std.proofs.lemmas.Int.{ints}
 use Rattle.std.proofs.lemmas.Grind.{get_or-set_at}
@@ -9,21 +9,21 @@ use Rattle.loop_walks.specs.declared.step.Step.{Step}
 use Rattle.loop_walks.specs.declared.step.Loop.{Loop}
 use Rattle.loop_walks.specs.declared.step.Pair.{Pair}
 use Rattle.loop_walks.specs.Walks.{larger, worth_at, relaxed, head_steps, body_steps}
-use Rattle.loop_walks.specs.Turns.{way_at, turn_ways, gain}
-use Rattle.loop_walks.specs.Multipliers.{first_weight, pair_of, weight_of, back_worth}
-use Rattle.loop_walks.specs.Levels.{weighed, gains, onward, Level, level_pair, raised, new_weights, new_start, level_by, levels, level_pairs, ground, settled}
-use Rattle.loop_walks.specs.Rows.{IsStep, AreSteps, Each, IsBack, IsLoopOf, AreLoops, ArePaid, HaveNone}
+use Rattle.loop_walks.specs.Turns.{gain}
+use Rattle.loop_walks.specs.Multipliers.{first_weight, weight_of, back_worth}
+use Rattle.loop_walks.specs.Levels.{weighed, gains, onward, Level, level_pair, raised, new_weights, new_start, level_by, levels, level_pairs, ground}
+use Rattle.loop_walks.specs.Rows.{IsStep, AreSteps, Each, IsBack, AreLoops, ArePaid, HaveNone}
 use Rattle.loop_walks.proofs.EachLemmas.{each_map, each_between, each_drop, steps_are}
 use Rattle.loop_walks.proofs.LargerLemmas.{larger_left}
 use Rattle.loop_walks.proofs.WalkLemmas.{relaxed-long, relaxed_grows, relaxed_pays}
 use Rattle.loop_walks.proofs.LevelLemmas.{set_other, raised-long, weighed-long, From, from_above, Before, level_before, level_paid}
 use Rattle.loop_ranges.specs.Loose.{Loose, Turn, AreLooseTurns}
-use Rattle.loop_ranges.specs.Reach.{IsNearWeight, StartBelow, BacksAbove, AreBelow, reach, IsLooseCode}
+use Rattle.loop_ranges.specs.Reach.{IsNearWeight, StartBelow, BacksAbove, AreBelow, reach}
 use Rattle.loop_ranges.proofs.WalkRanges.{weighed_before, weighed_near}
 use Rattle.loop_ranges.proofs.LevelRanges.{onward_below}
 use Rattle.loop_ranges.proofs.LevelsBelow.{level_in_below}
-use Rattle.loop_worths.specs.Sizes.{IsSmall, AreSmall, StaySmall, IsSmallLevel, AreSmallLevels, StaysSmall}
-use Rattle.loop_sizes.specs.Laws.{IsIn, IsSizedPair, AreSizedPairs, IsSizedCode, IsSized, NumbersStaySmall}
+use Rattle.loop_worths.specs.Sizes.{IsSmall, IsSmallLevel, AreSmallLevels}
+use Rattle.loop_sizes.specs.Laws.{IsIn, IsSizedPair, AreSizedPairs, NumbersStaySmall}
 use Rattle.loop_sizes.proofs.SuffixLemmas.{relaxed_suffix}
 use Rattle.loop_sizes.proofs.PairSizes.{small_is, pair_sizes, pair_small}
 use Rattle.loop_sizes.proofs.TurnSizes.{between_in, part_prices, all_prices, gain_most, gain_low, gain_turns, price_in, weighed_in, turns_small}

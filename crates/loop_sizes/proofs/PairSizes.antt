@@ -1,5 +1,5 @@
 -- The sizes of first weights and of multipliers.
-use Rattle.std.proofs.Common.{◌≡◌, ℕ, zero, suc, ◌+◌, ◌-◌, ◌*◌, ◌≤◌, ◌<◌, ◌^◌, ℤ, pos, neg_ℤ, ◌+ℤ◌, ◌-ℤ◌, ◌*ℤ◌, ◌≤ℤ◌, ◌<ℤ◌, arith, refl, sym, ap, ◌∙◌, subst, inl, inr, ◌⊎◌, Bool, true, false, cond, unsigned_abs}
+use Rattle.std.proofs.Common.{◌≡◌, ℕ, ◌+◌, ◌-◌, ◌*◌, ◌≤◌, ◌<◌, ◌^◌, ℤ, pos, neg_ℤ, ◌+ℤ◌, ◌-ℤ◌, ◌*ℤ◌, ◌≤ℤ◌, ◌<ℤ◌, arith, refl, ap, ◌∙◌, inl, inr, ◌⊎◌, Bool, true, false, cond, unsigned_abs}
 use Rattle.std.specs.Prelude.{nat_le, min}
 use Rattle.std.specs.Int.RustNames.{int_lt}
 use lib.IntN.{negsuc}
@@ -10,9 +10,9 @@ use Rattle.frac128.proofs.SignedLemmas.{mul-sub, mul-le}
 use Rattle.loop_walks.specs.declared.step.Loop.{Loop}
 use Rattle.loop_walks.specs.declared.step.Pair.{Pair}
 use Rattle.loop_walks.specs.Walks.{larger}
-use Rattle.loop_walks.specs.Multipliers.{first_weight, whole, over, least_of, pair_of, weight_of}
+use Rattle.loop_walks.specs.Multipliers.{first_weight, whole, over, least_of, pair_of}
 use Rattle.loop_walks.proofs.LargerLemmas.{larger_left, larger_least}
-use Rattle.loop_worths.specs.Sizes.{IsSmall, IsSmallPair}
+use Rattle.loop_worths.specs.Sizes.{IsSmallPair}
 use Rattle.loop_sizes.specs.Laws.{IsIn, IsSizedPair}
 
 pub small_is : (size z : ℤ) → size <ℤ pos (2 ^ 124) → IsIn size z → unsigned_abs z < 2 ^ 124

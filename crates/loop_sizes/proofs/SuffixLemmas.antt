@@ -1,18 +1,17 @@
 -- All through a walk: worths lie between those at first and those at last, and ways between a block and the loose ones.
-use Rattle.std.proofs.Common.{◌≡◌, ◌≢◌, ℕ, zero, suc, ◌+◌, ◌-◌, ◌≤◌, ◌<◌, ℤ, pos, ◌+ℤ◌, ◌≤ℤ◌, arith, refl, sym, ap, ◌∙◌, subst, List, [], ◌∷◌, length, drop, get_or, Option, Some, None, inl, inr, get_or-set_other}
-use Rattle.std.specs.Prelude.{slice_set}
+use Rattle.std.proofs.Common.{◌≡◌, ℕ, zero, suc, ◌+◌, ◌-◌, ◌≤◌, ◌<◌, ℤ, pos, ◌+ℤ◌, ◌≤ℤ◌, arith, refl, List, [], ◌∷◌, length, drop, get_or, Option, Some, None, inl, inr, get_or-set_other}
 use Rattle.std.proofs.lemmas.Int.{ints}
 use Rattle.std.proofs.lemmas.Grind.{get_or-set_at}
 use Rattle.std.proofs.lemmas.Bool.Decides.{eqb_tells, leb_tells}
 use Rattle.std.proofs.lemmas.List.{length-replicate, get_or-replicate}
-use Rattle.std.proofs.Math.ListN.{length-set, replicate, get_or-eq_default}
+use Rattle.std.proofs.Math.ListN.{replicate, get_or-eq_default}
 use Rattle.loop_walks.specs.declared.step.Step.{Step}
 use Rattle.loop_walks.specs.declared.step.Loop.{Loop}
-use Rattle.loop_walks.specs.Walks.{larger, worth_at, cost, relaxed}
+use Rattle.loop_walks.specs.Walks.{worth_at, cost, relaxed}
 use Rattle.loop_walks.specs.Turns.{greater, further, way_at, turned, with_back, turn_start}
 use Rattle.loop_walks.specs.Rows.{IsStep, Each}
-use Rattle.loop_walks.proofs.LargerLemmas.{larger_left, larger_right}
-use Rattle.loop_walks.proofs.WalkLemmas.{taken_at, taken_other, relaxed-long, within}
+use Rattle.loop_walks.proofs.LargerLemmas.{larger_left}
+use Rattle.loop_walks.proofs.WalkLemmas.{taken_at, taken_other, within}
 use Rattle.loop_walks.proofs.TurnLemmas.{turn_at, turn_other, turned-long, turn_start-long}
 
 taken_grows : (weights ws : List ℤ) (n : ℕ) (m : Step) (ms : List Step) (a : ℕ) → IsStep n m → n < length ws → worth_at (relaxed weights ws ms) a ≤ℤ worth_at (relaxed weights ws (m ∷ ms)) a

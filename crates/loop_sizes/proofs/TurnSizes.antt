@@ -1,5 +1,5 @@
 -- The sizes of all numbers of turn walks, and of the first weights.
-use Rattle.std.proofs.Common.{◌≡◌, ◌≢◌, ℕ, zero, suc, ◌+◌, ◌-◌, ◌≤◌, ◌<◌, ◌^◌, ℤ, pos, neg_ℤ, ◌+ℤ◌, ◌-ℤ◌, ◌*ℤ◌, ◌≤ℤ◌, ◌<ℤ◌, arith, refl, sym, ap, ◌∙◌, subst, List, [], ◌∷◌, length, drop, inl, inr, Option, Some, None, IfSome, All, get_or-set_other}
+use Rattle.std.proofs.Common.{◌≡◌, ℕ, ◌+◌, ◌-◌, ◌≤◌, ◌<◌, ◌^◌, ℤ, pos, ◌+ℤ◌, ◌-ℤ◌, ◌*ℤ◌, ◌≤ℤ◌, ◌<ℤ◌, arith, ◌∙◌, subst, List, [], ◌∷◌, length, drop, inl, inr, Option, Some, None, IfSome, get_or-set_other}
 use Rattle.std.specs.Prelude.{slice_set}
 use Rattle.std.proofs.lemmas.Int.{ints}
 use Rattle.std.proofs.lemmas.Grind.{get_or-set_at}
@@ -12,7 +12,7 @@ use Rattle.loop_walks.specs.Walks.{worth_at, between, range_steps}
 use Rattle.loop_walks.specs.Turns.{way_at, turned, turn_start, turn_ways, gain_by, gain}
 use Rattle.loop_walks.specs.Multipliers.{first_weight}
 use Rattle.loop_walks.specs.Levels.{weighed}
-use Rattle.loop_walks.specs.Rows.{IsStep, AreSteps, Each, IsBack, IsLoopOf, AreLoops, HaveNone}
+use Rattle.loop_walks.specs.Rows.{AreSteps, Each, IsBack, IsLoopOf, AreLoops, HaveNone}
 use Rattle.loop_walks.proofs.EachLemmas.{each_map, each_both, each_between, each_drop, steps_are}
 use Rattle.loop_walks.proofs.LargerLemmas.{larger_left}
 use Rattle.loop_walks.proofs.TurnLemmas.{turn_start-long}
@@ -21,7 +21,7 @@ use Rattle.loop_ranges.specs.Reach.{IsNearWeight, BacksAbove}
 use Rattle.loop_ranges.specs.Loose.{Loose, Turn, IsLooseTurn, AreLooseTurns}
 use Rattle.loop_ranges.proofs.NearLemmas.{near_most}
 use Rattle.loop_ranges.proofs.WalkRanges.{IsTurn, turned_near, start_near, range_turns, turn_near, weighed_before, weighed-long, weighed_near}
-use Rattle.loop_worths.specs.Sizes.{IsSmall, AreSmall, HaveSmallPrices, AreSmallWays, TurnsStaySmall, IsSmallTurn, AreSmallTurns}
+use Rattle.loop_worths.specs.Sizes.{IsSmall, HaveSmallPrices, AreSmallWays, IsSmallTurn, AreSmallTurns}
 use Rattle.loop_sizes.specs.Laws.{IsIn}
 use Rattle.loop_sizes.proofs.SuffixLemmas.{IsLeastWay, ways_least}
 use Rattle.loop_sizes.proofs.PairSizes.{small_is, first_weight_within}

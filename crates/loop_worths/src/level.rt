@@ -1,11 +1,11 @@
 // The levels of a nest.
-ghost use Rattle.std.specs.Prelude.{◌≡◌, ◌<◌, ◌≤◌, ◌-◌, length, All, IfSome, IfOk, slice_set};
-ghost use Rattle.loop_walks.specs.Walks.{worth_at, head_steps, body_steps, range_steps};
+ghost use Rattle.std.specs.Prelude.{◌≡◌, ◌<◌, ◌-◌, length, All, IfSome, IfOk, slice_set};
+ghost use Rattle.loop_walks.specs.Walks.{head_steps};
 ghost use Rattle.loop_walks.specs.Turns.{gain};
 ghost use Rattle.loop_walks.specs.Multipliers.{first_weight};
 ghost use Rattle.loop_walks.specs.Levels.{level_of, weighed, gains, ground, level_pair, raised, level_by, settled, settled_pairs};
 ghost use Rattle.loop_walks.specs.Rows.{AreSteps, AreLoops, ArePaid, AreSettled, HaveNone};
-ghost use Rattle.loop_worths.specs.Rings.{IsWalkStep, IsRing};
+ghost use Rattle.loop_worths.specs.Rings.{IsRing};
 ghost use Rattle.loop_worths.specs.Sizes.{IsSmall, AreSmall, HaveSmallPrices, IsSmallTurn, AreSmallTurns, IsSmallLevel, AreSmallLevels, StaysSmall};
 ghost use Rattle.loop_worths.specs.Outcomes.{AreLevels};
 

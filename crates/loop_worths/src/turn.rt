@@ -1,8 +1,7 @@
 // Walks to a loop's jump back.
 ghost use Rattle.std.specs.Prelude.{◌≡◌, ◌<◌, ◌≤◌, ◌-◌, ◌+ℤ◌, length, All, IfSome, IfOk, None, Some};
 ghost use Rattle.std.proofs.Math.ListN.{replicate};
-ghost use Rattle.loop_walks.specs.Turns.{greater, further, way_at, turn_taken, turned, with_back, turn_start, turn_ways, gain_by, gain};
-ghost use Rattle.loop_walks.specs.Walks.{cost, range_steps};
+ghost use Rattle.loop_walks.specs.Turns.{greater, further, way_at, turn_taken, turned, with_back, turn_ways, gain_by, gain};
 ghost use Rattle.loop_worths.specs.Rings.{IsTurnStep, IsRing};
 ghost use Rattle.loop_worths.specs.Sizes.{IsSmall, AreSmall, AreSmallWays, TurnsStaySmall, IsSmallTurn};
 

@@ -1,26 +1,14 @@
 // The arrays of a run.
 ghost use Rattle.std.specs.Prelude.{◌≡◌, Option, Some, None, IfOk, if◌then◌else◌};
 ghost use Rattle.low_ir.specs.Effects.{can_store, contents, element, is_element, with_element};
-ghost use Rattle.low_ir.specs.Kinds.{kind_number, same_kind};
 ghost use Rattle.low_ir.specs.View.{object_of};
 ghost use Rattle.low_eval.specs.First.{first_element, first_word};
 
 use low_ir::object::{Kind, Object, Storage};
+use low_parts::kinds::same_kind;
 use std::alloc::Global;
 use std::marker::Model;
 use wcc_base::Memory;
-
-fn number(kind: Kind) -> u8
-    ensures { result ≡ kind_number kind }
-{
-    match kind {
-        Kind::Unsigned8 => 0,
-        Kind::Signed8 => 1,
-        Kind::Unsigned16 => 2,
-        Kind::Signed16 => 3,
-        Kind::Word => 4,
-    }
-}
 
 fn can_store(storage: Storage) -> bool
     ensures { result ≡ can_store storage }
@@ -88,7 +76,7 @@ impl Cells {
     fn is_element(&self, kind: Kind, bytes: u32) -> bool
         ensures { result ≡ is_element kind bytes self.now }
     {
-        number(self.kind) == number(kind) && bytes % kind.bytes() == 0
+        same_kind(self.kind, kind) && bytes % kind.bytes() == 0
     }
 
     /// The word of an element, where it is there and was written.

@@ -1,5 +1,5 @@
 // Where a run stands, and its steps.
-ghost use Rattle.std.specs.Prelude.{◌≡◌, [], ◌∷◌, Some, None, map, IfOk, IfSome, if◌then◌else◌, slice_get};
+ghost use Rattle.std.specs.Prelude.{◌≡◌, [], ◌∷◌, Some, None, map, IfOk, IfSome, slice_get};
 ghost use Rattle.low_ir.specs.Code.{Jump, Store};
 ghost use Rattle.low_ir.specs.Programs.{low_of};
 ghost use Rattle.low_ir.specs.Runs.{Going, at_end, call, chosen, come_back, enter, finish, first, first_in, step, values, virtual, went_to, write_all};

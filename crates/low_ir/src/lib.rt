@@ -9,7 +9,7 @@
 //!
 //! Proved: [`Low`] keeps to `IsLow`, and [`example_is_low`] says that this can be met; in a [`LowReg`]
 //! registers that live together have different places, and [`all_slots`] gives each a slot of its own.
-//! What that is worth is the law of the crate `low_places`.
+//! What that is worth is the law of the crate `register_places`.
 //!
 //! This crate knows no tree, no address and no pass.
 #![tactic(auto)]

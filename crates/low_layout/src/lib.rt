@@ -6,7 +6,7 @@
 //! twice. The time is linear in the items, but for the calls and functions for each register.
 //!
 //! Proved: [`lay`] gives what `image_definition` and `claims_definition` define of the program over its
-//! places (`layout_laid`), wherever code and data keep to the bounds of `image_definition`, or memory ran out; and the image
+//! places (`layout_program`), wherever code and data keep to the bounds of `image_definition`, or memory ran out; and the image
 //! and its claims then keep of the program what `layout_law` says in one record. An item's size is the same under every
 //! placement, so that one layout says what another one takes.
 #![tactic(auto)]
@@ -15,4 +15,4 @@ mod laying;
 mod words;
 
 pub use laying::lay;
-pub use layout_laid::{Claimed, Laid, Lists};
+pub use layout_program::{Claimed, Laid, Lists};

@@ -3,7 +3,7 @@ use Rattle.std.proofs.Common.{◌≡◌, ℕ, List, map, ap, ◌∙◌}
 use Rattle.std.specs.Prelude.{Vec}
 use Rattle.std.specs.Global.{Global}
 use Rattle.high_ir.specs.Tree.{Program}
-use Rattle.low_constants.specs.Holding.{held_functions, held_program}
+use Rattle.pass_constant_hoisting.specs.Holding.{held_functions, held_program}
 use Rattle.low_ir.specs.Code.{Function, Low, Note}
 use Rattle.low_ir.specs.declared.low.Function as functions
 use Rattle.low_ir.specs.View.{claim_of, function_of, object_of, program}

@@ -1,7 +1,7 @@
 -- The program in the low form that a program in the high form becomes.
 use Rattle.std.specs.Prelude.{◌≡◌, ℕ, List}
 use Rattle.high_ir.specs.Tree.{Program}
-use Rattle.low_constants.specs.Holding.{held_program}
+use Rattle.pass_constant_hoisting.specs.Holding.{held_program}
 use Rattle.low_ir.specs.Code.{Low}
 use Rattle.lower_definition.specs.Programs.{lowered}
 

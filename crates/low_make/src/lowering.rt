@@ -7,8 +7,8 @@ ghost use Rattle.lower_law.specs.Programs.{KeepsProgram, SparesRegisters};
 
 use super::program::parts_of;
 use high_ir::High;
-use low_constants::{chosen, held_functions};
 use low_ir::Low;
+use pass_constant_hoisting::{chosen, held_functions};
 use std::alloc::Global;
 use wcc_base::Memory;
 

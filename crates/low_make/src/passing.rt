@@ -2,7 +2,7 @@
 ghost use Rattle.std.specs.Prelude.{◌≡◌, [], IfOk, map, replicate, reverse, slice_get, slice_index_or};
 ghost use Rattle.high_ir.specs.View.{function_of, statement_of, statements_of};
 ghost use Rattle.low_make.specs.View.{claims_of, passed_of};
-ghost use Rattle.lower_definition.specs.Calls.{Site, at_site, at_sites, by_function, by_functions, meant, none_passed, noted, passed_to, sites_of, sites_of_all};
+ghost use Rattle.lower_definition.specs.Calls.{at_site, at_sites, by_function, by_functions, meant, none_passed, noted, passed_to, sites_of, sites_of_all};
 
 use super::noting::{note, note_all};
 use high_ir::Function;

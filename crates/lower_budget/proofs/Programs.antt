@@ -5,6 +5,7 @@ use Rattle.std.proofs.lemmas.Bool.Decides.{nat_tests}
 use Rattle.std.proofs.lemmas.List.{get_or-map, length-map}
 use Rattle.std.proofs.lemmas.List.Sums.{sum_by-cons}
 use Rattle.std.proofs.lemmas.Option.{slice_get_within, get_or_from_slice_get}
+use Rattle.wcc_base.specs.Budgets.{most_operations}
 use Rattle.high_ir.specs.Formed.{IsHigh}
 use Rattle.high_ir.specs.Size.{function_nodes, operations, program_nodes, program_operations}
 use Rattle.high_ir.specs.Standing.{loops_of}
@@ -99,11 +100,11 @@ measures_nodes (h ∷ fs) =
     omega (arith, a, b, e, c)
 
 -- what pays for the code of a program: its operations, or what a program may have at most
-pub program_few : (p : Program) → sum_by (measure (is_small p)) p.functions ≤ max (program_operations p) 98304
+pub program_few : (p : Program) → sum_by (measure (is_small p)) p.functions ≤ max (program_operations p) most_operations
 unfolding is_small
 program_few p = by_test (nat_le (program_nodes p) 49152) refl
   where
-    by_test : (b : Bool) → nat_le (program_nodes p) 49152 ≡ b → sum_by (measure b) p.functions ≤ max (program_operations p) 98304
+    by_test : (b : Bool) → nat_le (program_nodes p) 49152 ≡ b → sum_by (measure b) p.functions ≤ max (program_operations p) most_operations
     by_test false e = let a = measures_few p.functions in omega (arith, a)
     by_test true e = let a = measures_nodes p.functions in let b : program_nodes p ≤ 49152 = grind (arith, nat_tests, e) in omega (arith, a, b)
 
@@ -162,7 +163,7 @@ module _ (p : Program) (is_high : IsHigh p) where
       let c = total-ones p.functions in
       omega (arith, a, b, c)
 
-  pub room_few : room (lowered p) + 8 * loops_in (lowered p).functions ≤ 16 * max (program_operations p) 98304 + 64 * length (lowered p).functions
+  pub room_few : room (lowered p) + 8 * loops_in (lowered p).functions ≤ 16 * max (program_operations p) most_operations + 64 * length (lowered p).functions
   room_few =
       let a = functions_room (order p) 0 (all_there p table (order p) there) in
       let b = distinct_less (map (measure (is_small p)) p.functions) (order p) (order_distinct p is_high) in

@@ -1,5 +1,6 @@
 -- What code costs.
 use Rattle.std.specs.Prelude.{◌≡◌, ℕ, suc, ◌+◌, ◌*◌, ◌≤◌, max, List, [], ◌∷◌, length, map, Option, Some, None, slice_get, sum_by}
+use Rattle.wcc_base.specs.Budgets.{most_operations}
 use Rattle.high_ir.specs.Formed.{IsHigh}
 use Rattle.high_ir.specs.Size.{operations, program_operations}
 use Rattle.high_ir.specs.Standing.{Bounded, loops_of, marks_of}
@@ -30,7 +31,7 @@ loops_in fns = sum_by (λ (fn : Function ℕ Note). length fn.loops) fns
 
 -- a program of few operations pays for its code by those that it might have; for each loop 8 are left
 abbrev pub RoomIsBounded : Type 0
-RoomIsBounded = (p : high.Program) → IsHigh p → room (lowered p) + 8 * loops_in (lowered p).functions ≤ 16 * max (program_operations p) 98304 + 64 * length (lowered p).functions
+RoomIsBounded = (p : high.Program) → IsHigh p → room (lowered p) + 8 * loops_in (lowered p).functions ≤ 16 * max (program_operations p) most_operations + 64 * length (lowered p).functions
 
 abbrev pub FunctionsAreFew : Type 0
 FunctionsAreFew = (p : high.Program) → IsHigh p → length (lowered p).functions ≤ length p.functions

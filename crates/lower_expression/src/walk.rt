@@ -3,7 +3,6 @@ ghost use Rattle.std.specs.Prelude.{◌≡◌, IfOk, suc};
 ghost use Rattle.high_ir.specs.View.{expr_of};
 ghost use Rattle.lower_expression.specs.Behind.{after, after_index, after_valued};
 ghost use Rattle.lower_expression.specs.View.{code_of, index_in, scope_of, shares_of, valued_of};
-ghost use Rattle.low_ir.specs.View.{operand_of};
 ghost use Rattle.lower_coder.specs.View.{coded_of};
 ghost use Rattle.lower_definition.specs.Values.{element_into, in_register, index_of, operand, value_into};
 

@@ -17,14 +17,14 @@ use Rattle.low_ir.specs.Formed.{addresses, opening}
 use Rattle.low_ir.specs.Places.{assignment, in_slots}
 use Rattle.low_ir.specs.Turns.{mark_at, marks_passed}
 use Rattle.low_ir.proofs.InSlots.{slots_assigned}
-use Rattle.low_places.proofs.Follow.{carried as placed_carried}
-use Rattle.low_places.proofs.Ways.{all_safe}
-use Rattle.low_constants.specs.Holding.{fills, held_block, held_function, held_functions, held_instr, held_program, holding, opened, words_at, words_in}
-use Rattle.low_constants.proofs.Follow.{carried}
-use Rattle.low_constants.proofs.Tables.{held_at, of_function}
-use Rattle.low_constants.proofs.Formed.{block_mark, blocks_all, code_all, fills_all, formed, length_held, mark_same}
-use Rattle.low_constants.proofs.Instructions.{addresses_held}
-use Rattle.low_constants.proofs.Costs.{loops_held, reach_held, rooms_held, spared_held, words_few}
+use Rattle.register_places.proofs.Follow.{carried as placed_carried}
+use Rattle.register_places.proofs.Ways.{all_safe}
+use Rattle.pass_constant_hoisting.specs.Holding.{fills, held_block, held_function, held_functions, held_instr, held_program, holding, opened, words_at, words_in}
+use Rattle.pass_constant_hoisting.proofs.Follow.{carried}
+use Rattle.pass_constant_hoisting.proofs.Tables.{held_at, of_function}
+use Rattle.pass_constant_hoisting.proofs.Formed.{block_mark, blocks_all, code_all, fills_all, formed, length_held, mark_same}
+use Rattle.pass_constant_hoisting.proofs.Instructions.{addresses_held}
+use Rattle.pass_constant_hoisting.proofs.Costs.{loops_held, reach_held, rooms_held, spared_held, words_few}
 use Rattle.lower_definition.specs.Values.{Scope}
 use Rattle.lower_definition.specs.Programs.{lowered, lowered_function}
 use Rattle.lower_budget.proofs.FormedPrograms.{is_low}

@@ -1,5 +1,6 @@
 -- What the low program of a program in the high form keeps of it.
 use Rattle.std.specs.Prelude.{◌≡◌, ℕ, ◌*◌, ◌+◌, ◌<◌, ◌≤◌, ◌^◌, max, List, length, map, Some, All, slice_get, sum_by}
+use Rattle.wcc_base.specs.Budgets.{most_operations}
 use Rattle.high_ir.specs.Formed.{IsHigh}
 use Rattle.high_ir.specs.Runs.{hrun}
 use Rattle.high_ir.specs.Size.{local_object_bytes, program_operations}
@@ -11,7 +12,7 @@ use Rattle.low_ir.specs.Formed.{IsLow, mark_of, opening}
 use Rattle.low_ir.specs.Places.{assignment, in_slots}
 use Rattle.low_ir.specs.Room.{reach, room, weight}
 use Rattle.low_ir.specs.Spacing.{Carries}
-use Rattle.low_constants.specs.Holding.{held_program}
+use Rattle.pass_constant_hoisting.specs.Holding.{held_program}
 use Rattle.lower_definition.specs.Objects.{object_of}
 use Rattle.lower_definition.specs.Programs.{lowered}
 use Rattle.lower_program.specs.Kept.{IsKept}
@@ -42,7 +43,7 @@ pub record KeepsProgram (p : Program) (q : Low) : Type 0 where
   pub loops : sum_by (λ (fn : Function ℕ Note). length fn.loops) q.functions ≤ p.loops
   pub marks : sum_by (λ (fn : Function ℕ Note). sum_by marks_at fn.blocks) q.functions ≤ program_operations p
   -- how many machine instructions it takes, by the operations that it has or might have, how many a run may execute, by the weight that it has or might have, and how often a run may pass a mark
-  pub room : room q ≤ 16 * max (program_operations p) 98304 + 64 * length q.functions
+  pub room : room q ≤ 16 * max (program_operations p) most_operations + 64 * length q.functions
   pub weight : weight q ≤ max (16 * high.weight p + 64) (2 ^ 48)
   pub reach : (mark : ℕ) → reach q mark ≤ high.reach p mark
 

@@ -6,7 +6,7 @@ use Rattle.std.proofs.lemmas.Bool.Decides.{nat_tests}
 use Rattle.std.proofs.lemmas.List.{append-nil}
 use Rattle.high_ir.specs.declared.object.Array.{Array}
 use Rattle.high_ir.specs.Meaning as high
-use Rattle.high_ir.specs.Meaning.{Outcome, Goes, Leaves, Returns, Bad}
+use Rattle.high_ir.specs.Meaning.{Outcome, Goes, Returns}
 use Rattle.high_ir.specs.Tree.{Expr, Element, Statement, Set, Put, Get, Keep, Mark, If, Loop, Block, Leave, Return, Statements, Then}
 use Rattle.high_ir.specs.Whole.{IsWordy}
 use Rattle.low_ir.specs.declared.run.Began.{Began}

@@ -4,7 +4,6 @@ ghost use Rattle.high_ir.specs.Tree.{Element};
 ghost use Rattle.high_ir.specs.View.{expr_of};
 ghost use Rattle.lower_expression.specs.Behind.{after};
 ghost use Rattle.lower_expression.specs.View.{code_of, scope_of, shares_of as shares_said, tested_in, valued_of};
-ghost use Rattle.high_ir.specs.Words.{kind_number};
 ghost use Rattle.low_ir.specs.View.{base_of as base_at};
 ghost use Rattle.lower_coder.specs.View.{coded_of};
 ghost use Rattle.lower_definition.specs.Objects.{scale_of};
@@ -87,18 +86,6 @@ pub fn get_code(scope: &Scope, into: u32, free: u32) -> Result<Coder, Memory>
     Ok(coder)
 }
 
-fn kind_number(kind: Kind) -> u8
-    ensures { result ≡ kind_number kind }
-{
-    match kind {
-        Kind::Unsigned8 => 0,
-        Kind::Signed8 => 1,
-        Kind::Unsigned16 => 2,
-        Kind::Signed16 => 3,
-        Kind::Word => 4,
-    }
-}
-
 /// What elements of a kind keep of a value they keep also of what it is converted from.
 fn kept_value<'a>(kind: Kind, value: &'a Expr) -> &'a Expr
     ensures { expr_of result.now ≡ kept_value kind (expr_of value.now) }
@@ -110,7 +97,7 @@ fn kept_value<'a>(kind: Kind, value: &'a Expr) -> &'a Expr
         Expr::Binary { .. } => value,
         Expr::Unary { operator, operand } => match operator {
             UnaryOperator::Convert(to) => {
-                if kind_number(*to) == kind_number(kind) {
+                if to.same_as(kind) {
                     return operand;
                 }
                 value

@@ -20,7 +20,8 @@ use Rattle.lower_definition.specs.Operators.{only, operate, negated, exponent_of
 use Rattle.lower_values.specs.Computing.{Has, Puts}
 use Rattle.lower_values.specs.Meeting.{IsBelow}
 use Rattle.lower_values.proofs.Quotients.{quotient-bias}
-use Rattle.lower_values.proofs.Words.{IsDivisor, divisor_found, sum-negated, negated_below, sum_sides, product_sides, exponent_found, product-shift, quotient-shift, remainder-mask, equal-xor, not_equal-xor, zero-less, untrue-xor, low8-mask, low16-shifts, fill8-shifts, fill16-shifts}
+use Rattle.lower_values.proofs.Words.{IsDivisor, divisor_found, sum-negated, negated_below, sum_sides, product_sides, exponent_found, product-shift, quotient-shift, remainder-mask, equal-xor, not_equal-xor, zero-less, untrue-xor}
+use Rattle.low_parts.proofs.Narrow.{low8-mask, low16-shifts, fill8-shifts, fill16-shifts}
 use Rattle.std.proofs.lemmas.Nat.{and_comm, or_comm, xor_comm}
 use Rattle.lower_values.proofs.Writing.{has_word, has_constant, has_behind, operate_behind, puts_one, puts_operate, puts_operates, puts_operates_right, set_after}
 

@@ -11,9 +11,10 @@ ghost use Rattle.plan_definition.specs.Values.{assigned, changed_in, kept_in, se
 
 use super::operating::new_value;
 use high_ir::expression::Expr;
+use high_ir::expressions::{element, let_go_expr};
 use high_ir::object::Array;
 use high_ir::statement::Statement;
-use make_pieces::expr::{Leaf, element, let_go};
+use make_pieces::expr::Leaf;
 use make_pieces::numbers::sum;
 use make_pieces::operators::convert;
 use make_pieces::{Aimed, Code, Steady, Target, Valued};
@@ -74,7 +75,7 @@ fn kept_only(slot: Slot, index: Valued, right: Valued) -> Result<Code, Memory>
             value,
         }),
         Err(memory) => {
-            let_go(value);
+            let_go_expr(value);
             Err(memory)
         }
     }
@@ -172,7 +173,7 @@ fn changed_element(
     match element(alloc, array, index.expr()) {
         Ok(old) => new_value(alloc, change.operator, change.kind, old, right),
         Err(memory) => {
-            let_go(right);
+            let_go_expr(right);
             Err(memory)
         }
     }
@@ -236,7 +237,7 @@ fn kept_from_next(code: Code, slot: Slot, index: Leaf, value: Expr) -> Result<Va
         }),
         Err(memory) => {
             code.let_go();
-            let_go(value);
+            let_go_expr(value);
             Err(memory)
         }
     }
@@ -323,7 +324,7 @@ fn updated_element(
     match index.firm(slot.free, code) {
         Ok(index) => changed_in(alloc, purpose, change, slot, index, right),
         Err(memory) => {
-            let_go(right);
+            let_go_expr(right);
             Err(memory)
         }
     }

@@ -8,7 +8,7 @@ ghost use Rattle.plan_definition.specs.Values.{chosen, chosen_by_jumps, noted};
 
 use high_ir::expression::Expr;
 use high_ir::statement::Statement;
-use make_pieces::statements::choice;
+use high_ir::statements::choice;
 use make_pieces::{Code, Valued};
 use std::alloc::Global;
 use wcc_base::Memory;

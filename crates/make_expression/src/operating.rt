@@ -7,8 +7,8 @@ ghost use Rattle.plan_definition.specs.Operators.{convert, operated};
 ghost use Rattle.plan_definition.specs.Values.{operated_on};
 
 use high_ir::expression::Expr;
+use high_ir::expressions::let_go_expr;
 use make_pieces::Valued;
-use make_pieces::expr::let_go;
 use make_pieces::operators::{convert, operated};
 use std::alloc::Global;
 use types_value::{Kind, Operator};
@@ -50,7 +50,7 @@ pub fn operate(
     match left.kept(k, code) {
         Ok(left) => operate_kept(alloc, operator, kind, left, right),
         Err(memory) => {
-            let_go(right);
+            let_go_expr(right);
             Err(memory)
         }
     }
@@ -69,7 +69,7 @@ pub fn new_value(
     match convert(alloc, kind, old) {
         Ok(old) => operated(alloc, operator, kind.is_signed(), old, right),
         Err(memory) => {
-            let_go(right);
+            let_go_expr(right);
             Err(memory)
         }
     }

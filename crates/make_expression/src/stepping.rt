@@ -11,9 +11,9 @@ ghost use Rattle.plan_definition.specs.Values.{step_operator, stepped, stepped_b
 use super::assigning::{Change, updated};
 use c_tree::expression::PostfixOperator;
 use high_ir::expression::Expr;
+use high_ir::expressions::{element, let_go_expr};
 use high_ir::object::Array;
 use high_ir::statement::Statement;
-use make_pieces::expr::{element, let_go};
 use make_pieces::numbers::sum;
 use make_pieces::operators::{convert, operated};
 use make_pieces::{Aimed, Code, Leaf, Steady, Target, Valued};
@@ -105,7 +105,7 @@ fn old_and_new(
             },
         )),
         Err(memory) => {
-            let_go(new);
+            let_go_expr(new);
             Err(memory)
         }
     }

@@ -22,7 +22,7 @@ use super::purposes::{converted, for_operand, plain, signed_for};
 use super::scope::Scope;
 use super::stepping::{Step, stepped};
 use high_ir::expression::Expr as Made;
-use make_pieces::expr::let_go;
+use high_ir::expressions::let_go_expr;
 use make_pieces::homes::{array_at, home_of, scalar_at};
 use make_pieces::numbers::{offset, sum};
 use make_pieces::{Aimed, Code, Target, Valued};
@@ -53,7 +53,7 @@ fn behind(code: Code, value: Valued) -> Result<Valued, Memory>
     match code.joined(after) {
         Ok(code) => Ok(Valued { code, value }),
         Err(memory) => {
-            let_go(value);
+            let_go_expr(value);
             Err(memory)
         }
     }

@@ -1,12 +1,12 @@
 // Code: statements, one after another.
-ghost use Rattle.std.specs.Prelude.{◌≡◌, IfOk, List};
+ghost use Rattle.std.specs.Prelude.{◌≡◌, IfOk};
 ghost use Rattle.make_pieces.specs.View.{code_of};
 ghost use Rattle.high_code.specs.Code.{alone, is_empty, joined};
 ghost use Rattle.high_ir.specs.Tree.{Block, End, Seq, Then};
 ghost use Rattle.high_ir.specs.View.{statement_of};
 
-use super::statements::{block, let_go};
 use high_ir::statement::Statement;
+use high_ir::statements::{block, let_go};
 use std::alloc::Global;
 use wcc_base::Memory;
 

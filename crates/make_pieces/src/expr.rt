@@ -1,14 +1,11 @@
-// Expressions, one operator at a time.
-ghost use Rattle.std.specs.Prelude.{◌≡◌, IfNone, IfOk, IfSome, false};
+// Leaves of expressions.
+ghost use Rattle.std.specs.Prelude.{◌≡◌, IfNone, IfSome, false};
 ghost use Rattle.high_ir.specs.Tree.{Binary, Element, Unary};
 ghost use Rattle.high_ir.specs.View.{expr_of};
 ghost use Rattle.make_pieces.specs.View.{leaf_expr};
 ghost use Rattle.plan_definition.specs.Values.{is_leaf};
 
-use high_ir::expression::{BinaryOperator, Expr, UnaryOperator};
-use high_ir::object::Array;
-use std::alloc::Global;
-use wcc_base::Memory;
+use high_ir::expression::Expr;
 
 /// A constant or a variable: what is computed without an operator, and may stand twice.
 #[derive(Clone, Copy)]
@@ -40,61 +37,4 @@ pub fn leaf_of(expr: &Expr) -> Option<Leaf>
         Expr::Unary { .. } => None,
         Expr::Binary { .. } => None,
     }
-}
-
-fn boxed(alloc: Global, expr: Expr) -> Result<Box<Expr>, Memory>
-    ensures { IfOk result (λ b. b.value ≡ expr) }
-{
-    Ok(Box::new(alloc, expr)?)
-}
-
-/// Lets go of an expression. What it is made of is let go here, once.
-pub fn let_go(expr: Expr) {
-    drop(expr);
-}
-
-pub fn unary(alloc: Global, operator: UnaryOperator, operand: Expr) -> Result<Expr, Memory>
-    ensures { IfOk result (λ e. expr_of e ≡ Unary operator (expr_of operand)) }
-{
-    Ok(Expr::Unary {
-        operator,
-        operand: boxed(alloc, operand)?,
-    })
-}
-
-pub fn binary(
-    alloc: Global,
-    operator: BinaryOperator,
-    left: Expr,
-    right: Expr,
-) -> Result<Expr, Memory>
-    ensures { IfOk result (λ e. expr_of e ≡ Binary operator (expr_of left) (expr_of right)) }
-{
-    let left = match boxed(alloc, left) {
-        Ok(left) => left,
-        Err(memory) => {
-            let_go(right);
-            return Err(memory);
-        }
-    };
-    match boxed(alloc, right) {
-        Ok(right) => Ok(Expr::Binary {
-            operator,
-            left,
-            right,
-        }),
-        Err(memory) => {
-            drop(left);
-            Err(memory)
-        }
-    }
-}
-
-pub fn element(alloc: Global, array: Array, index: Expr) -> Result<Expr, Memory>
-    ensures { IfOk result (λ e. expr_of e ≡ Element array (expr_of index)) }
-{
-    Ok(Expr::Element {
-        array,
-        index: boxed(alloc, index)?,
-    })
 }

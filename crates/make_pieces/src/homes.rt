@@ -5,8 +5,8 @@ ghost use Rattle.high_ir.specs.View.{expr_of, statement_of};
 ghost use Rattle.plan_definition.specs.Homes.{array_at, base_at, home_of, loaded, scalar_at, stored};
 
 use super::code::Code;
-use super::expr::{element, let_go};
 use high_ir::expression::Expr;
+use high_ir::expressions::element;
 use high_ir::object::{Array, Base, Kind};
 use high_ir::statement::Statement;
 use plan_definition::Home;

@@ -5,8 +5,8 @@ ghost use Rattle.high_ir.specs.Tree as trees;
 ghost use Rattle.high_ir.specs.View.{expr_of};
 ghost use Rattle.plan_definition.specs.Operators.{convert, convert_to, kind_of, operated, signed};
 
-use super::expr::{binary, unary};
 use high_ir::expression::{BinaryOperator, Expr, UnaryOperator};
+use high_ir::expressions::{binary, unary};
 use high_ir::object::Kind;
 use std::alloc::Global;
 use types_value::{Kind as Type, Operator, Sign};

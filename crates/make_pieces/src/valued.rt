@@ -1,7 +1,7 @@
 // Code, and the value that it leaves.
 ghost use Rattle.std.specs.Prelude.{◌≡◌, IfNone, IfOk, IfSome, false, true};
 ghost use Rattle.make_pieces.specs.View.{code_of, is_loose, leaf_expr, steady_of, valued_of};
-ghost use Rattle.high_code.specs.Code.{alone, joined, nothing};
+ghost use Rattle.high_code.specs.Code.{joined, nothing};
 ghost use Rattle.high_ir.specs.Tree.{Leave};
 ghost use Rattle.high_ir.specs.View.{expr_of, statement_of};
 ghost use Rattle.plan_definition.specs.Values.{finished, firm, held, jumping, kept, known, leaf, only_code, placed};
@@ -9,9 +9,10 @@ ghost use Rattle.plan_definition.specs.Values.{finished, firm, held, jumping, ke
 use super::changes::{is_changed, is_next};
 use super::code::Code;
 use super::expr::{Leaf, leaf_of};
-use super::statements::{choice, nothing};
+use super::statements::nothing;
 use high_ir::expression::Expr;
 use high_ir::statement::Statement;
+use high_ir::statements::choice;
 use plan_definition::Purpose;
 use std::alloc::Global;
 use wcc_base::Memory;

@@ -8,8 +8,8 @@ ghost use Rattle.make_statement.specs.Planned.{IsSmall, plan_said};
 
 use super::frames::frame_needed;
 use high_ir::Function;
+use high_ir::statements::let_go;
 use make_pieces::numbers::{offset, sum};
-use make_pieces::statements::let_go;
 use make_statement::{Plan, body};
 use std::alloc::Global;
 use types_tree::declaration::Param;

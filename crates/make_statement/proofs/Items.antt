@@ -8,7 +8,7 @@ use Rattle.types_tree.specs.declared.statement.Item.TheVariants as item
 use Rattle.high_ir.specs.Tree.{Statements, End, Then}
 use Rattle.high_code.specs.Code.{is_empty, joined}
 use Rattle.plan_definition.specs.Statements as plans
-use Rattle.plan_definition.specs.Statements.{all_planned, at_label, guarded, parts_planned}
+use Rattle.plan_definition.specs.Statements.{all_planned, guarded, parts_planned}
 use Rattle.make_pieces.proofs.Lists.{joined_end, joined_joined}
 use Rattle.make_statement.specs.Parts.{item_parts, labels_in}
 use Rattle.make_statement.specs.Planned.{is_label, item_planned}

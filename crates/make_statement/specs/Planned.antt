@@ -1,5 +1,5 @@
 -- The parts of statements, as the code has them.
-use Rattle.std.specs.Prelude.{ℕ, ◌≤◌, Bool, true, false, List, [], Option}
+use Rattle.std.specs.Prelude.{ℕ, ◌≤◌, Bool, true, false, Option}
 use Rattle.facts_definitions.specs.Sites.{count_exprs}
 use Rattle.facts_definitions.specs.declared.facts.Bounds.{Bounds}
 use Rattle.types_tree.specs.Tree as c
@@ -15,7 +15,7 @@ use Rattle.plan_definition.specs.declared.purpose.Purpose.TheVariants.{Value}
 use Rattle.plan_definition.specs.Homes.{home_of}
 use Rattle.plan_definition.specs.Values.{Valued, in_block, made}
 use Rattle.plan_definition.specs.Statements as plans
-use Rattle.plan_definition.specs.Statements.{continues, declared, deeper, filled, initialised, planned, stored_at}
+use Rattle.plan_definition.specs.Statements.{continues, declared, deeper, initialised, planned, stored_at}
 use Rattle.make_statement.specs.declared.exits.Exits.{Exits}
 use Rattle.make_statement.specs.declared.plan.Plan.{Plan}
 

@@ -5,9 +5,9 @@ ghost use Rattle.plan_definition.specs.Statements.{continues, ends_in_block, ite
 ghost use Rattle.make_pieces.specs.View.{code_of};
 ghost use Rattle.make_statement.specs.Planned.{item_continues};
 
+use high_ir::statements::block;
 use make_expression::is_joint;
 use make_pieces::Code;
-use make_pieces::statements::block;
 use std::alloc::Global;
 use types_tree::statement::{Item, Statement};
 use wcc_base::Memory;

@@ -11,10 +11,11 @@ ghost use Rattle.make_statement.specs.Parts.{labels_in};
 ghost use Rattle.make_statement.specs.Planned.{is_label, item_tests, label_test};
 
 use high_ir::expression::{BinaryOperator, Expr};
+use high_ir::expressions::binary;
 use high_ir::statement::Statement;
-use make_pieces::expr::binary;
+use high_ir::statements::choice;
 use make_pieces::numbers::sum;
-use make_pieces::statements::{choice, nothing};
+use make_pieces::statements::nothing;
 use make_pieces::{Code, Leaf};
 use std::alloc::Global;
 use types_tree::statement::{Item, Label};

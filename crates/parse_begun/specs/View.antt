@@ -1,7 +1,7 @@
 -- What the parser has begun, as what the machine has begun; a name is told by its number.
 use Rattle.std.specs.Prelude.{◌≡◌, ℕ, Option, Result, Ok, Err}
 use Rattle.c_tree.specs.Tree as trees
-use Rattle.c_tree.specs.Tree.{Row, Nothing, Then, NoExpr, NoItem}
+use Rattle.c_tree.specs.Tree.{Row, Nothing, NoExpr, NoItem}
 use Rattle.c_tree.specs.View.{expr_of, exprs_of, shape_of, object_of, param_of, row_of, items_of, statement_of, start_of, external_of}
 use Rattle.c_tree.specs.Size.{size, size_all, size_external, size_items, size_object, size_optional, size_param, size_row, size_shape, size_start, size_statement}
 use Rattle.c_tree.specs.Named.{named, named_all, named_shape, named_object, named_param, named_start, named_statement, named_items, named_external, map_row, map_option}
@@ -200,9 +200,6 @@ object_depth f part = (size_object (object_part_of f part)).depth
 
 abbrev pub objects_depth : Names → objects.ObjectParts → ℕ
 objects_depth f parts = (size_row size_object (objects_of f parts)).depth
-
-abbrev pub param_depth : Names → param.ParamPart → ℕ
-param_depth f part = (size_param (param_part_of f part)).depth
 
 abbrev pub params_depth : Names → params.ParamParts → ℕ
 params_depth f parts = (size_row size_param (params_of f parts)).depth

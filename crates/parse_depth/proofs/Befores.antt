@@ -3,7 +3,7 @@ use Rattle.std.proofs.Common.{ℕ, ◌+◌, ◌≤◌, max, Bool, true, false, a
 use Rattle.std.specs.Prelude.{nat_le}
 use Rattle.parse_grammar.specs.Begun.{Frames, InItems, InThen, InElse, InWhile, InDo, InFor, Braces, OfBlock, OfSwitch, OfFunction, Scope, AtFile, AmongItems, AtFor, Head, Heading, Proto, Signs, Declarator, OfObject, OfParam, Test, OfIf, OfWhile, OfDo, OfChoice, Purpose, Evaluates, Returns, Tests, Starts, Guards, Repeats, Sizes, Initialises, Lists, Labels, Stack, Base, InParen, InIndex, InCall, AfterPrefix, AfterCast, AfterJoin, AfterQuestion, AfterColon, AfterAssign}
 use Rattle.parse_grammar.specs.Depth.{frames_deep, braces_deep, scope_deep, head_deep, proto_deep, declarator_deep, test_deep, purpose_deep, stack_deep}
-use Rattle.parse_grammar.proofs.Grows.{frames_mono, braces_mono, scope_mono, head_mono, proto_mono, stack_mono}
+use Rattle.parse_grammar.proofs.Grows.{braces_mono, scope_mono, head_mono, proto_mono, stack_mono}
 use Rattle.parse_depth.specs.Before.{frames_before, braces_before, scope_before, objects_before, head_before, proto_before, declarator_before, test_before, purpose_before, stack_before, items_before, among_before}
 
 -- where two numbers are within a bound

@@ -1,8 +1,8 @@
 -- What the numbers beside the parts say of the depth before the newest part, and that it stays within a bound.
-use Rattle.std.proofs.Common.{◌≡◌, refl, sym, ap, subst, ◌∙◌, ℕ, ◌+◌, ◌≤◌, max, [], Bool, true, false, arith}
+use Rattle.std.proofs.Common.{◌≡◌, refl, ap, subst, ◌∙◌, ℕ, ◌+◌, ◌≤◌, [], Bool, true, false, arith}
 use Rattle.std.specs.Prelude.{nat_le}
 use Rattle.c_tree.specs.Spelling.{Spoken}
-use Rattle.parse_begun.specs.View.{Names, braces_of, declarator_of, frames_of, head_of, header_of, proto_of, purpose_of, scope_of, stack_of, state_of, test_of}
+use Rattle.parse_begun.specs.View.{Names, braces_of, declarator_of, frames_of, head_of, proto_of, purpose_of, scope_of, stack_of, state_of, test_of}
 use Rattle.parse_begun.specs.declared.begun.Frames as frames
 use Rattle.parse_begun.specs.declared.begun.Braces as braces
 use Rattle.parse_begun.specs.declared.begun.Scope as scopes
@@ -27,7 +27,7 @@ use Rattle.parse_begun.specs.declared.begun.AtProto.TheVariants as at_proto
 use Rattle.parse_begun.specs.Depths.{braces_depth, scope_depth, head_depth, proto_depth, stack_depth, state_depth}
 use Rattle.parse_begun.proofs.PartDepths.{both_max, shape_depth_is, parts_depth_is, objects_depth_is, params_depth_is, items_depth_is, items_depth_before_is}
 use Rattle.parse_begun.proofs.SameDepths.{both_over, braces_same, scope_same, head_same, proto_same, stack_same, state_same}
-use Rattle.parse_grammar.specs.Machine.{Moved, Goes, Stuck, step}
+use Rattle.parse_grammar.specs.Machine.{Goes, step}
 use Rattle.parse_grammar.specs.Depth.{deep}
 use Rattle.parse_grammar.proofs.Grows.{braces_mono}
 use Rattle.parse_depth.specs.Before.{frames_before, braces_before, scope_before, objects_before, head_before, proto_before, declarator_before, test_before, purpose_before, stack_before, items_before, before}

@@ -1,5 +1,5 @@
 -- No step makes what was there before its newest part deeper than what had begun.
-use Rattle.std.proofs.Common.{◌≡◌, refl, ℕ, ◌+◌, ◌≤◌, max, List, [], ◌∷◌, Bool, true, false, cond, arith}
+use Rattle.std.proofs.Common.{◌≡◌, refl, ℕ, ◌+◌, ◌≤◌, max, List, Bool, true, false, cond, arith}
 use Rattle.std.specs.Prelude.{Option, Some, None, nat_le}
 use Rattle.std.proofs.lemmas.Bool.Decides.{nat_tests}
 use Rattle.c_tree.specs.declared.token.TokenKind.TheVariants as kinds
@@ -12,13 +12,13 @@ use Rattle.c_tree.specs.Spelling.{Spoken}
 use Rattle.c_tree.specs.Formed.{place}
 use Rattle.c_tree.specs.Tree as trees
 use Rattle.c_tree.specs.declared.pragma.Pragma.{Pragma}
-use Rattle.c_tree.specs.Tree.{Row, Nothing, Then, Expr, Name, Paren, Index, Call, Postfix, Prefix, Cast, Binary, Conditional, Assign, Exprs, NoExpr, AndExpr, Shape, Scalar, Value, Absent, Object, Declared, Param, Parameter, Declaration, Objects, Prototype, ForStart, Statement, Evaluate, Return, Do, If, IfElse, While, For, Items, External}
-use Rattle.parse_grammar.specs.Begun.{Bytes, Header, Heads, Frames, InItems, InThen, InElse, InWhile, InDo, InFor, Braces, OfBlock, OfSwitch, OfFunction, Scope, AtFile, AmongItems, AtFor, Head, Heading, Proto, Signs, Declarator, OfObject, OfParam, Test, OfIf, OfWhile, OfDo, OfChoice, Purpose, Evaluates, Returns, Tests, Starts, Guards, Repeats, Sizes, Initialises, Lists, Labels, Stack, Base, InParen, InIndex, InCall, AfterPrefix, AfterCast, AfterJoin, AfterQuestion, AfterColon, AfterAssign, demand, State, Wants, Has, Opened, Typed, Called, File, Among, Begins, Stands, Closes, Bounded, Opens, Chooses, Answers, Defaults, Loops, LoopStarts, LoopTests, LoopSteps, Specified, Named, Further, Declares, Sizing, Shaped, Initial, Listed, Ended, ParamsOpen, ParamNext, ParamSpecified, ParamsDone}
+use Rattle.c_tree.specs.Tree.{Row, Nothing, Expr, Name, Postfix, Prefix, Cast, Binary, Conditional, Assign, Exprs, NoExpr, Shape, Scalar, Value, Absent, Object, Declared, Param, Parameter, ForStart, Statement, Return, Do, If, IfElse, While, For, Items, External}
+use Rattle.parse_grammar.specs.Begun.{Bytes, Heads, Frames, InItems, InThen, InElse, InWhile, InDo, InFor, Braces, OfBlock, OfSwitch, OfFunction, Scope, AtFile, AmongItems, AtFor, Head, Heading, Proto, Signs, Declarator, OfObject, OfParam, Test, OfIf, OfWhile, OfDo, OfChoice, Purpose, Evaluates, Returns, Tests, Starts, Guards, Repeats, Sizes, Initialises, Lists, Labels, Stack, Base, InParen, InIndex, InCall, AfterPrefix, AfterCast, AfterJoin, AfterQuestion, AfterColon, AfterAssign, demand, State, Wants, Has, Opened, Typed, Called, File, Among, Begins, Stands, Closes, Bounded, Opens, Chooses, Answers, Defaults, Loops, LoopStarts, LoopTests, LoopSteps, Specified, Named, Further, Declares, Sizing, Shaped, Initial, Listed, Ended, ParamsOpen, ParamNext, ParamSpecified, ParamsDone}
 use Rattle.parse_grammar.specs.Machine.{Moved, Goes, Stuck, Role, Joins, Assigns, Steps, Asks, Separates, OpensParen, ClosesParen, OpensBracket, ClosesBracket, role, reach, only_if, begin, enter, leave, go_on, opened, typed, cast_ends, called, begin_statement, begin_loop, close, label, item, among, settle, semicolon, paren, brace, colon, answers, loop_starts, loop_tests, loop_steps, file_item, first_name, specified, shaped, declares, named, further, sizing, initial, listed, param_begins, params_open, param_named, param_specified, body, params_done, object_ends, param_ends, tested, took, step, specifier_of}
-use Rattle.parse_grammar.specs.Depth.{header_deep, frames_deep, braces_deep, scope_deep, head_deep, proto_deep, declarator_deep, test_deep, purpose_deep, stack_deep, deep}
-use Rattle.parse_grammar.proofs.Grows.{frames_mono, braces_mono, scope_mono, head_mono, proto_mono, stack_mono}
-use Rattle.parse_depth.specs.Before.{frames_before, braces_before, scope_before, head_before, proto_before, declarator_before, test_before, purpose_before, stack_before, items_before, before}
-use Rattle.parse_depth.proofs.Befores.{frames_hold, braces_hold, scope_hold, head_hold, proto_hold, declarator_hold, test_hold, purpose_hold, stack_hold, arguments_hold, listed_hold, objects_hold, items_hold, among_hold, both}
+use Rattle.parse_grammar.specs.Depth.{frames_deep, braces_deep, scope_deep, head_deep, proto_deep, declarator_deep, test_deep, purpose_deep, stack_deep, deep}
+use Rattle.parse_grammar.proofs.Grows.{braces_mono, scope_mono, head_mono, proto_mono}
+use Rattle.parse_depth.specs.Before.{frames_before, stack_before, items_before, before}
+use Rattle.parse_depth.proofs.Befores.{frames_hold, braces_hold, scope_hold, head_hold, proto_hold, declarator_hold, test_hold, stack_hold, arguments_hold, listed_hold, objects_hold, items_hold, among_hold, both}
 
 -- it leads nowhere, or to a state before whose newest part stands what is at most so deep
 abbrev pub Holds : ℕ → Moved → Type 0

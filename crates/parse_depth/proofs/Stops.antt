@@ -1,5 +1,5 @@
 -- Where the newest part is no deeper than what stands beside it, nothing gets deeper; and what is beneath is within the bound too.
-use Rattle.std.proofs.Common.{◌≡◌, refl, sym, subst, ℕ, ◌+◌, ◌≤◌, ◌<◌, max, Bool, true, false, arith}
+use Rattle.std.proofs.Common.{◌≡◌, refl, subst, ℕ, ◌+◌, ◌≤◌, ◌<◌, max, Bool, true, false, arith}
 use Rattle.std.specs.Prelude.{nat_le}
 use Rattle.std.proofs.lemmas.Bool.Decides.{nat_tests}
 use Rattle.parse_begun.specs.declared.begun.Braces as braces

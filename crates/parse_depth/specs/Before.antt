@@ -4,7 +4,6 @@ use Rattle.c_tree.specs.Size.{size_all, size_row, size_shape, size_object, size_
 use Rattle.parse_grammar.specs.Begun.{Frames, InItems, InThen, InElse, InWhile, InDo, InFor, Braces, OfBlock, OfSwitch, OfFunction, Scope, AtFile, AmongItems, AtFor, Head, Heading, Proto, Signs, Declarator, OfObject, OfParam, Test, OfIf, OfWhile, OfDo, OfChoice, Purpose, Evaluates, Returns, Tests, Starts, Guards, Repeats, Sizes, Initialises, Lists, Labels, Stack, Base, InParen, InIndex, InCall, AfterPrefix, AfterCast, AfterJoin, AfterQuestion, AfterColon, AfterAssign, State, Wants, Has, Opened, Typed, Called, File, Among, Begins, Stands, Closes, Bounded, Opens, Chooses, Answers, Defaults, Loops, LoopStarts, LoopTests, LoopSteps, Specified, Named, Further, Declares, Sizing, Shaped, Initial, Listed, Ended, ParamsOpen, ParamNext, ParamSpecified, ParamsDone}
 use Rattle.parse_begun.specs.BeforeLast.{before_last}
 use Rattle.parse_grammar.specs.Depth.{braces_deep, scope_deep, head_deep, proto_deep, stack_deep}
-use Rattle.c_tree.specs.Size.{size_external}
 
 abbrev mutual
   -- the lists of items with what they stand in

@@ -1,4 +1,4 @@
-ghost use Rattle.std.specs.Prelude.{◌≡◌, ◌+◌, ◌<◌, ◌≤◌, max, IfErr, IfOk};
+ghost use Rattle.std.specs.Prelude.{◌≡◌, ◌<◌, ◌≤◌, max, IfErr, IfOk};
 ghost use Rattle.c_tree.specs.Said.{Lexeme, Plain};
 ghost use Rattle.c_tree.specs.Tree.{AndExpr, Call, NoExpr};
 ghost use Rattle.c_tree.specs.View.{expr_of, exprs_of};

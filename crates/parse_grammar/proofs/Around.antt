@@ -3,7 +3,6 @@ use Rattle.std.proofs.Common.{◌≡◌, ℕ, ◌≤◌, List, [], ◌∷◌, �
 use Rattle.std.specs.Prelude.{Option}
 use Rattle.c_tree.specs.declared.token.TokenKind.TheVariants as kinds
 use Rattle.c_tree.specs.Said as lexemes
-use Rattle.c_tree.specs.Said.{Lexeme, Plain}
 use Rattle.c_tree.specs.Formed.{level, level_of, IsSome, IsSomeRow, EachOf, AreSome, IsFormed, AreFormed, IsFormedOption, IsFormedShape, IsFormedObject, IsFormedParam, IsFormedStart, IsFormedStatement, AreFormedItems, IsFormedExternal, ends_open}
 use Rattle.c_tree.specs.Spelling.{Spoken, Mark, Kept, Agree, kept, free, free_specifier, prefix_kind, binary_kind, assign_kind, spell, spell_all, spell_row, spell_optional, spell_specifiers, spell_shape, spell_object, spell_name, spell_param, spell_pragma, spell_bound, spell_start, spell_test, spell_statement, spell_items, spell_externals}
 use Rattle.c_tree.specs.declared.pragma.Pragma.{Pragma}

@@ -4,12 +4,12 @@ use Rattle.std.specs.Prelude.{Some, None}
 use Rattle.c_tree.specs.declared.token.TokenKind.{TokenKind}
 use Rattle.c_tree.specs.declared.token.TokenKind.TheVariants as kinds
 use Rattle.c_tree.specs.Said as lexemes
-use Rattle.c_tree.specs.Said.{Lexeme, Plain}
+use Rattle.c_tree.specs.Said.{Plain}
 use Rattle.c_tree.specs.declared.expression.Specifier.TheVariants as words
 use Rattle.c_tree.specs.Formed.{place, external_place, IsFirstPlace}
 use Rattle.c_tree.specs.Spelling.{Spoken}
 use Rattle.c_tree.specs.Tree as trees
-use Rattle.c_tree.specs.Tree.{Row, Nothing, Then, Expr, Name, Paren, Index, Call, Prefix, Cast, Binary, Conditional, Assign, Exprs, NoExpr, AndExpr, Declaration, Statement, Empty, If, IfElse, While, For, Do, Items, NoItem, External}
+use Rattle.c_tree.specs.Tree.{Row, Nothing, Then, Expr, Name, Paren, Index, Call, Prefix, Cast, Binary, Conditional, Assign, NoExpr, AndExpr, Declaration, Statement, Empty, If, IfElse, While, For, Do, Items, NoItem, External}
 use Rattle.parse_grammar.specs.Begun.{Bytes, Header, Heads, Frames, InItems, InThen, InElse, InWhile, InDo, InFor, Braces, OfBlock, OfSwitch, OfFunction, Scope, AtFile, AmongItems, AtFor, Head, Heading, Proto, Signs, Declarator, OfObject, OfParam, Test, OfIf, OfWhile, OfDo, OfChoice, Purpose, Evaluates, Returns, Tests, Starts, Guards, Repeats, Sizes, Initialises, Lists, Labels, Stack, Base, InParen, InIndex, InCall, AfterPrefix, AfterCast, AfterJoin, AfterQuestion, AfterColon, AfterAssign, demand, State, Wants, Has, Opened, Typed, Called, File, Among, Begins, Stands, Closes, Bounded, Opens, Chooses, Answers, Defaults, Loops, LoopStarts, LoopTests, LoopSteps, Specified, Named, Further, Declares, Sizing, Shaped, Initial, Listed, Ended, ParamsOpen, ParamNext, ParamSpecified, ParamsDone}
 use Rattle.parse_grammar.specs.Machine.{Goes, role, reach, declared, step, after_all, leave}
 use Rattle.parse_grammar.specs.Law.{run, BeginsWith}

@@ -11,7 +11,7 @@ use Rattle.c_tree.specs.Spelling.{Spoken}
 use Rattle.c_tree.specs.Formed.{place}
 use Rattle.c_tree.specs.Tree as trees
 use Rattle.c_tree.specs.declared.pragma.Pragma.{Pragma}
-use Rattle.c_tree.specs.Tree.{Row, Nothing, Then, Expr, Name, Paren, Index, Call, Postfix, Prefix, Cast, Binary, Conditional, Assign, Exprs, NoExpr, AndExpr, Shape, Scalar, Value, Absent, Object, Declared, Param, Parameter, Declaration, Objects, Prototype, ForStart, Statement, Evaluate, Return, Do, If, IfElse, While, For, Items, External}
+use Rattle.c_tree.specs.Tree.{Row, Nothing, Expr, Name, Postfix, Prefix, Cast, Binary, Conditional, Assign, Exprs, NoExpr, Shape, Scalar, Value, Absent, Object, Declared, Param, Parameter, ForStart, Statement, Return, Do, If, IfElse, While, For, Items, External}
 use Rattle.parse_grammar.specs.Begun.{Bytes, Header, Heads, Frames, InItems, InThen, InElse, InWhile, InDo, InFor, Braces, OfBlock, OfSwitch, OfFunction, Scope, AtFile, AmongItems, AtFor, Head, Heading, Proto, Signs, Declarator, OfObject, OfParam, Test, OfIf, OfWhile, OfDo, OfChoice, Purpose, Evaluates, Returns, Tests, Starts, Guards, Repeats, Sizes, Initialises, Lists, Labels, Stack, Base, InParen, InIndex, InCall, AfterPrefix, AfterCast, AfterJoin, AfterQuestion, AfterColon, AfterAssign, demand, State, Wants, Has, Opened, Typed, Called, File, Among, Begins, Stands, Closes, Bounded, Opens, Chooses, Answers, Defaults, Loops, LoopStarts, LoopTests, LoopSteps, Specified, Named, Further, Declares, Sizing, Shaped, Initial, Listed, Ended, ParamsOpen, ParamNext, ParamSpecified, ParamsDone}
 use Rattle.parse_grammar.specs.Machine.{Moved, Goes, Stuck, Role, Joins, Assigns, Steps, Asks, Separates, OpensParen, ClosesParen, OpensBracket, ClosesBracket, role, reach, only_if, begin, enter, leave, go_on, opened, typed, cast_ends, called, begin_statement, begin_loop, close, label, item, among, settle, semicolon, paren, brace, colon, answers, loop_starts, loop_tests, loop_steps, file_item, first_name, specified, shaped, declares, named, further, sizing, initial, listed, param_begins, params_open, param_named, param_specified, body, params_done, object_ends, param_ends, tested, took, step, after_all, specifier_of}
 use Rattle.parse_grammar.specs.Depth.{header_deep, frames_deep, braces_deep, scope_deep, head_deep, proto_deep, declarator_deep, test_deep, purpose_deep, stack_deep, deep}

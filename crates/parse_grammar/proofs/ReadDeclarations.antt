@@ -5,7 +5,7 @@ use Rattle.c_tree.specs.declared.token.TokenKind.TheVariants as kinds
 use Rattle.c_tree.specs.declared.expression.Specifier.{Specifier}
 use Rattle.c_tree.specs.declared.expression.Specifier.TheVariants as specifiers
 use Rattle.c_tree.specs.Said as lexemes
-use Rattle.c_tree.specs.Said.{Lexeme, Plain}
+use Rattle.c_tree.specs.Said.{Plain}
 use Rattle.c_tree.specs.Formed.{IsSome, EachOf, IsFormedShape, IsFormedObject, IsFormedParam, IsFormedDeclaration}
 use Rattle.c_tree.specs.Spelling.{Spoken, Mark, Free, Agree, free, free_specifier, specifier_kind, spell_row, spell_specifiers, spell_shape, spell_initial, spell_object, spell_name, spell_param, spell_declaration}
 use Rattle.c_tree.specs.Tree as trees

@@ -6,7 +6,7 @@ use Rattle.c_tree.specs.Said.{Lexeme, Plain}
 use Rattle.c_tree.specs.Formed.{level, IsFormed, AreFormed, IsFormedShape, IsFormedInitial}
 use Rattle.c_tree.specs.Spelling.{Spoken, Mark, Free, Agree, free, spell, spell_all, spell_shape, spell_comma, spell_initial}
 use Rattle.c_tree.specs.Tree as trees
-use Rattle.c_tree.specs.Tree.{Row, Nothing, Then, Expr, Exprs, NoExpr, AndExpr, Shape, Scalar, Unsized, Sized, Absent, Value, Object, Declared, Param, Parameter, Declaration, Objects, Prototype}
+use Rattle.c_tree.specs.Tree.{Expr, Exprs, NoExpr, AndExpr, Shape, Scalar, Unsized, Sized, Absent, Value, Declared}
 use Rattle.parse_grammar.specs.Begun.{Bytes, Head, Declarator, OfObject, Purpose, Sizes, Initialises, Lists, limit, Base, State, Wants, Has, Declares, Sizing, Shaped, Initial, Listed, Ended}
 use Rattle.parse_grammar.specs.Machine.{Goes, role, reach, begin, step, took, shaped, declares, sizing, initial, listed}
 use Rattle.parse_grammar.proofs.Levels.{tail_within}

@@ -10,7 +10,7 @@ use Rattle.c_tree.specs.Formed.{IsSome, IsSomeRow, EachOf, AreSome, AreFormed, I
 use Rattle.c_tree.specs.Spelling.{Spoken, Mark, Kept, Free, Fits, Agree, kept, free, free_specifier, specifier_kind, spell, spell_all, spell_row, spell_optional, spell_specifiers, spell_shape, spell_name, spell_param, spell_bound, spell_start, spell_statement, spell_items, spell_externals}
 use Rattle.c_tree.specs.Tree as trees
 use Rattle.c_tree.specs.declared.pragma.Pragma.{Pragma}
-use Rattle.c_tree.specs.Tree.{Row, Nothing, Then, Expr, Exprs, NoExpr, AndExpr, Shape, Scalar, Unsized, Absent, Object, Declared, Param, Parameter, Prototype, Default, ForStart, NoStart, Statement, Block, Empty, Evaluate, Marker, If, IfElse, While, Do, For, Switch, Break, Continue, Return, Items, External, Restriction}
+use Rattle.c_tree.specs.Tree.{Row, Nothing, Then, Expr, Exprs, NoExpr, AndExpr, Shape, Scalar, Absent, Declared, Param, Parameter, Prototype, Default, ForStart, Statement, If, While, Do, For, Switch, Break, Continue, Return, External}
 use Rattle.parse_grammar.specs.Begun.{Bytes, Heads, Frames, InItems, InThen, InElse, InWhile, InDo, InFor, Braces, OfBlock, OfSwitch, OfFunction, Scope, AtFile, AmongItems, AtFor, Head, Heading, Proto, Signs, Declarator, OfObject, OfParam, Returns, Tests, Starts, Guards, Repeats, Sizes, Initialises, Lists, Stack, Base, InParen, InCall, State, Wants, Has, Opened, Typed, Called, File, Among, Begins, Stands, Closes, Bounded, Opens, Chooses, Answers, Defaults, Loops, LoopStarts, LoopTests, LoopSteps, Specified, Named, Further, Declares, Sizing, Shaped, Initial, Listed, Ended, ParamsOpen, ParamNext, ParamSpecified, ParamsDone}
 use Rattle.parse_grammar.specs.Machine.{Moved, Goes, Stuck, opened, typed, cast_ends, called, semicolon, paren, brace, colon, answers, loop_starts, loop_tests, loop_steps, file_item, first_name, specified, shaped, declares, named, further, sizing, initial, listed, param_begins, params_open, param_named, param_specified, body, params_done, object_ends, param_ends, step, after_all, specifier_of}
 use Rattle.parse_grammar.proofs.Around.{before_row, before_all, for_around, frames_around, braces_around, scope_around, head_around, proto_around, declarator_around, stack_around, around, SoundFrames, SoundScope, SoundHead, SoundProto, SoundDeclarator, SoundStack, SoundState, Implies, Keeps, spell_open, IsOpen}

@@ -1,6 +1,6 @@
 // The texts of pragmas.
-ghost use Rattle.std.specs.Prelude.{◌≡◌, ◌<◌, ◌≤◌, ◌-◌, false, drop, length, slice_range};
-ghost use Rattle.c_tree.specs.Pragmas.{before_quote, behind_hash, from_quote, pragma_text, string_text, without_return};
+ghost use Rattle.std.specs.Prelude.{◌≡◌, ◌<◌, ◌≤◌, ◌-◌, false, drop, length};
+ghost use Rattle.c_tree.specs.Pragmas.{before_quote, from_quote, pragma_text, string_text, without_return};
 
 use crate::blanks::behind_blanks;
 

@@ -1,5 +1,5 @@
 // The values of constants (C11 6.4.4.1, 6.4.4.4).
-ghost use Rattle.std.specs.Prelude.{◌≡◌, ◌<◌, ◌≤◌, ◌^◌, length};
+ghost use Rattle.std.specs.Prelude.{◌≡◌, ◌<◌, ◌≤◌, length};
 ghost use Rattle.c_tree.specs.Constants.{character, integer, integer_value, simple_escape, type_of, IsCharacter, IsInteger};
 
 use crate::digits::{base_of, digits_end, digits_start, has_l, has_u, number};

@@ -1,5 +1,5 @@
 // The names of a source, each by a number.
-ghost use Rattle.std.specs.Prelude.{◌≡◌, ◌<◌, ◌↔◌, ℕ, List, [], ◌++◌, length, IfOk, OnOk};
+ghost use Rattle.std.specs.Prelude.{◌≡◌, ◌<◌, ℕ, List, [], ◌++◌, length, IfOk, OnOk};
 ghost use Rattle.c_tree.specs.Bytes.{is_letter, is_name_byte};
 ghost use Rattle.c_tree.specs.Names.{name_of, with_name, with_names, AreDistinct};
 ghost use Rattle.c_tree.specs.Pragmas.{names_in, with_run};

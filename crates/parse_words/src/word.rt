@@ -1,8 +1,7 @@
 // The words of a source.
 ghost use Rattle.std.specs.Prelude.{◌≡◌, ◌<◌, ◌≤◌, ℕ, List, [], ◌∷◌, ◌++◌, map, length, IfOk, OnOk};
 ghost use Rattle.c_tree.specs.Names.{name_of, names_of_tokens, names_said, with_names, AreDistinct, AreNames};
-ghost use Rattle.c_tree.specs.Pragmas.{names_in, pragma_text};
-ghost use Rattle.c_tree.specs.Said as lexemes;
+ghost use Rattle.c_tree.specs.Pragmas.{names_in};
 ghost use Rattle.c_tree.specs.Said.{said, IsToken};
 ghost use Rattle.c_tree.specs.Spelling.{spoken, Spoken};
 ghost use Rattle.parse_words.specs.Lexemes.{lexeme_of, word_said};

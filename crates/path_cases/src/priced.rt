@@ -8,8 +8,8 @@ ghost use Rattle.path_cases.specs.Prices.{rest_of};
 
 use code_flow_lookup::move_cost;
 use code_flow_system::{LoopClaim, LoopShape, Part, Span, System};
-use path_amounts::flow;
 use path_cert::priced_flows_are_flows;
+use path_flow_counts::flow;
 use path_search::is_boundable;
 use path_walks::{Priced, place_of, settle_all};
 use rv_core::Costs;

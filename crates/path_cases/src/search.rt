@@ -1,5 +1,5 @@
 // What the search answers.
-ghost use Rattle.std.specs.Prelude.{◌≡◌, ◌≤◌};
+ghost use Rattle.std.specs.Prelude.{◌≤◌};
 ghost use Rattle.code_flow_system.specs.Certificates.{IsInForm};
 ghost use Rattle.code_flow_system.specs.Systems.{IsSystemOf};
 ghost use Rattle.rv_core.specs.Table.{table_of};
@@ -9,9 +9,9 @@ ghost use Rattle.path_conditions.specs.Bounding.{CanBound};
 use crate::cases::{Case, claims, image, shapes, spans};
 use crate::priced::lists_flow;
 use code_flow::system;
+use code_flow_answer::{Bounded, Kind};
 use code_flow_system::{Claims, LoopShape, Span, System};
 use dual_check::{Verdict, check};
-use path_answer::{Bounded, Kind};
 use path_fit::loops_fit;
 use path_places::systems_are_reached;
 use path_search::{bound, can_bound};

@@ -16,7 +16,6 @@ use Rattle.code_flow_system.specs.declared.shapes.LoopShape.{LoopShape}
 use Rattle.code_flow_system.specs.declared.shapes.Span.{Span}
 use Rattle.code_flow_system.specs.Moves.{destinations}
 use Rattle.code_flow_system.specs.Systems.{System}
-use Rattle.code_flow_system.specs.MoveCosts.{move_cost}
 use Rattle.code_flow_system.specs.Counts.{Amounts, amount, count, inflow}
 use Rattle.code_flow_system.specs.Flows.{IsFlow, price, value}
 use Rattle.code_flow_system.specs.Loose.{IsLoose}

@@ -1,5 +1,5 @@
 -- The certificate of the walks: each row of the checker holds of it.
-use Rattle.std.proofs.Common.{◌≡◌, ◌≢◌, ℕ, zero, ◌+◌, ◌*◌, ◌^◌, ◌<◌, ◌≤◌, ℤ, pos, neg_ℤ, ◌*ℤ◌, ◌≤ℤ◌, ◌<ℤ◌, arith, refl, sym, ap, ◌∙◌, subst, List, [], ◌∷◌, ◌++◌, length, Contains, All, Bool, true, false, cond}
+use Rattle.std.proofs.Common.{◌≡◌, ℕ, ◌+◌, ◌*◌, ◌^◌, ◌<◌, ◌≤◌, ℤ, pos, neg_ℤ, ◌*ℤ◌, ◌≤ℤ◌, ◌<ℤ◌, arith, refl, sym, ap, ◌∙◌, subst, List, [], ◌∷◌, ◌++◌, length, Contains, All, Bool, true, false, cond}
 use Rattle.std.specs.Int.RustNames.{int_lt}
 use Rattle.std.proofs.lemmas.Int.{ints}
 use Rattle.std.proofs.lemmas.Bool.Decides.{nat_tests}
@@ -7,7 +7,6 @@ use Rattle.std.proofs.lemmas.List.Elements.{All-contains, All-nil}
 use Rattle.frac128.specs.Terms.{coefficient}
 use Rattle.rv_core.specs.Table.{Table}
 use Rattle.code_flow_system.specs.declared.claims.FactClaim.{FactClaim}
-use Rattle.code_flow_system.specs.declared.cert.Part.{Part}
 use Rattle.code_flow_system.specs.declared.cert.Cert.{Cert}
 use Rattle.code_flow_system.specs.declared.cert.Mark.{Mark}
 use Rattle.code_flow_system.specs.declared.cert.Mark.TheVariants.{Greatest, Empty}
@@ -17,20 +16,18 @@ use Rattle.code_flow_system.specs.declared.shapes.Span.{Span}
 use Rattle.code_flow_system.specs.Systems.{System}
 use Rattle.code_flow_system.specs.MoveCosts.{move_cost}
 use Rattle.code_flow_system.specs.Flows.{IsFlow, value}
-use Rattle.code_flow_system.specs.Certificates.{Limit, never_limits, loop_limits, fact_limits, limits, IsSigned, IsCovered, scaled_price, potential, whole_part, listed, IsGreatest, KeepsMark, Accepts, IsPart, PartsAscend, IsSmall, FitsMark, IsInForm}
+use Rattle.code_flow_system.specs.Certificates.{Limit, never_limits, loop_limits, fact_limits, limits, IsSigned, IsCovered, scaled_price, potential, whole_part, listed, KeepsMark, Accepts, IsPart, PartsAscend, IsSmall, FitsMark, IsInForm}
 use Rattle.code_flow_system.specs.Bounds.{IsDual}
-use Rattle.loop_walks.specs.Walks.{worth_at}
-use Rattle.path_places.specs.Places.{place_of}
 use Rattle.path_places.specs.PlaceLaws.{IsReachedWhole}
 use Rattle.path_places.specs.Driver.{Prices}
-use Rattle.path_places.specs.Duals.{Values, potentials_of, final_level, final_pairs, values_of, owe_of, dual_of}
+use Rattle.path_places.specs.Duals.{Values, final_level, final_pairs, values_of, owe_of, dual_of}
 use Rattle.path_places.proofs.PotentialLemmas.{all_of, given_moves}
 use Rattle.path_places.proofs.RowLemmas.{alongside, final_priced, potential_place, walks_dual}
 use Rattle.path_flows.specs.Flows.{amounts_of, parts_of}
 use Rattle.path_flows.specs.CountLaws.{IsOpenSystem}
 use Rattle.path_flows.proofs.KeepLemmas.{all_keep}
 use Rattle.path_cert.proofs.MoveLemmas.{all_reached}
-use Rattle.path_cert.specs.Certificates.{entry_worth, mark_of, flow_for, certificate_with, costs_of, certificate_of}
+use Rattle.path_cert.specs.Certificates.{entry_worth, certificate_with, costs_of, certificate_of}
 use Rattle.path_cert.specs.Ranges.{HasRanges}
 use Rattle.path_cert.proofs.LongLemmas.{loops_long, nevers_long}
 use Rattle.path_cert.proofs.PartLemmas.{potentials_ascend, parts_ascend, parts_positive, parts_there, parts_are}

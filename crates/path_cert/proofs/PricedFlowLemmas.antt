@@ -1,7 +1,6 @@
 -- The flow of the walks at prices that are no more than the costs of moves.
-use Rattle.std.proofs.Common.{◌^◌, ℤ, pos, neg_ℤ, ◌≤ℤ◌, arith, List, Contains, All}
+use Rattle.std.proofs.Common.{◌^◌, ℤ, pos, neg_ℤ, ◌≤ℤ◌, arith, List}
 use Rattle.std.proofs.lemmas.Int.{ints}
-use Rattle.std.proofs.lemmas.List.Elements.{All-contains}
 use Rattle.rv_core.specs.Table.{Table}
 use Rattle.code_flow_system.specs.declared.moves.Move.{Move}
 use Rattle.code_flow_system.specs.declared.shapes.LoopShape.{LoopShape}

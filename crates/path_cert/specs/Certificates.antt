@@ -1,5 +1,5 @@
 -- The certificate of a system without facts, from the worths and the flow of its walks.
-use Rattle.std.specs.Prelude.{ℕ, ◌+◌, ◌^◌, ℤ, pos, neg_ℤ, List, [], ◌∷◌, length, Bool, true, false, if◌then◌else◌}
+use Rattle.std.specs.Prelude.{ℕ, ◌^◌, ℤ, pos, neg_ℤ, List, [], if◌then◌else◌}
 use Rattle.std.specs.Int.RustNames.{int_lt}
 use Rattle.rv_core.specs.Table.{Table}
 use Rattle.code_flow_system.specs.declared.cert.Part.{Part}

@@ -1,5 +1,5 @@
 -- What a search begins with, and what is found without one.
-use Rattle.std.proofs.Common.{◌≡◌, ℕ, zero, suc, ◌+◌, ◌*◌, ◌/◌, ◌≤◌, ◌^◌, ℤ, pos, ◌-ℤ◌, ◌*ℤ◌, ◌≤ℤ◌, ◌<ℤ◌, arith, refl, sym, ap, ◌∙◌, subst, List, [], ◌∷◌, length, All, unsigned_abs}
+use Rattle.std.proofs.Common.{◌≡◌, ℕ, zero, suc, ◌+◌, ◌*◌, ◌/◌, ◌≤◌, ◌^◌, ℤ, pos, ◌-ℤ◌, ◌*ℤ◌, ◌≤ℤ◌, ◌<ℤ◌, arith, refl, sym, ap, ◌∙◌, subst, List, [], ◌∷◌, length, All, unsigned_abs, Option}
 use Rattle.std.specs.Prelude.{replicate, IfSome}
 use lib.IntN.{negsuc}
 use Rattle.std.proofs.Math.IntN.{zero-*ℤ}
@@ -16,12 +16,12 @@ use Rattle.code_flow_system.specs.declared.shapes.Span.{Span}
 use Rattle.code_flow_system.specs.Systems.{System}
 use Rattle.code_flow_system.specs.Counts.{count}
 use Rattle.code_flow_system.specs.Certificates.{fact_limits, FitsSign, IsSigned, whole_part, IsInForm, Accepts}
-use Rattle.path_answer.specs.declared.bounded.Bounded.{Bounded}
-use Rattle.path_answer.specs.declared.bounded.Column.{Column}
-use Rattle.path_answer.specs.declared.bounded.Kind.{Kind}
-use Rattle.path_answer.specs.declared.bounded.Kind.TheVariants as kinds
-use Rattle.path_pivot_rounds.specs.declared.pricing.Multipliers.{Multipliers}
-use Rattle.path_pivot_rounds.specs.Rounds.{IsColumnOf}
+use Rattle.code_flow_answer.specs.declared.bounded.Bounded.{Bounded}
+use Rattle.code_flow_answer.specs.declared.bounded.Column.{Column}
+use Rattle.code_flow_answer.specs.declared.bounded.Kind.{Kind}
+use Rattle.code_flow_answer.specs.declared.bounded.Kind.TheVariants as kinds
+use Rattle.simplex_rounds.specs.declared.pricing.Multipliers.{Multipliers}
+use Rattle.simplex_rounds.specs.Rounds.{IsColumnOf}
 use Rattle.path_cert.specs.Priced.{fact_certificate, fact_low}
 use Rattle.path_conditions.specs.Bounding.{CanBound}
 use Rattle.path_search.specs.Kinds.{IsMarked}
@@ -34,7 +34,8 @@ use Rattle.path_fact_columns.specs.Adding.{AreAsked}
 use Rattle.path_fact_kinds.specs.Kinds.{HasKind, HasColumns, IsFound}
 use Rattle.path_enum.specs.declared.asking.Answered.{Answered}
 use Rattle.path_enum.specs.Marks.{found, none}
-use Rattle.path_enum.specs.Steps.{IsAccepted, IsBound, IsAnswered, IsBegun}
+use Rattle.path_enum.specs.Steps.{IsAccepted, IsBound, IsAnswered, IsBegun, IsNoLess}
+use Rattle.path_enum.specs.Least.{HasLeast, IsLeast}
 use Rattle.path_enum.proofs.StepLemmas.{worth_paid, certificate_there}
 use Rattle.path_enum.proofs.NextLemmas.{best_value}
 
@@ -60,6 +61,15 @@ module _ (t : Table) (s : System) where
     kind = subst (λ cs. HasKind t s cs b.cert b.kind) (sym e) (plain_kind b.kind b.cert m);
     columns = subst (HasColumns t s) (sym e) no_columns;
   }
+
+  pub plain_least : (ls : List LoopShape) (ps : List Span) (b : Bounded) → IsMarked b.kind b.cert.mark → IsLeast t s ls ps b
+  plain_least ls ps b m = by_kind b.kind m
+    where
+      by_kind : (k : Kind) → IsMarked k b.cert.mark → HasLeast t s ls ps b.columns b.cert k
+      by_kind kinds.Greatest h = tt
+      by_kind kinds.Empty h = tt
+      by_kind (kinds.Wide pivot) h = absurd h
+      by_kind (kinds.Spent columns pivots) h = absurd h
 
   -- ---- without a flow
 
@@ -130,12 +140,17 @@ module _ (t : Table) (s : System) (ls : List LoopShape) (ps : List Span) (is : I
         below : (x y : ℤ) → x ≡ y → y <ℤ pos (2 ^ 60) → x <ℤ pos (1 * 2 ^ 60)
         below x y e lt = omega (arith, ints)
 
+    at_most : (x y : ℤ) → x ≡ y → x ≤ℤ y
+    at_most x y e = omega (arith, ints)
+
     pub begun : IsBegun t s ls ps a
     begun =
+        let own = certificate_there t s ls ps is 1 (replicate n (pos 0)) (omega arith) none_narrow worth_below in
+        let no_less = subst (λ (u : Multipliers). IsNoLess t s ls ps (fact_certificate t s ls ps 1 (replicate n (pos 0)) (fact_low 1 (replicate n (pos 0)))) u) (sym h.multipliers) (subst (λ (o : Option Cert). IfSome o (λ d. (fact_certificate t s ls ps 1 (replicate n (pos 0)) (fact_low 1 (replicate n (pos 0)))).cycles ≤ d.cycles)) (sym own) (omega arith)) in
         let cert = h.cert ∙ certificate_there t s ls ps is 1 (replicate n (pos 0)) (omega arith) none_narrow worth_below in record {
           best = first_best a.column h.best;
           asked = subst (AreAsked t s ls ps) (sym h.multipliers) (record { scale = omega arith; narrow = none_narrow; worth = worth });
           column = h.column ∙ ap (λ (u : Multipliers). column_of t s (flow_at t s ls ps u.scale u.facts)) (sym h.multipliers);
           each = h.each;
-          bound = (fact_certificate t s ls ps 1 (replicate n (pos 0)) (fact_low 1 (replicate n (pos 0))), cert, subst (λ o. IfSome o (IsBound t s)) cert h.bound, whole_one (worth_at t s ls ps 1 (replicate n (pos 0))) worth ∙ worth_value);
+          bound = (fact_certificate t s ls ps 1 (replicate n (pos 0)) (fact_low 1 (replicate n (pos 0))), cert, subst (λ o. IfSome o (IsBound t s)) cert h.bound, at_most _ _ (whole_one (worth_at t s ls ps 1 (replicate n (pos 0))) worth ∙ worth_value), no_less);
         }

@@ -1,7 +1,9 @@
 pub mod RoundLemmas
 pub mod WeightLemmas
+pub mod LeastLemmas
 pub mod StepLemmas
 pub mod NextLemmas
 pub mod StillLemmas
 pub mod SearchLemmas
 pub mod BoundLemmas
+pub mod GuessLemmas

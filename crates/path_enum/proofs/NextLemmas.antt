@@ -15,22 +15,22 @@ use Rattle.code_flow_system.specs.Systems.{System}
 use Rattle.code_flow_system.specs.Counts.{count}
 use Rattle.code_flow_system.specs.Flows.{value}
 use Rattle.code_flow_system.specs.Certificates.{fact_limits, IsSigned}
-use Rattle.path_answer.specs.declared.bounded.Column.{Column}
-use Rattle.path_pivot_tables.specs.Rows.{entry}
-use Rattle.path_pivot_tables.proofs.RowLemmas.{Times}
-use Rattle.path_pivot_rounds.specs.declared.pricing.Multipliers.{Multipliers}
-use Rattle.path_pivot_tables.specs.declared.running.Ending.TheVariants.{Second, First}
-use Rattle.path_pivot_tables.specs.declared.table.Table.{Table as Rows}
-use Rattle.path_pivot_tables.specs.Choices.{right}
-use Rattle.path_pivot_rounds.specs.Limits.{is_narrow, all_narrow}
-use Rattle.path_pivot_rounds.specs.Multiplied.{duals, scaled, head_of, tail_of, times_all, first_multipliers, second_multipliers, are_narrow, objective_place}
-use Rattle.path_pivot_rounds.proofs.NarrowLemmas.{narrow_says, all_narrow_say}
-use Rattle.path_pivot_laws.specs.RoundLaws.{HasSign, HaveSigns, IsOptimum, IsInfeasible, column_at}
+use Rattle.code_flow_answer.specs.declared.bounded.Column.{Column}
+use Rattle.simplex_tables.specs.Rows.{entry}
+use Rattle.simplex_tables.proofs.RowLemmas.{Times}
+use Rattle.simplex_rounds.specs.declared.pricing.Multipliers.{Multipliers}
+use Rattle.simplex_tables.specs.declared.running.Ending.TheVariants.{Second, First}
+use Rattle.simplex_tables.specs.declared.table.Table.{Table as Rows}
+use Rattle.simplex_tables.specs.Choices.{right}
+use Rattle.simplex_rounds.specs.Limits.{is_narrow, all_narrow}
+use Rattle.simplex_rounds.specs.Multiplied.{duals, scaled, head_of, tail_of, times_all, first_multipliers, second_multipliers, are_narrow, objective_place}
+use Rattle.simplex_rounds.proofs.NarrowLemmas.{narrow_says, all_narrow_say}
+use Rattle.simplex_laws.specs.RoundLaws.{HasSign, HaveSigns, IsOptimum, IsInfeasible, column_at}
 use Rattle.path_cert.proofs.BestLemmas.{free_loose}
 use Rattle.path_fact_kinds.specs.Columns.{ops_of, totals_of, column_of, multiplied, IsBest}
 use Rattle.path_conditions.specs.Walking.{IsSearchable}
 use Rattle.path_fact_columns.specs.Conditions.{AreNarrow}
-use Rattle.path_fact_columns.specs.Answers.{flow_at, worth_at}
+use Rattle.path_fact_columns.specs.Answers.{certificate_at, flow_at, worth_at}
 use Rattle.path_fact_columns.specs.Adding.{AreAsked}
 use Rattle.path_fact_columns.specs.OptimumLaws.{raised_by, FirstAnswersAreBest}
 use Rattle.path_fact_columns.proofs.ScaledLemmas.{IsScaled, scaled_is, have_signs, limits_signed, both_true, duals-long}
@@ -184,6 +184,7 @@ module _ (t : Table) (s : System) (ls : List LoopShape) (ps : List Span) (is : I
           column = h.column ∙ ap (λ (u : Multipliers). column_of t s (flow_at t s ls ps u.scale u.facts)) (sym h.multipliers);
           each = h.each;
           bound = h.bound;
+          cert = subst (λ (u : Multipliers). a.cert ≡ certificate_at t s ls ps u.scale u.facts) (sym h.multipliers) h.cert;
         }
 
   -- ---- the second phase
@@ -238,4 +239,5 @@ module _ (t : Table) (s : System) (ls : List LoopShape) (ps : List Span) (is : I
           column = h.column ∙ ap (λ (u : Multipliers). column_of t s (flow_at t s ls ps u.scale u.facts)) (sym h.multipliers);
           each = h.each;
           bound = h.bound;
+          cert = subst (λ (u : Multipliers). a.cert ≡ certificate_at t s ls ps u.scale u.facts) (sym h.multipliers) h.cert;
         }

@@ -2,20 +2,20 @@
 use Rattle.std.proofs.Common.{◌≡◌, ℕ, zero, suc, ◌+◌, ◌-◌, ◌*◌, ◌≤◌, ◌^◌, arith, refl, sym, ap, subst, List, [], ◌∷◌, length, Bool, true, false, cond, Option, Some, None, length-append}
 use Rattle.wcc_base.specs.declared.compare.Compare.{Compare}
 use Rattle.wcc_base.specs.declared.compare.Compare.TheVariants.{AtMost, AtLeast, Equal}
-use Rattle.path_answer.specs.declared.bounded.Column.{Column}
-use Rattle.path_pivot_tables.specs.declared.table.Table.{Table}
-use Rattle.path_pivot_tables.specs.declared.choosing.Choice.{Choice}
-use Rattle.path_pivot_tables.specs.declared.running.Ending.TheVariants.{Second, First, NoPivots}
-use Rattle.path_pivot_tables.specs.Choices.{in_first, entering, leaving}
-use Rattle.path_pivot_tables.specs.Pivots.{pivoted}
-use Rattle.path_pivot_tables.specs.Runs.{ends, by_table, by_row, by_variable, last_of, after, pivots}
-use Rattle.path_pivot_rounds.specs.declared.starting.Side.{Side}
-use Rattle.path_pivot_rounds.specs.Starts.{sides_from, side_rows, whole_row, started, variables}
-use Rattle.path_pivot_rounds.specs.Rounds.{round_over}
-use Rattle.path_pivot_rounds.specs.Multiplied.{side_count}
-use Rattle.path_pivot_rounds.proofs.SideLemmas.{sides-long}
-use Rattle.path_pivot_laws.specs.Tables.{row_at}
-use Rattle.path_pivot_laws.proofs.PivotLemmas.{rows_long, turned_by}
+use Rattle.code_flow_answer.specs.declared.bounded.Column.{Column}
+use Rattle.simplex_tables.specs.declared.table.Table.{Table}
+use Rattle.simplex_tables.specs.declared.choosing.Choice.{Choice}
+use Rattle.simplex_tables.specs.declared.running.Ending.TheVariants.{Second, First, NoPivots}
+use Rattle.simplex_tables.specs.Choices.{in_first, entering, leaving}
+use Rattle.simplex_tables.specs.Pivots.{pivoted}
+use Rattle.simplex_tables.specs.Runs.{ends, by_table, by_row, by_variable, last_of, after, pivots}
+use Rattle.simplex_rounds.specs.declared.starting.Side.{Side}
+use Rattle.simplex_rounds.specs.Starts.{sides_from, side_rows, whole_row, started, variables}
+use Rattle.simplex_rounds.specs.Rounds.{round_over}
+use Rattle.simplex_rounds.specs.Multiplied.{side_count}
+use Rattle.simplex_rounds.proofs.SideLemmas.{sides-long}
+use Rattle.simplex_laws.specs.Tables.{row_at}
+use Rattle.simplex_laws.proofs.PivotLemmas.{rows_long, turned_by}
 use Rattle.path_enum.specs.Steps.{HasFewRows}
 
 module _ (k : ℕ) where

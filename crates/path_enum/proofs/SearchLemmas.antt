@@ -1,5 +1,5 @@
 -- How the columns of a search grow, and what it answers.
-use Rattle.std.proofs.Common.{◌≡◌, ◌≢◌, ℕ, zero, suc, ◌+◌, ◌-◌, ◌≤◌, ◌<◌, ℤ, pos, ◌≤ℤ◌, arith, refl, sym, ap, ◌∙◌, subst, List, [], ◌∷◌, ◌++◌, length, take, All, Bool, true, false, cond, inl, inr, ◌⊎◌, Option, Some, None, length-append}
+use Rattle.std.proofs.Common.{◌≡◌, ◌≢◌, ℕ, zero, suc, ◌+◌, ◌-◌, ◌≤◌, ◌<◌, pos, ◌≤ℤ◌, arith, refl, sym, ap, ◌∙◌, subst, List, [], ◌∷◌, ◌++◌, length, take, All, Bool, true, false, cond, inl, inr, ◌⊎◌, Option, Some, None, length-append}
 use Rattle.std.specs.Prelude.{nat_lt, slice_index_or, IfSome}
 use Rattle.std.proofs.lemmas.Int.{ints}
 use Rattle.std.proofs.lemmas.Bool.Decides.{nat_tests}
@@ -11,16 +11,16 @@ use Rattle.code_flow_system.specs.declared.cert.Mark.TheVariants as marks
 use Rattle.code_flow_system.specs.declared.shapes.LoopShape.{LoopShape}
 use Rattle.code_flow_system.specs.declared.shapes.Span.{Span}
 use Rattle.code_flow_system.specs.Systems.{System}
-use Rattle.path_answer.specs.declared.bounded.Column.{Column}
-use Rattle.path_answer.specs.declared.bounded.Kind.{Kind}
-use Rattle.path_answer.specs.declared.bounded.Kind.TheVariants as kinds
-use Rattle.path_pivot_rounds.specs.declared.pricing.Multipliers.{Multipliers}
-use Rattle.path_pivot_tables.specs.declared.running.Ending.{Ending}
-use Rattle.path_pivot_tables.specs.declared.running.Ended.{Ended}
-use Rattle.path_pivot_tables.specs.declared.running.Ending.TheVariants.{NoPivots}
-use Rattle.path_pivot_tables.specs.Runs.{most_pivots}
-use Rattle.path_pivot_rounds.specs.Rounds.{IsColumnOf, round_over}
-use Rattle.path_pivot_laws.specs.RoundLaws.{column_at, no_column}
+use Rattle.code_flow_answer.specs.declared.bounded.Column.{Column}
+use Rattle.code_flow_answer.specs.declared.bounded.Kind.{Kind}
+use Rattle.code_flow_answer.specs.declared.bounded.Kind.TheVariants as kinds
+use Rattle.simplex_rounds.specs.declared.pricing.Multipliers.{Multipliers}
+use Rattle.simplex_tables.specs.declared.running.Ending.{Ending}
+use Rattle.simplex_tables.specs.declared.running.Ended.{Ended}
+use Rattle.simplex_tables.specs.declared.running.Ending.TheVariants.{NoPivots}
+use Rattle.simplex_tables.specs.Runs.{most_pivots}
+use Rattle.simplex_rounds.specs.Rounds.{IsColumnOf, round_over}
+use Rattle.simplex_laws.specs.RoundLaws.{column_at, no_column}
 use Rattle.path_fact_kinds.specs.Columns.{IsBest, ops_of, column_of}
 use Rattle.path_fact_columns.specs.Adding.{AreAsked, no_multipliers, flow_of}
 use Rattle.path_enum.specs.declared.asking.Answered.{Answered}
@@ -32,7 +32,9 @@ use Rattle.path_enum.specs.declared.searching.State.{State}
 use Rattle.path_enum.specs.declared.searching.Turn.{Turn}
 use Rattle.path_enum.specs.declared.searching.Turn.TheVariants.{Ends, Goes}
 use Rattle.path_enum.specs.States.{IsGoing, IsGrown, IsWithAnother, IsTurn}
-use Rattle.path_enum.specs.Steps.{IsAccepted, IsBound, IsBegun, IsNext, IsState}
+use Rattle.path_enum.specs.Steps.{IsAccepted, IsBound, IsBegun, IsNext, IsNoLess, IsState}
+use Rattle.path_enum.specs.Least.{IsLeastOf, IsEnded}
+use Rattle.path_enum.proofs.LeastLemmas.{least_first, all_no_less, own_no_less}
 use Rattle.path_enum.proofs.RoundLemmas.{round_made}
 
 -- ---- lists with one more at the end
@@ -121,14 +123,12 @@ module _ (t : Table) (s : System) (ls : List LoopShape) (ps : List Span) where
         pivots = refl;
         most = omega arith;
         accepted = subst (IsAccepted t s) same b.2.accepted;
-        alone = subst (IsBoundAlone s (a.column ∷ [])) same (record { mark = b.2.mark; entry = b.2.entry; cycles = at_most (pos b.0.cycles) a.column.value b.3 });
+        alone = subst (IsBoundAlone s (a.column ∷ [])) same (record { mark = b.2.mark; entry = b.2.entry; cycles = b.3 });
+        none_less = one_of (IsNoLess t s ls ps c) a.multipliers (subst (λ (d : Cert). IsNoLess t s ls ps d a.multipliers) same b.4);
       }
     where
       some_same : {x y : Cert} → Some x ≡ Some y → x ≡ y
       some_same e = cc
-
-      at_most : (x y : ℤ) → x ≡ y → x ≤ℤ y
-      at_most x y e = omega (arith, ints)
 
       first_column : (i : ℕ) → i < 1 → column_at (a.column ∷ []) i ≡ column_of t s (flow_of t s ls ps (a.multipliers ∷ []) i)
       first_column zero lt = h.column
@@ -151,6 +151,12 @@ module _ (t : Table) (s : System) (ls : List LoopShape) (ps : List Span) where
     pub least_alone : (o : Option Cert) → IfSome o (IsBound t s) → IsAccepted t s (least_of least o) × IsBoundAlone s cs (least_of least o)
     least_alone None h = (state.accepted, state.alone)
     least_alone (Some c) h = lesser_alone c h
+
+    less_asked : (o : Option Cert) → All (IsNoLess t s ls ps (least_of least o)) ys
+    less_asked o = all_no_less t s ls ps least (least_of least o) ys (least_first least o) state.none_less
+
+    least_is : (zs : List Multipliers) → All (IsNoLess t s ls ps least) zs → (o : Option Cert) → IsLeastOf t s ls ps cs (least_of least o)
+    least_is zs none o = record { asked = ys; tried = zs; answers = state.answers; none_asked = less_asked o; none_tried = all_no_less t s ls ps least (least_of least o) zs (least_first least o) none }
 
     module _ (a : Answered) (e : Ending) (next : IsNext t s ls ps cs e a) (ends : (last_round os cs).ending ≡ e) (room : length cs < 200) (most : (last_round os cs).made ≤ most_pivots) where
       abbrev cs' : List Column
@@ -212,6 +218,7 @@ module _ (t : Table) (s : System) (ls : List LoopShape) (ps : List Span) where
             pivots = sym (ap (λ n. made_before os cs' (n - 1)) (one-long cs a.column) ∙ (ap (λ n. made_before os cs' n) (before (length cs)) ∙ (made_same os cs a.column (length cs) (omega arith) ∙ made_last os cs some)));
             accepted = l.0;
             alone = record { mark = l.1.mark; entry = l.1.entry; cycles = subst (λ (c : Column). pos (least_of least a.cert).cycles ≤ℤ c.value) (sym (index_left cs a.column no_column 0 some)) l.1.cycles };
+            none_less = All-append (IsNoLess t s ls ps (least_of least a.cert)) ys (a.multipliers ∷ []) (less_asked a.cert) (one_of (IsNoLess t s ls ps (least_of least a.cert)) a.multipliers (own_no_less t s ls ps least a.cert a.multipliers next.cert));
           }
         where
           before : (n : ℕ) → (n + 1) - 1 ≡ n
@@ -232,54 +239,61 @@ module _ (t : Table) (s : System) (ls : List LoopShape) (ps : List Span) where
 
     -- ---- the end of the round over the columns
 
-    module _ (r : Ended) (round : r ≡ round_over os made cs) where
+    module _ (zs : List Multipliers) (none_tried : All (IsNoLess t s ls ps least) zs) (r : Ended) (round : r ≡ round_over os made cs) where
       last : r ≡ last_round os cs
       last = round ∙ last_is os cs made state.searched.some state.pivots
 
-      pub turn_wide : (o : Option Cert) → EndsWide s cs r.ending → IfSome o (IsBound t s) → IsFound t s (found (least_of least o) (kinds.Wide r.made) cs)
+      pub turn_wide : (o : Option Cert) → EndsWide s cs r.ending → IfSome o (IsBound t s) → IsEnded t s ls ps (found (least_of least o) (kinds.Wide r.made) cs)
       turn_wide o ends bound =
-          let l = least_alone o bound in
-          found_is (least_of least o) (kinds.Wide r.made) l.0 (
-            l.1,
-            record {
-              facts = facts;
-              searched = state.searched;
-              number = ap (λ (x : Ended). x.made) last;
-              ends = subst (λ (x : Ended). EndsWide s cs x.ending) last ends;
-            },
+          let l = least_alone o bound in (
+            found_is (least_of least o) (kinds.Wide r.made) l.0 (
+              l.1,
+              record {
+                facts = facts;
+                searched = state.searched;
+                number = ap (λ (x : Ended). x.made) last;
+                ends = subst (λ (x : Ended). EndsWide s cs x.ending) last ends;
+              },
+            ),
+            least_is zs none_tried o,
           )
 
-      pub turn_spent : r.ending ≡ NoPivots → IsFound t s (found least (kinds.Spent (length cs) r.made) cs)
-      turn_spent none = found_is least (kinds.Spent (length cs) r.made) state.accepted (
-        state.alone,
-        record {
-          facts = facts;
-          searched = state.searched;
-          listed = refl;
-          made = ap (λ (x : Ended). x.made) last;
-          limit = inr (ap (λ (x : Ended). x.made) round ∙ round_made os made cs state.most (ap (λ (x : Ended). x.ending) (sym round) ∙ none));
-        },
+      pub turn_spent : r.ending ≡ NoPivots → IsEnded t s ls ps (found least (kinds.Spent (length cs) r.made) cs)
+      turn_spent none = (
+        found_is least (kinds.Spent (length cs) r.made) state.accepted (
+          state.alone,
+          record {
+            facts = facts;
+            searched = state.searched;
+            listed = refl;
+            made = ap (λ (x : Ended). x.made) last;
+            limit = inr (ap (λ (x : Ended). x.made) round ∙ round_made os made cs state.most (ap (λ (x : Ended). x.ending) (sym round) ∙ none));
+          },
+        ),
+        least_is zs none_tried None,
       )
 
-      pub turn_empty : (c : Cert) → IsAccepted t s c → c.mark ≡ marks.Empty → IsFound t s (found c kinds.Empty cs)
-      turn_empty c a m = found_is c kinds.Empty a m
+      pub turn_empty : (c : Cert) → IsAccepted t s c → c.mark ≡ marks.Empty → IsEnded t s ls ps (found c kinds.Empty cs)
+      turn_empty c a m = (found_is c kinds.Empty a m, tt)
 
-      pub turn_greatest : (c : Cert) → IsAccepted t s c → c.mark ≡ marks.Greatest → IsFound t s (found c kinds.Greatest cs)
-      turn_greatest c a m = found_is c kinds.Greatest a m
+      pub turn_greatest : (c : Cert) → IsAccepted t s c → c.mark ≡ marks.Greatest → IsEnded t s ls ps (found c kinds.Greatest cs)
+      turn_greatest c a m = (found_is c kinds.Greatest a m, tt)
 
       -- with all columns there
-      pub turn_full : (a : Answered) → IsNext t s ls ps cs r.ending a → length cs ≡ 200 → IsFound t s (found (least_of least a.cert) (kinds.Spent (length cs) r.made) cs)
+      pub turn_full : (a : Answered) → IsNext t s ls ps cs r.ending a → length cs ≡ 200 → IsEnded t s ls ps (found (least_of least a.cert) (kinds.Spent (length cs) r.made) cs)
       turn_full a next full =
-          let l = least_alone a.cert next.bound in
-          found_is (least_of least a.cert) (kinds.Spent (length cs) r.made) l.0 (
-            l.1,
-            record {
-              facts = facts;
-              searched = state.searched;
-              listed = refl;
-              made = ap (λ (x : Ended). x.made) last;
-              limit = inl (full, (a.column, subst (λ (x : Ended). Follows t s (length cs) x.ending a.column) last next.follows));
-            },
+          let l = least_alone a.cert next.bound in (
+            found_is (least_of least a.cert) (kinds.Spent (length cs) r.made) l.0 (
+              l.1,
+              record {
+                facts = facts;
+                searched = state.searched;
+                listed = refl;
+                made = ap (λ (x : Ended). x.made) last;
+                limit = inl (full, (a.column, subst (λ (x : Ended). Follows t s (length cs) x.ending a.column) last next.follows));
+              },
+            ),
+            least_is zs none_tried a.cert,
           )
 
       pub turn_grown : (a : Answered) → IsNext t s ls ps cs r.ending a → length cs ≢ 200 → r.made ≤ most_pivots → IsState t s ls ps (cs ++ a.column ∷ []) (ys ++ a.multipliers ∷ []) (least_of least a.cert) r.made
@@ -291,21 +305,25 @@ module _ (t : Table) (s : System) (ls : List LoopShape) (ps : List Span) where
 
   -- ---- states
 
-  pub began_state : (a : Answered) (g : State) → IsBegun t s ls ps a → g.columns.items ≡ a.column ∷ [] → g.asked.items ≡ a.multipliers ∷ [] → a.cert ≡ Some g.least → g.made ≡ 0 → IsGoing t s ls ps g
-  began_state a g h columns asked least count =
-      subst (λ (xs : List Column). IsState t s ls ps xs g.asked.items g.least g.made) (sym columns)
-      (subst (λ (us : List Multipliers). IsState t s ls ps (a.column ∷ []) us g.least g.made) (sym asked)
-      (subst (λ n. IsState t s ls ps (a.column ∷ []) (a.multipliers ∷ []) g.least n) (sym count) (began a g.least h least)))
+  pub began_state : (a : Answered) (g : State) (zs : List Multipliers) → IsBegun t s ls ps a → All (λ y. IfSome a.cert (λ c. IsNoLess t s ls ps c y)) zs → g.columns.items ≡ a.column ∷ [] → g.asked.items ≡ a.multipliers ∷ [] → a.cert ≡ Some g.least → g.made ≡ 0 → g.tried.items ≡ zs → IsGoing t s ls ps g
+  began_state a g zs h none columns asked least count tried = (
+    subst (λ (xs : List Column). IsState t s ls ps xs g.asked.items g.least g.made) (sym columns)
+        (subst (λ (us : List Multipliers). IsState t s ls ps (a.column ∷ []) us g.least g.made) (sym asked)
+        (subst (λ n. IsState t s ls ps (a.column ∷ []) (a.multipliers ∷ []) g.least n) (sym count) (began a g.least h least))),
+    subst (All (IsNoLess t s ls ps g.least)) (sym tried) (subst (λ (o : Option Cert). All (λ y. IfSome o (λ c. IsNoLess t s ls ps c y)) zs) least none),
+  )
 
   module _ (facts : s.claims.facts ≢ []) (g : State) (going : IsGoing t s ls ps g) (r : Ended) (round : r ≡ round_over os g.made g.columns.items) (a : Answered) (next : IsNext t s ls ps g.columns.items r.ending a) (most : r.made ≤ most_pivots) where
     grown_state : (h : State) → length g.columns.items ≢ 200 → IsGrown g a r.made h → IsGoing t s ls ps h
-    grown_state h room is =
-        subst (λ (xs : List Column). IsState t s ls ps xs h.asked.items h.least h.made) (sym is.columns)
-        (subst (λ (us : List Multipliers). IsState t s ls ps (g.columns.items ++ a.column ∷ []) us h.least h.made) (sym is.asked)
-        (subst (λ (c : Cert). IsState t s ls ps (g.columns.items ++ a.column ∷ []) (g.asked.items ++ a.multipliers ∷ []) c h.made) (sym is.least)
-        (subst (λ n. IsState t s ls ps (g.columns.items ++ a.column ∷ []) (g.asked.items ++ a.multipliers ∷ []) (least_of g.least a.cert) n) (sym is.made)
-        (turn_grown facts g.columns.items g.asked.items g.least g.made going r round a next room most))))
+    grown_state h room is = (
+      subst (λ (xs : List Column). IsState t s ls ps xs h.asked.items h.least h.made) (sym is.columns)
+          (subst (λ (us : List Multipliers). IsState t s ls ps (g.columns.items ++ a.column ∷ []) us h.least h.made) (sym is.asked)
+          (subst (λ (c : Cert). IsState t s ls ps (g.columns.items ++ a.column ∷ []) (g.asked.items ++ a.multipliers ∷ []) c h.made) (sym is.least)
+          (subst (λ n. IsState t s ls ps (g.columns.items ++ a.column ∷ []) (g.asked.items ++ a.multipliers ∷ []) (least_of g.least a.cert) n) (sym is.made)
+          (turn_grown facts g.columns.items g.asked.items g.least g.made going.0 g.tried.items going.1 r round a next room most)))),
+      subst (All (IsNoLess t s ls ps h.least)) (sym is.tried) (subst (λ (c : Cert). All (IsNoLess t s ls ps c) g.tried.items) (sym is.least) (all_no_less t s ls ps g.least (least_of g.least a.cert) g.tried.items (least_first g.least a.cert) going.1)),
+    )
 
     pub turn_another : (turn : Turn) → IsWithAnother g a r.made turn → IsTurn t s ls ps g turn
-    turn_another (Ends b) h = subst (IsFound t s) (sym h.1) (turn_full facts g.columns.items g.asked.items g.least g.made going r round a next h.0)
+    turn_another (Ends b) h = subst (IsEnded t s ls ps) (sym h.1) (turn_full facts g.columns.items g.asked.items g.least g.made going.0 g.tried.items going.1 r round a next h.0)
     turn_another (Goes x) h = (grown_state x h.0 h.1, (let l = ap length h.1.columns in let n = one-long g.columns.items a.column in omega (arith, l, n)))

@@ -20,7 +20,7 @@ use Rattle.code_flow_system.specs.Certificates.{fact_limits, listed, potential, 
 use Rattle.path_places.proofs.RowLemmas.{potential_place}
 use Rattle.path_ranges.proofs.TotalLemmas.{leaves, count-total, total_least}
 use Rattle.path_ranges.proofs.PartLemmas.{same_least}
-use Rattle.path_pivot_rounds.specs.Rounds.{IsColumnOf}
+use Rattle.simplex_rounds.specs.Rounds.{IsColumnOf}
 use Rattle.path_cert.specs.Priced.{fact_prices, fact_certificate, fact_low}
 use Rattle.path_conditions.specs.Natural.{AreNatural, IsNaturalFact, both_totals}
 use Rattle.path_cert.proofs.PricedLemmas.{prices_pay}

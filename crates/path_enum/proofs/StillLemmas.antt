@@ -11,18 +11,18 @@ use Rattle.code_flow_system.specs.declared.cert.Mark.TheVariants as marks
 use Rattle.code_flow_system.specs.declared.shapes.LoopShape.{LoopShape}
 use Rattle.code_flow_system.specs.declared.shapes.Span.{Span}
 use Rattle.code_flow_system.specs.Systems.{System}
-use Rattle.path_answer.specs.declared.bounded.Column.{Column}
-use Rattle.path_pivot_tables.specs.Rows.{entry}
-use Rattle.path_pivot_tables.specs.declared.table.Table.{Table as Rows}
-use Rattle.path_pivot_tables.specs.declared.running.Ending.TheVariants.{Second}
-use Rattle.path_pivot_tables.specs.Choices.{right}
-use Rattle.path_pivot_tables.specs.Shapes.{IsShaped}
-use Rattle.path_pivot_rounds.specs.declared.pricing.Multipliers.{Multipliers}
-use Rattle.path_pivot_rounds.specs.declared.weighing.Weight.{Weight}
-use Rattle.path_pivot_rounds.specs.Limits.{is_narrow}
-use Rattle.path_pivot_rounds.specs.Multiplied.{objective_place, second_multipliers, are_narrow}
-use Rattle.path_pivot_rounds.specs.Weighted.{weights_of, numerator}
-use Rattle.path_pivot_laws.specs.RoundLaws.{IsOptimum}
+use Rattle.code_flow_answer.specs.declared.bounded.Column.{Column}
+use Rattle.simplex_tables.specs.Rows.{entry}
+use Rattle.simplex_tables.specs.declared.table.Table.{Table as Rows}
+use Rattle.simplex_tables.specs.declared.running.Ending.TheVariants.{Second}
+use Rattle.simplex_tables.specs.Choices.{right}
+use Rattle.simplex_tables.specs.Shapes.{IsShaped}
+use Rattle.simplex_rounds.specs.declared.pricing.Multipliers.{Multipliers}
+use Rattle.simplex_rounds.specs.declared.weighing.Weight.{Weight}
+use Rattle.simplex_rounds.specs.Limits.{is_narrow}
+use Rattle.simplex_rounds.specs.Multiplied.{objective_place, second_multipliers, are_narrow}
+use Rattle.simplex_rounds.specs.Weighted.{weights_of, numerator}
+use Rattle.simplex_laws.specs.RoundLaws.{IsOptimum}
 use Rattle.path_cert.specs.Priced.{fact_certificate, fact_low}
 use Rattle.path_conditions.specs.Walking.{IsSearchable}
 use Rattle.path_fact_kinds.specs.Columns.{ops_of}

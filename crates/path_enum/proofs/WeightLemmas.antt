@@ -4,13 +4,13 @@ use Rattle.std.specs.Prelude.{slice_index_or}
 use Rattle.std.specs.Int.{◌∣◌}
 use Rattle.std.proofs.lemmas.Nat.Gcd.{le_of_dvd}
 use Rattle.std.proofs.lemmas.List.Elements.{All-weaker}
-use Rattle.path_pivot_tables.specs.Rows.{Row, entry}
-use Rattle.path_pivot_tables.specs.Choices.{right}
-use Rattle.path_pivot_rounds.specs.declared.weighing.Weight.{Weight}
-use Rattle.path_pivot_rounds.specs.Limits.{is_narrow}
-use Rattle.path_pivot_rounds.specs.Weighted.{lowest, holds_weight, weights_of, denominator, numerator}
-use Rattle.path_pivot_rounds.proofs.NarrowLemmas.{narrow_says}
-use Rattle.path_pivot_rounds.proofs.Multiples.{denominator_is}
+use Rattle.simplex_tables.specs.Rows.{Row, entry}
+use Rattle.simplex_tables.specs.Choices.{right}
+use Rattle.simplex_rounds.specs.declared.weighing.Weight.{Weight}
+use Rattle.simplex_rounds.specs.Limits.{is_narrow}
+use Rattle.simplex_rounds.specs.Weighted.{lowest, holds_weight, weights_of, denominator, numerator}
+use Rattle.simplex_rounds.proofs.NarrowLemmas.{narrow_says}
+use Rattle.simplex_rounds.proofs.Multiples.{denominator_is}
 use Rattle.path_fact_columns.specs.Adding.{AreWeights}
 use Rattle.path_enum.specs.Weighing.{IsCommonOf}
 

@@ -7,18 +7,18 @@ use Rattle.code_flow_system.specs.declared.shapes.LoopShape.{LoopShape}
 use Rattle.code_flow_system.specs.declared.shapes.Span.{Span}
 use Rattle.code_flow_system.specs.Systems.{System}
 use Rattle.code_flow_system.specs.Certificates.{Accepts, IsInForm, potential}
-use Rattle.path_answer.specs.declared.bounded.Column.{Column}
-use Rattle.path_pivot_rounds.specs.declared.pricing.Multipliers.{Multipliers}
-use Rattle.path_pivot_tables.specs.declared.running.Ending.{Ending}
-use Rattle.path_pivot_tables.specs.declared.running.Ending.TheVariants.{Second, First, TooWide, NoPivots, Unbounded}
-use Rattle.path_pivot_tables.specs.Runs.{most_pivots}
-use Rattle.path_pivot_tables.specs.declared.table.Table.{Table as Rows}
-use Rattle.path_pivot_tables.specs.Rows.{entry}
-use Rattle.path_pivot_tables.specs.Choices.{right}
-use Rattle.path_pivot_rounds.specs.Multiplied.{second_multipliers, are_narrow}
-use Rattle.path_pivot_rounds.specs.Rounds.{IsColumnOf}
-use Rattle.path_pivot_laws.specs.RoundLaws.{IsOptimum, column_at}
-use Rattle.path_pivot_rounds.specs.Multiplied.{objective_place}
+use Rattle.code_flow_answer.specs.declared.bounded.Column.{Column}
+use Rattle.simplex_rounds.specs.declared.pricing.Multipliers.{Multipliers}
+use Rattle.simplex_tables.specs.declared.running.Ending.{Ending}
+use Rattle.simplex_tables.specs.declared.running.Ending.TheVariants.{Second, First, TooWide, NoPivots, Unbounded}
+use Rattle.simplex_tables.specs.Runs.{most_pivots}
+use Rattle.simplex_tables.specs.declared.table.Table.{Table as Rows}
+use Rattle.simplex_tables.specs.Rows.{entry}
+use Rattle.simplex_tables.specs.Choices.{right}
+use Rattle.simplex_rounds.specs.Multiplied.{second_multipliers, are_narrow}
+use Rattle.simplex_rounds.specs.Rounds.{IsColumnOf}
+use Rattle.simplex_laws.specs.RoundLaws.{IsOptimum, column_at}
+use Rattle.simplex_rounds.specs.Multiplied.{objective_place}
 use Rattle.path_fact_kinds.specs.Columns.{IsBest, ops_of}
 use Rattle.path_fact_columns.specs.Answers.{flow_at, worth_at}
 use Rattle.path_fact_kinds.specs.Columns.{column_of}
@@ -74,13 +74,17 @@ pub record IsStill (t : Table) (s : System) (ls : List LoopShape) (ps : List Spa
   pub narrow : are_narrow (length s.claims.loops + 1) (second_multipliers (length cs) (ops_of s.claims.facts) b) ≡ true
   pub still : (a.worth *ℤ entry b.two (objective_place (length cs) (ops_of s.claims.facts) 1)) ≤ℤ (right b.two *ℤ pos (second_multipliers (length cs) (ops_of s.claims.facts) b).scale)
 
--- the answer without restrictions
+-- the certificate at multipliers, if there is one, isn't less
+abbrev pub IsNoLess : Table → System → List LoopShape → List Span → Cert → Multipliers → Type 0
+IsNoLess t s ls ps c y = IfSome (certificate_at t s ls ps y.scale y.facts) (λ d. c.cycles ≤ d.cycles)
+
+-- the answer without restrictions, with a bound that is no more
 pub record IsBegun (t : Table) (s : System) (ls : List LoopShape) (ps : List Span) (a : Answered) : Type 0 where
   pub best : IsBest t s 1 [] a.column
   pub asked : AreAsked t s ls ps a.multipliers
   pub column : a.column ≡ column_of t s (flow_at t s ls ps a.multipliers.scale a.multipliers.facts)
   pub each : IsColumnOf (length s.claims.facts) a.column
-  pub bound : (c : Cert) × (a.cert ≡ Some c) × IsBound t s c × (pos c.cycles ≡ a.column.value)
+  pub bound : (c : Cert) × (a.cert ≡ Some c) × IsBound t s c × (pos c.cycles ≤ℤ a.column.value) × IsNoLess t s ls ps c a.multipliers
 
 -- an answer that becomes the next column after a round
 pub record IsNext (t : Table) (s : System) (ls : List LoopShape) (ps : List Span) (cs : List Column) (e : Ending) (a : Answered) : Type 0 where
@@ -89,6 +93,7 @@ pub record IsNext (t : Table) (s : System) (ls : List LoopShape) (ps : List Span
   pub column : a.column ≡ column_of t s (flow_at t s ls ps a.multipliers.scale a.multipliers.facts)
   pub each : IsColumnOf (length s.claims.facts) a.column
   pub bound : IfSome a.cert (IsBound t s)
+  pub cert : a.cert ≡ certificate_at t s ls ps a.multipliers.scale a.multipliers.facts
 
 -- what a round over columns leads to, by its end
 abbrev pub IsStep : Table → System → List LoopShape → List Span → List Column → Ending → Step → Type 0
@@ -116,3 +121,4 @@ pub record IsState (t : Table) (s : System) (ls : List LoopShape) (ps : List Spa
   pub most : made ≤ most_pivots
   pub accepted : IsAccepted t s least
   pub alone : IsBoundAlone s cs least
+  pub none_less : All (IsNoLess t s ls ps least) ys

@@ -1,8 +1,8 @@
 -- A common denominator of weights.
 use Rattle.std.specs.Prelude.{◌≡◌, ℕ, List, true, All}
-use Rattle.path_pivot_rounds.specs.declared.weighing.Weight.{Weight}
-use Rattle.path_pivot_rounds.specs.Limits.{is_narrow}
-use Rattle.path_pivot_rounds.specs.Weighted.{denominator, numerator}
+use Rattle.simplex_rounds.specs.declared.weighing.Weight.{Weight}
+use Rattle.simplex_rounds.specs.Limits.{is_narrow}
+use Rattle.simplex_rounds.specs.Weighted.{denominator, numerator}
 
 -- their least common denominator, which is narrow, as are the numerators over it
 pub record IsCommonOf (n : ℕ) (ws : List Weight) (m : ℕ) : Type 0 where

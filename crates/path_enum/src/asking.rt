@@ -9,12 +9,12 @@ ghost use Rattle.path_fact_columns.specs.Laws.{IsAnswer};
 ghost use Rattle.path_enum.specs.Steps.{IsAsked};
 
 use crate::marking::empty;
+use code_flow_answer::Column;
 use code_flow_system::{Cert, LoopShape, Span, System};
-use path_answer::Column;
 use path_fact_columns::{Answer, answer_at, column};
 use path_fact_walks::{Multiplied, block};
-use path_pivot_rounds::Multipliers;
 use rv_core::Costs;
+use simplex_rounds::Multipliers;
 use std::alloc::{AllocError, Global};
 
 /// A system, its loops and functions, and the costs of instructions.

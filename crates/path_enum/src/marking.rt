@@ -1,7 +1,7 @@
 // Marks of certificates.
 ghost use Rattle.std.specs.Prelude.{◌≡◌};
 ghost use Rattle.path_fact_columns.specs.OptimumLaws.{greatest};
-ghost use Rattle.path_enum.specs.Marks.{empty, lesser};
+ghost use Rattle.path_enum.specs.Marks.{empty, lesser, least_of};
 
 use code_flow_system::{Cert, Flow, Mark, Part};
 use wcc_base::Items;
@@ -38,4 +38,14 @@ pub(crate) fn lesser(least: Cert, other: Cert) -> Cert
     }
     drop(other);
     least
+}
+
+/// The certificate of the lesser bound, if there is another one.
+pub(crate) fn least_of(least: Cert, other: Option<Cert>) -> Cert
+    ensures { result ≡ least_of least other }
+{
+    match other {
+        None => least,
+        Some(cert) => lesser(least, cert),
+    }
 }

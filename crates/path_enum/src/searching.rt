@@ -1,27 +1,27 @@
 // The rounds of a search.
-ghost use Rattle.std.specs.Prelude.{◌≡◌, ◌≢◌, ◌+◌, ◌<◌, ◌≤◌, ◌++◌, ◌∷◌, [], length, Some, IsSome, IfOk, All};
+ghost use Rattle.std.specs.Prelude.{◌≡◌, ◌≢◌, ◌+◌, ◌<◌, ◌≤◌, ◌++◌, ◌∷◌, [], length, Some, IsSome, IfOk, IfSome, All};
 ghost use Rattle.rv_core.specs.Table.{table_of};
-ghost use Rattle.path_answer.specs.declared.bounded.Kind.TheVariants as kinds;
-ghost use Rattle.path_pivot_tables.specs.Runs.{most_pivots};
-ghost use Rattle.path_pivot_tables.specs.Shapes.{HasEnded};
-ghost use Rattle.path_pivot_rounds.specs.Rounds.{IsColumnOf, round_over};
-ghost use Rattle.path_pivot_rounds.specs.Multiplied.{side_count, width};
-ghost use Rattle.path_pivot_laws.specs.RoundLaws.{EndsWell};
+ghost use Rattle.code_flow_answer.specs.declared.bounded.Kind.TheVariants as kinds;
+ghost use Rattle.simplex_tables.specs.Runs.{most_pivots};
+ghost use Rattle.simplex_tables.specs.Shapes.{HasEnded};
+ghost use Rattle.simplex_rounds.specs.Rounds.{IsColumnOf, round_over};
+ghost use Rattle.simplex_rounds.specs.Multiplied.{side_count, width};
+ghost use Rattle.simplex_laws.specs.RoundLaws.{EndsWell};
 ghost use Rattle.path_fact_kinds.specs.Columns.{ops_of};
 ghost use Rattle.path_conditions.specs.Walking.{IsSearchable};
-ghost use Rattle.path_fact_kinds.specs.Kinds.{IsFound};
 ghost use Rattle.path_enum.specs.Marks.{found, least_of};
-ghost use Rattle.path_enum.specs.Steps.{HasFewRows, IsBegun};
+ghost use Rattle.path_enum.specs.Steps.{HasFewRows, IsBegun, IsNoLess};
+ghost use Rattle.path_enum.specs.Least.{IsEnded};
 ghost use Rattle.path_enum.specs.States.{IsGoing, IsTurn, IsWithAnother};
 
 use crate::asking::{Answered, Searched};
-use crate::marking::lesser;
+use crate::marking::least_of;
 use crate::stepping::{Step, next_step};
+use code_flow_answer::{Bounded, Column, Kind};
 use code_flow_system::{Cert, System};
-use path_answer::{Bounded, Column, Kind};
-use path_pivot_laws::rounds_end_well;
-use path_pivot_rounds::{Multipliers, round};
-use path_pivot_tables::Ended;
+use simplex_laws::rounds_end_well;
+use simplex_rounds::{Multipliers, round};
+use simplex_tables::Ended;
 use std::alloc::{AllocError, Global};
 use wcc_base::{Compare, Items};
 
@@ -38,6 +38,8 @@ pub struct State {
     pub least: Cert,
     /// How many pivots were made.
     pub made: u32,
+    /// The multipliers that the second search tried.
+    pub tried: Vec<Multipliers>,
 }
 
 /// What a round makes of it.
@@ -48,7 +50,7 @@ pub enum Turn {
 }
 
 /// The operators of the facts.
-fn ops_of(alloc: Global, system: &System) -> Result<Vec<Compare>, AllocError>
+pub(crate) fn ops_of(alloc: Global, system: &System) -> Result<Vec<Compare>, AllocError>
     ensures { IfOk result (λ v. v.items ≡ ops_of system.now.claims.facts) }
 {
     let facts = system.claims().facts();
@@ -70,16 +72,6 @@ fn found(cert: Cert, kind: Kind, columns: Vec<Column>) -> Bounded
     }
 }
 
-/// The certificate of the lesser bound, if there is another one.
-fn least_of(least: Cert, other: Option<Cert>) -> Cert
-    ensures { result ≡ least_of least other }
-{
-    match other {
-        None => least,
-        Some(cert) => lesser(least, cert),
-    }
-}
-
 /// How many columns and pivots did not suffice.
 fn spent(columns: usize, pivots: u32) -> Kind
     requires { columns ≤ 200 }
@@ -92,8 +84,9 @@ fn spent(columns: usize, pivots: u32) -> Kind
 }
 
 /// A search with its first column.
-fn begun(alloc: Global, first: Answered) -> Result<State, AllocError>
+fn begun(alloc: Global, first: Answered, tried: Vec<Multipliers>) -> Result<State, AllocError>
     requires { IsSome first.cert }
+    ensures tried { IfOk result (λ g. g.tried.items ≡ tried.items) }
     ensures columns { IfOk result (λ g. g.columns.items ≡ first.column ∷ []) }
     ensures asked { IfOk result (λ g. g.asked.items ≡ first.multipliers ∷ []) }
     ensures least { IfOk result (λ g. first.cert ≡ Some g.least) }
@@ -114,6 +107,7 @@ fn begun(alloc: Global, first: Answered) -> Result<State, AllocError>
         asked,
         least: cert.unwrap(),
         made: 0,
+        tried,
     })
 }
 
@@ -123,6 +117,7 @@ fn grown(state: State, answer: Answered, made: u32) -> Result<State, AllocError>
     ensures asked { IfOk result (λ g. g.asked.items ≡ state.asked.items ++ answer.multipliers ∷ []) }
     ensures least { IfOk result (λ g. g.least ≡ least_of state.least answer.cert) }
     ensures made { IfOk result (λ g. g.made ≡ made) }
+    ensures tried { IfOk result (λ g. g.tried.items ≡ state.tried.items) }
 {
     let Answered {
         cert,
@@ -135,6 +130,7 @@ fn grown(state: State, answer: Answered, made: u32) -> Result<State, AllocError>
         mut asked,
         least,
         made: _,
+        tried,
     } = state;
     columns.push(column)?;
     asked.push(multipliers)?;
@@ -143,6 +139,7 @@ fn grown(state: State, answer: Answered, made: u32) -> Result<State, AllocError>
         asked,
         least: least_of(least, cert),
         made,
+        tried,
     })
 }
 
@@ -218,14 +215,16 @@ pub(crate) fn search(
     alloc: Global,
     searched: Searched,
     first: Answered,
+    tried: Vec<Multipliers>,
 ) -> Result<Bounded, AllocError>
     requires searchable { IsSearchable (table_of searched.costs.now) searched.system.now searched.shapes.now searched.spans.now }
     requires facts { searched.system.now.claims.facts ≢ [] }
     requires first { IsBegun (table_of searched.costs.now) searched.system.now searched.shapes.now searched.spans.now first }
-    ensures { IfOk result (IsFound (table_of searched.entry.costs.now) searched.entry.system.now) }
+    requires tried { All (λ y. IfSome first.cert (λ c. IsNoLess (table_of searched.costs.now) searched.system.now searched.shapes.now searched.spans.now c y)) tried.items }
+    ensures { IfOk result (IsEnded (table_of searched.entry.costs.now) searched.entry.system.now searched.entry.shapes.now searched.entry.spans.now) }
 {
     let ops = ops_of(alloc, searched.system)?;
-    let mut state = begun(alloc, first)?;
+    let mut state = begun(alloc, first, tried)?;
     'rounds: loop {
         match turned(alloc, searched, &ops, state)? {
             Turn::Ends(bounded) => return Ok(bounded),

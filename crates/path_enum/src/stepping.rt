@@ -1,12 +1,12 @@
 // What a round leads to.
 ghost use Rattle.std.specs.Prelude.{◌≡◌, ◌↔◌, ◌+◌, ◌<◌, ◌≤◌, ◌^◌, pos, ◌*ℤ◌, ◌<ℤ◌, ◌≤ℤ◌, length, true, IfOk};
 ghost use Rattle.rv_core.specs.Table.{table_of};
-ghost use Rattle.path_pivot_tables.specs.declared.running.Ending.TheVariants as endings;
-ghost use Rattle.path_pivot_tables.specs.Rows.{entry};
-ghost use Rattle.path_pivot_tables.specs.Choices.{right};
-ghost use Rattle.path_pivot_tables.specs.Shapes.{HasEnded, IsShaped, NoneNegative};
-ghost use Rattle.path_pivot_rounds.specs.Multiplied.{objective_place, side_count, width};
-ghost use Rattle.path_pivot_laws.specs.RoundLaws.{column_at, EndsWell, IsInfeasible, IsOptimum};
+ghost use Rattle.simplex_tables.specs.declared.running.Ending.TheVariants as endings;
+ghost use Rattle.simplex_tables.specs.Rows.{entry};
+ghost use Rattle.simplex_tables.specs.Choices.{right};
+ghost use Rattle.simplex_tables.specs.Shapes.{HasEnded, IsShaped, NoneNegative};
+ghost use Rattle.simplex_rounds.specs.Multiplied.{objective_place, side_count, width};
+ghost use Rattle.simplex_laws.specs.RoundLaws.{column_at, EndsWell, IsInfeasible, IsOptimum};
 ghost use Rattle.path_fact_kinds.specs.Columns.{ops_of};
 ghost use Rattle.path_conditions.specs.Walking.{IsSearchable};
 ghost use Rattle.path_fact_columns.specs.OptimumLaws.{AreAnswers};
@@ -15,12 +15,12 @@ ghost use Rattle.path_enum.specs.Steps.{AreFirst, HasFewRows, IsStep, IsStill};
 use crate::asking::{Answered, Asked, Searched, ask};
 use crate::marking::greatest;
 use crate::weighing::common;
+use code_flow_answer::Column;
 use code_flow_system::{Cert, System};
 use frac128::compare_ratios;
-use path_answer::Column;
 use path_fact_columns::{Found, first_answers_are_best, mixed, solved_are_greatest};
-use path_pivot_rounds::{Multipliers, first_multipliers, round_value, second_multipliers, weights};
-use path_pivot_tables::{Ending, Table};
+use simplex_rounds::{Multipliers, first_multipliers, round_value, second_multipliers, weights};
+use simplex_tables::{Ending, Table};
 use std::alloc::{AllocError, Global};
 use std::cmp::Ordering;
 use wcc_base::Compare;
@@ -41,7 +41,7 @@ pub enum Step {
 }
 
 /// One more than the number of loops.
-fn loop_factor(system: &System) -> u64
+pub(crate) fn loop_factor(system: &System) -> u64
     ensures { result ≡ length system.now.claims.loops + 1 }
 {
     system.claims().loops().len() as u64 + 1

@@ -1,12 +1,12 @@
 // The common denominator of the columns' weights.
 ghost use Rattle.std.specs.Prelude.{◌≡◌, ◌<◌, ◌≤◌, ◌^◌, true, false, Contains, MatchOption, All};
-ghost use Rattle.path_pivot_rounds.specs.declared.weighing.Weight.{Weight};
-ghost use Rattle.path_pivot_rounds.specs.Limits.{is_narrow};
-ghost use Rattle.path_pivot_rounds.specs.Weighted.{denominator, numerator};
+ghost use Rattle.simplex_rounds.specs.declared.weighing.Weight.{Weight};
+ghost use Rattle.simplex_rounds.specs.Limits.{is_narrow};
+ghost use Rattle.simplex_rounds.specs.Weighted.{denominator, numerator};
 ghost use Rattle.path_fact_kinds.specs.Causes.{HasWideWeights};
 ghost use Rattle.path_enum.specs.Weighing.{IsCommonOf};
 
-use path_pivot_rounds::{Weight, denominator, numerator};
+use simplex_rounds::{Weight, denominator, numerator};
 
 /// Whether each weight's numerator over a common denominator keeps the limit.
 fn are_narrow(all: u128, weights: &[Weight], times: u64) -> bool

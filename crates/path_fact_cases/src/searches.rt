@@ -5,9 +5,9 @@ ghost use Rattle.path_places.specs.Reached.{AreReached};
 ghost use Rattle.path_conditions.specs.Searching.{CanSearch};
 
 use crate::words::shown;
+use code_flow_answer::{Bounded, Column, Kind};
 use code_flow_system::{LoopShape, Span, System};
 use dual_check::{Verdict, check};
-use path_answer::{Bounded, Column, Kind};
 use path_enum::bound;
 use rv_core::Costs;
 use std::alloc::{AllocError, Global};

@@ -14,7 +14,7 @@ use Rattle.code_flow_system.specs.Systems.{System}
 use Rattle.code_flow_system.specs.Counts.{Amounts, count, total}
 use Rattle.code_flow_system.specs.Flows.{IsFlow, price, value}
 use Rattle.path_ranges.proofs.TotalLemmas.{total_least}
-use Rattle.path_answer.specs.declared.bounded.Column.{Column}
+use Rattle.code_flow_answer.specs.declared.bounded.Column.{Column}
 use Rattle.path_flows.specs.Free.{free}
 use Rattle.path_cert.specs.Priced.{fact_price, fact_total, fact_prices, fact_low}
 use Rattle.path_cert.specs.Facts.{IsFactFlow, HasFactFlow}

@@ -5,8 +5,8 @@ use Rattle.std.proofs.lemmas.List.{drop_all}
 use Rattle.std.proofs.lemmas.List.Elements.{All-replicate, All-weaker}
 use Rattle.code_flow_system.specs.declared.moves.Move.{Move}
 use Rattle.code_flow_system.specs.Counts.{Amounts}
-use Rattle.path_pivot_rounds.specs.declared.weighing.Weight.{Weight}
-use Rattle.path_pivot_rounds.specs.Weighted.{numerator}
+use Rattle.simplex_rounds.specs.declared.weighing.Weight.{Weight}
+use Rattle.simplex_rounds.specs.Weighted.{numerator}
 use Rattle.path_fact_kinds.specs.Mixes.{mix, added, times}
 use Rattle.path_fact_columns.specs.Adding.{shares, raised, amounts_in}
 use Rattle.path_fact_columns.proofs.AddLemmas.{plus, raised-long, raised_plus, raised_small, plus_zeros, plus_nothing}

@@ -11,10 +11,10 @@ use Rattle.wcc_base.specs.declared.compare.Compare.TheVariants.{AtMost, AtLeast,
 use Rattle.code_flow_system.specs.declared.claims.FactClaim.{FactClaim}
 use Rattle.code_flow_system.specs.Counts.{Compares, KeepsFact}
 use Rattle.code_flow_system.specs.Certificates.{negated, fact_limits, FitsSign, IsSigned}
-use Rattle.path_pivot_tables.specs.Rows.{Row, entry, divisor, reduced}
-use Rattle.path_pivot_tables.proofs.RowLemmas.{Times, reduced_times, reduced-long, times_entry, divisor_positive, factor_positive, sign_of}
-use Rattle.path_pivot_rounds.specs.Multiplied.{sides_in, duals, head_of, tail_of}
-use Rattle.path_pivot_laws.specs.RoundLaws.{HasSign, HaveSigns}
+use Rattle.simplex_tables.specs.Rows.{Row, entry, divisor, reduced}
+use Rattle.simplex_tables.proofs.RowLemmas.{Times, reduced_times, reduced-long, times_entry, divisor_positive, factor_positive, sign_of}
+use Rattle.simplex_rounds.specs.Multiplied.{sides_in, duals, head_of, tail_of}
+use Rattle.simplex_laws.specs.RoundLaws.{HasSign, HaveSigns}
 use Rattle.path_cert.specs.Priced.{fact_total}
 use Rattle.path_fact_kinds.specs.Columns.{ops_of}
 

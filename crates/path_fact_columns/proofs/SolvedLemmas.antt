@@ -26,18 +26,18 @@ use Rattle.path_ranges.proofs.NarrowLemmas.{counts_below}
 use Rattle.path_cert.proofs.PartLemmas.{parts_ascend, parts_positive, parts_there, parts_are}
 use Rattle.path_ranges.proofs.TotalLemmas.{leaves, count-total, total_least}
 use Rattle.path_ranges.proofs.PartLemmas.{same_least}
-use Rattle.path_answer.specs.declared.bounded.Column.{Column}
-use Rattle.path_pivot_tables.specs.Rows.{entry}
-use Rattle.path_pivot_rounds.specs.declared.pricing.Multipliers.{Multipliers}
-use Rattle.path_pivot_rounds.specs.declared.weighing.Weight.{Weight}
-use Rattle.path_pivot_tables.specs.declared.table.Table.{Table as Rows}
-use Rattle.path_pivot_tables.specs.Choices.{right}
-use Rattle.path_pivot_rounds.specs.Limits.{is_narrow, all_narrow}
-use Rattle.path_pivot_rounds.specs.Multiplied.{duals, objective_place}
-use Rattle.path_pivot_rounds.specs.Weighted.{weights_of, denominator}
-use Rattle.path_pivot_rounds.proofs.NarrowLemmas.{narrow_says, all_narrow_say}
-use Rattle.path_pivot_laws.specs.RoundLaws.{IsWeighing, HaveSigns, column_at, over}
-use Rattle.path_pivot_laws.proofs.TableLemmas.{all_at}
+use Rattle.code_flow_answer.specs.declared.bounded.Column.{Column}
+use Rattle.simplex_tables.specs.Rows.{entry}
+use Rattle.simplex_rounds.specs.declared.pricing.Multipliers.{Multipliers}
+use Rattle.simplex_rounds.specs.declared.weighing.Weight.{Weight}
+use Rattle.simplex_tables.specs.declared.table.Table.{Table as Rows}
+use Rattle.simplex_tables.specs.Choices.{right}
+use Rattle.simplex_rounds.specs.Limits.{is_narrow, all_narrow}
+use Rattle.simplex_rounds.specs.Multiplied.{duals, objective_place}
+use Rattle.simplex_rounds.specs.Weighted.{weights_of, denominator}
+use Rattle.simplex_rounds.proofs.NarrowLemmas.{narrow_says, all_narrow_say}
+use Rattle.simplex_laws.specs.RoundLaws.{IsWeighing, HaveSigns, column_at, over}
+use Rattle.simplex_laws.proofs.TableLemmas.{all_at}
 use Rattle.path_flows.specs.Free.{free}
 use Rattle.path_cert.specs.Priced.{fact_prices, fact_certificate, AreMultipliers, fact_low}
 use Rattle.path_conditions.specs.Natural.{both_totals}

@@ -8,12 +8,12 @@ use Rattle.wcc_base.specs.declared.compare.Compare.TheVariants.{AtMost, AtLeast,
 use Rattle.code_flow_system.specs.declared.claims.FactClaim.{FactClaim}
 use Rattle.code_flow_system.specs.declared.moves.Move.{Move}
 use Rattle.code_flow_system.specs.Counts.{Amounts, count, Compares}
-use Rattle.path_answer.specs.declared.bounded.Column.{Column}
-use Rattle.path_pivot_tables.specs.Rows.{entry}
-use Rattle.path_pivot_rounds.specs.declared.weighing.Weight.{Weight}
-use Rattle.path_pivot_rounds.specs.Weighted.{denominator, numerator}
-use Rattle.path_pivot_rounds.proofs.Multiples.{denominator_is}
-use Rattle.path_pivot_laws.specs.RoundLaws.{column_at, over, IsCommon, IsKept, KeepFacts}
+use Rattle.code_flow_answer.specs.declared.bounded.Column.{Column}
+use Rattle.simplex_tables.specs.Rows.{entry}
+use Rattle.simplex_rounds.specs.declared.weighing.Weight.{Weight}
+use Rattle.simplex_rounds.specs.Weighted.{denominator, numerator}
+use Rattle.simplex_rounds.proofs.Multiples.{denominator_is}
+use Rattle.simplex_laws.specs.RoundLaws.{column_at, over, IsCommon, IsKept, KeepFacts}
 use Rattle.path_fact_kinds.specs.Mixes.{Share, often}
 use Rattle.path_fact_kinds.specs.MixLaws.{total_of}
 use Rattle.path_fact_kinds.specs.Columns.{ops_of, totals_of}

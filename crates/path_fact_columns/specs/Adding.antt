@@ -8,9 +8,9 @@ use Rattle.code_flow_system.specs.declared.shapes.Span.{Span}
 use Rattle.code_flow_system.specs.Systems.{System}
 use Rattle.code_flow_system.specs.Counts.{Amounts}
 use Rattle.path_flows.specs.Flows.{parts_of}
-use Rattle.path_pivot_rounds.specs.declared.pricing.Multipliers.{Multipliers}
-use Rattle.path_pivot_rounds.specs.declared.weighing.Weight.{Weight}
-use Rattle.path_pivot_rounds.specs.Weighted.{numerator}
+use Rattle.simplex_rounds.specs.declared.pricing.Multipliers.{Multipliers}
+use Rattle.simplex_rounds.specs.declared.weighing.Weight.{Weight}
+use Rattle.simplex_rounds.specs.Weighted.{numerator}
 use Rattle.path_fact_kinds.specs.Mixes.{Share, mix}
 use Rattle.path_fact_columns.specs.Conditions.{AreNarrow}
 use Rattle.path_fact_columns.specs.Answers.{flow_at, worth_at}

@@ -1,13 +1,13 @@
 // Amounts of moves: a flow added to them, and those that are made.
-ghost use Rattle.std.specs.Prelude.{◌≡◌, ◌+◌, ◌*◌, ◌<◌, ◌≤◌, ◌^◌, ◌++◌, length, IfOk, OnOk, All};
+ghost use Rattle.std.specs.Prelude.{◌≡◌, ◌+◌, ◌*◌, ◌<◌, ◌≤◌, ◌^◌, length, IfOk, All};
 ghost use Rattle.code_flow_system.specs.Certificates.{listed};
-ghost use Rattle.path_amounts.specs.Parts.{part_if};
 ghost use Rattle.path_flows.specs.Flows.{parts_of};
 ghost use Rattle.path_fact_columns.specs.Answers.{AreParts};
 ghost use Rattle.path_fact_columns.specs.Adding.{raised};
 
 use code_flow_lookup::amount;
 use code_flow_system::{Move, Part};
+use path_flow_counts::push_part;
 use std::alloc::{AllocError, Global};
 
 /// How often a flow makes a move.
@@ -42,21 +42,6 @@ pub(crate) fn add_flow(amounts: &mut [u128], moves: &[Move], parts: &[Part], oft
     for i in 0..moves.len() {
         amounts[i] = raised(amounts[i], often, made(parts, &moves[i]));
     }
-}
-
-/// Adds a move, if it is made.
-fn push_part(parts: &mut Vec<Part>, step: &Move, amount: u128) -> Result<(), AllocError>
-    requires { amount < 2 ^ 127 }
-    ensures { OnOk result (parts.new.items ≡ parts.old.items ++ part_if step.now amount) }
-{
-    if amount != 0 {
-        parts.push(Part {
-            at: step.at,
-            number: step.number,
-            part: amount as i128,
-        })?;
-    }
-    Ok(())
 }
 
 /// The moves that are made, and how often.

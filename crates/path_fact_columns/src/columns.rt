@@ -1,5 +1,5 @@
 // The column of a flow.
-ghost use Rattle.std.specs.Prelude.{◌≡◌, ◌<◌, ◌^◌, pos, ◌+ℤ◌, ◌*ℤ◌, ◌≤ℤ◌, ◌<ℤ◌, IfOk, All};
+ghost use Rattle.std.specs.Prelude.{◌≡◌, ◌<◌, ◌^◌, pos, ◌*ℤ◌, ◌≤ℤ◌, ◌<ℤ◌, IfOk, All};
 ghost use Rattle.rv_core.specs.Table.{table_of};
 ghost use Rattle.code_flow_system.specs.Counts.{amount, count};
 ghost use Rattle.code_flow_system.specs.Flows.{value};
@@ -11,9 +11,9 @@ ghost use Rattle.path_fact_kinds.specs.Columns.{totals_of, column_of};
 ghost use Rattle.path_fact_columns.specs.Answers.{AreParts};
 
 use crate::counting::{made, total_of};
+use code_flow_answer::Column;
 use code_flow_lookup::move_cost;
 use code_flow_system::{Move, Part, System};
-use path_answer::Column;
 use rv_core::Costs;
 use std::alloc::{AllocError, Global};
 use wcc_base::Items;

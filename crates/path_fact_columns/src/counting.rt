@@ -1,5 +1,5 @@
 // How often a listed flow visits addresses, and what a fact's side comes to.
-ghost use Rattle.std.specs.Prelude.{◌≡◌, ◌≤◌, ◌<◌, ◌^◌, pos, ◌+ℤ◌, ◌-ℤ◌, ◌*ℤ◌, ◌≤ℤ◌, ◌<ℤ◌, unsigned_abs};
+ghost use Rattle.std.specs.Prelude.{◌≡◌, ◌≤◌, ◌<◌, ◌^◌, pos, ◌*ℤ◌, ◌≤ℤ◌, ◌<ℤ◌, unsigned_abs};
 ghost use Rattle.frac128.specs.Terms.{applied};
 ghost use Rattle.code_flow_system.specs.Counts.{amount, count};
 ghost use Rattle.code_flow_system.specs.Certificates.{listed};

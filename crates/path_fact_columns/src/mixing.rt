@@ -1,7 +1,7 @@
 // The flow in which answers have weights.
 ghost use Rattle.std.specs.Prelude.{◌≡◌, ◌<◌, ◌≤◌, ◌^◌, length, slice_index_or, IfOk, All};
 ghost use Rattle.rv_core.specs.Table.{table_of};
-ghost use Rattle.path_pivot_rounds.specs.Weighted.{numerator};
+ghost use Rattle.simplex_rounds.specs.Weighted.{numerator};
 ghost use Rattle.path_conditions.specs.Walking.{IsSearchable};
 ghost use Rattle.path_fact_columns.specs.Answers.{AreParts, parts_at};
 ghost use Rattle.path_fact_columns.specs.Adding.{no_multipliers, mixed_parts, AreAsked, AreWeights};
@@ -10,8 +10,8 @@ use crate::adding::{add_flow, parts_of};
 use crate::answering::{Answer, answer_at};
 use code_flow_system::{LoopShape, Part, Span, System};
 use path_fact_walks::{Multiplied, block};
-use path_pivot_rounds::{Multipliers, Weight};
 use rv_core::Costs;
+use simplex_rounds::{Multipliers, Weight};
 use std::alloc::{AllocError, Global};
 
 /// A system, and the multipliers at which its columns were found.

@@ -2,15 +2,15 @@
 use Rattle.std.specs.Prelude.{◌≡◌, ◌≢◌, ◌⊎◌, ℕ, ◌+◌, List, [], length, false, Contains}
 use Rattle.rv_core.specs.Table.{Table}
 use Rattle.code_flow_system.specs.Systems.{System}
-use Rattle.path_answer.specs.declared.bounded.Column.{Column}
-use Rattle.path_pivot_rounds.specs.declared.weighing.Weight.{Weight}
-use Rattle.path_pivot_tables.specs.declared.running.Ending.{Ending}
-use Rattle.path_pivot_tables.specs.declared.running.Ending.TheVariants.{Second, First, TooWide, NoPivots, Unbounded}
-use Rattle.path_pivot_tables.specs.Runs.{most_pivots}
-use Rattle.path_pivot_rounds.specs.Limits.{is_narrow, all_narrow}
-use Rattle.path_pivot_rounds.specs.Multiplied.{first_multipliers, second_multipliers, are_narrow}
-use Rattle.path_pivot_rounds.specs.Weighted.{weights_of, denominator, numerator}
-use Rattle.path_pivot_laws.specs.RoundLaws.{column_at}
+use Rattle.code_flow_answer.specs.declared.bounded.Column.{Column}
+use Rattle.simplex_rounds.specs.declared.weighing.Weight.{Weight}
+use Rattle.simplex_tables.specs.declared.running.Ending.{Ending}
+use Rattle.simplex_tables.specs.declared.running.Ending.TheVariants.{Second, First, TooWide, NoPivots, Unbounded}
+use Rattle.simplex_tables.specs.Runs.{most_pivots}
+use Rattle.simplex_rounds.specs.Limits.{is_narrow, all_narrow}
+use Rattle.simplex_rounds.specs.Multiplied.{first_multipliers, second_multipliers, are_narrow}
+use Rattle.simplex_rounds.specs.Weighted.{weights_of, denominator, numerator}
+use Rattle.simplex_laws.specs.RoundLaws.{column_at}
 use Rattle.path_fact_kinds.specs.Columns.{ops_of}
 use Rattle.path_fact_kinds.specs.Searched.{last_round, Follows, AreSearched}
 

@@ -6,7 +6,7 @@ use Rattle.code_flow_system.specs.declared.claims.FactClaim.{FactClaim}
 use Rattle.code_flow_system.specs.Systems.{System}
 use Rattle.code_flow_system.specs.Counts.{Amounts, count}
 use Rattle.code_flow_system.specs.Flows.{IsFlow, value}
-use Rattle.path_answer.specs.declared.bounded.Column.{Column}
+use Rattle.code_flow_answer.specs.declared.bounded.Column.{Column}
 use Rattle.path_flows.specs.Free.{free}
 use Rattle.path_fact_kinds.specs.MixLaws.{total_of}
 

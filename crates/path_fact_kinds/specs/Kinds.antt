@@ -5,12 +5,12 @@ use Rattle.code_flow_system.specs.declared.cert.Cert.{Cert}
 use Rattle.code_flow_system.specs.declared.cert.Mark.TheVariants as marks
 use Rattle.code_flow_system.specs.Systems.{System}
 use Rattle.code_flow_system.specs.Certificates.{Accepts, IsInForm, potential}
-use Rattle.path_answer.specs.declared.bounded.Bounded.{Bounded}
-use Rattle.path_answer.specs.declared.bounded.Column.{Column}
-use Rattle.path_answer.specs.declared.bounded.Kind.{Kind}
-use Rattle.path_answer.specs.declared.bounded.Kind.TheVariants.{Greatest, Empty, Wide, Spent}
-use Rattle.path_pivot_rounds.specs.Rounds.{IsColumnOf}
-use Rattle.path_pivot_laws.specs.RoundLaws.{column_at}
+use Rattle.code_flow_answer.specs.declared.bounded.Bounded.{Bounded}
+use Rattle.code_flow_answer.specs.declared.bounded.Column.{Column}
+use Rattle.code_flow_answer.specs.declared.bounded.Kind.{Kind}
+use Rattle.code_flow_answer.specs.declared.bounded.Kind.TheVariants.{Greatest, Empty, Wide, Spent}
+use Rattle.simplex_rounds.specs.Rounds.{IsColumnOf}
+use Rattle.simplex_laws.specs.RoundLaws.{column_at}
 use Rattle.path_fact_kinds.specs.Searched.{AreSearched}
 use Rattle.path_fact_kinds.specs.Causes.{IsWide, IsSpent}
 

@@ -3,16 +3,16 @@ use Rattle.std.specs.Prelude.{ℕ, zero, suc, ◌+◌, ◌-◌, ◌<◌, ℤ, ne
 use Rattle.rv_core.specs.Table.{Table}
 use Rattle.wcc_base.specs.declared.compare.Compare.{Compare}
 use Rattle.code_flow_system.specs.Systems.{System}
-use Rattle.path_answer.specs.declared.bounded.Column.{Column}
-use Rattle.path_pivot_tables.specs.declared.running.Ending.{Ending}
-use Rattle.path_pivot_tables.specs.declared.running.Ending.TheVariants.{Second, First, TooWide, NoPivots, Unbounded}
-use Rattle.path_pivot_tables.specs.declared.running.Ended.{Ended}
-use Rattle.path_pivot_rounds.specs.Rounds.{round_over}
-use Rattle.path_pivot_tables.specs.Choices.{right}
-use Rattle.path_pivot_tables.specs.Rows.{entry}
-use Rattle.path_pivot_tables.specs.declared.table.Table.{Table as Rows}
-use Rattle.path_pivot_rounds.specs.Multiplied.{duals, objective_place, scaled, tail_of, second_multipliers}
-use Rattle.path_pivot_laws.specs.RoundLaws.{column_at}
+use Rattle.code_flow_answer.specs.declared.bounded.Column.{Column}
+use Rattle.simplex_tables.specs.declared.running.Ending.{Ending}
+use Rattle.simplex_tables.specs.declared.running.Ending.TheVariants.{Second, First, TooWide, NoPivots, Unbounded}
+use Rattle.simplex_tables.specs.declared.running.Ended.{Ended}
+use Rattle.simplex_rounds.specs.Rounds.{round_over}
+use Rattle.simplex_tables.specs.Choices.{right}
+use Rattle.simplex_tables.specs.Rows.{entry}
+use Rattle.simplex_tables.specs.declared.table.Table.{Table as Rows}
+use Rattle.simplex_rounds.specs.Multiplied.{duals, objective_place, scaled, tail_of, second_multipliers}
+use Rattle.simplex_laws.specs.RoundLaws.{column_at}
 use Rattle.path_fact_kinds.specs.Columns.{IsBest, multiplied, ops_of}
 
 -- how many pivots are made before the round of that number, the first one being that over one column

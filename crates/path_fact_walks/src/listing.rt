@@ -12,7 +12,7 @@ ghost use Rattle.path_fact_walks.specs.Sizes.{AreMultiplied};
 
 use crate::pricing::{Multiplied, prices};
 use code_flow_system::{Part, Span};
-use path_amounts::flow;
+use path_flow_counts::flow;
 use path_walks::{Priced, Settled};
 use std::alloc::{AllocError, Global};
 

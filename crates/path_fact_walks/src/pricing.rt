@@ -1,5 +1,5 @@
 // Prices of moves that pay for facts.
-ghost use Rattle.std.specs.Prelude.{◌≡◌, ◌≤◌, ◌<◌, ◌^◌, ◌*ℤ◌, ◌-ℤ◌, pos, unsigned_abs, length, map, IfOk, All};
+ghost use Rattle.std.specs.Prelude.{◌≡◌, ◌≤◌, ◌<◌, ◌^◌, ◌*ℤ◌, ◌-ℤ◌, unsigned_abs, length, map, IfOk, All};
 ghost use Rattle.frac128.specs.Terms.{coefficient};
 ghost use Rattle.rv_core.specs.Table.{table_of};
 ghost use Rattle.code_flow_system.specs.Systems.{IsPlaced};

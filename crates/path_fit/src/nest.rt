@@ -1,6 +1,5 @@
 // Ranges that nest.
 ghost use Rattle.std.specs.Prelude.{◌≡◌, ◌↔◌, ◌+◌, ◌≤◌, ◌<◌, true, false, nat_le, length, All};
-ghost use Rattle.std.specs.List.{AllAdjacentBelow};
 ghost use Rattle.std.specs.List.Sorted.{IsPartitionPoint};
 ghost use Rattle.code_flow_system.specs.Shapes.{AreNested, AreAllNested};
 ghost use Rattle.path_fit.specs.Nests.{IsFilled, FirstsAscend, IsClosed, AreClosedFrom};

@@ -1,5 +1,5 @@
 // Worths of addresses, as if all code of a function were one straight line.
-ghost use Rattle.std.specs.Prelude.{◌≡◌, ◌<◌, ◌≤◌, ◌+◌, length, IfOk, IfSome};
+ghost use Rattle.std.specs.Prelude.{◌≡◌, ◌<◌, ◌≤◌, length, IfOk, IfSome};
 
 use code_flow_lookup::move_cost;
 use code_flow_system::{Move, Span, System};

@@ -1,5 +1,5 @@
 // Worths that pay for moves.
-ghost use Rattle.std.specs.Prelude.{◌≡◌, ◌↔◌, ◌<◌, ◌^◌, ◌+ℤ◌, ◌≤ℤ◌, pos, true, unsigned_abs, length, All};
+ghost use Rattle.std.specs.Prelude.{◌≡◌, ◌↔◌, ◌<◌, ◌^◌, ◌+ℤ◌, ◌≤ℤ◌, true, unsigned_abs, length, All};
 ghost use Rattle.rv_core.specs.Table.{table_of};
 ghost use Rattle.code_flow_system.specs.Certificates.{AddressesAscend};
 ghost use Rattle.code_flow_system.specs.Flows.{price};

@@ -1,5 +1,5 @@
 -- The bounds of a search by costs.
-use Rattle.std.proofs.Common.{◌≡◌, ℕ, zero, suc, ◌+◌, ◌*◌, ◌≤◌, ◌<◌, ◌^◌, ℤ, pos, neg_ℤ, ◌+ℤ◌, ◌-ℤ◌, ◌*ℤ◌, ◌≤ℤ◌, ◌<ℤ◌, arith, refl, sym, ap, ◌∙◌, subst, List, [], ◌∷◌, length, All}
+use Rattle.std.proofs.Common.{◌≡◌, ℕ, zero, suc, ◌+◌, ◌*◌, ◌≤◌, ◌<◌, ◌^◌, ℤ, pos, neg_ℤ, ◌+ℤ◌, ◌-ℤ◌, ◌*ℤ◌, ◌≤ℤ◌, arith, ap, ◌∙◌, List, [], ◌∷◌, length, All}
 use Rattle.std.proofs.lemmas.Int.{ints}
 use Rattle.std.proofs.lemmas.List.Elements.{All-head, All-tail, All-cons, All-nil}
 use Rattle.frac128.proofs.SignedLemmas.{add-mul}
@@ -12,9 +12,8 @@ use Rattle.code_flow_system.specs.Systems.{System}
 use Rattle.code_flow_system.specs.Flows.{price}
 use Rattle.loop_ranges.specs.Near.{IsUpTo}
 use Rattle.loop_ranges.specs.Reach.{reach}
-use Rattle.path_ranges.specs.Bounded.{StartsBelow, IsBounded}
-use Rattle.path_ranges.specs.Ranges.{loop_step, IsEnough}
-use Rattle.path_ranges.specs.Limits.{cost_prices, IsLoopWithin, IsLimited, IsCostBounded, CostsAreBounded}
+use Rattle.path_ranges.specs.Bounded.{StartsBelow}
+use Rattle.path_ranges.specs.Limits.{IsLoopWithin, CostsAreBounded}
 
 -- what so many loops reach
 reach-is : (step bound : ℤ) (k : ℕ) → reach step bound k ≡ bound +ℤ (pos k *ℤ step)

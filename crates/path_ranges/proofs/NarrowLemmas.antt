@@ -1,5 +1,5 @@
 -- No count of a loose flow is larger than its value, and the terms of limits are narrow.
-use Rattle.std.proofs.Common.{◌≡◌, ℕ, zero, suc, ◌+◌, ◌*◌, ◌-◌, ◌≤◌, ◌<◌, ◌^◌, ℤ, pos, neg_ℤ, ◌+ℤ◌, ◌-ℤ◌, ◌*ℤ◌, ◌≤ℤ◌, ◌<ℤ◌, arith, refl, sym, ap, ◌∙◌, subst, List, [], ◌∷◌, ◌++◌, Contains, All, inl, inr, Bool, true, false, cond, Option, Some, None, unsigned_abs}
+use Rattle.std.proofs.Common.{◌≡◌, ℕ, zero, suc, ◌+◌, ◌*◌, ◌-◌, ◌≤◌, ◌<◌, ◌^◌, ℤ, pos, neg_ℤ, ◌-ℤ◌, ◌*ℤ◌, ◌≤ℤ◌, ◌<ℤ◌, arith, refl, ap, ◌∙◌, subst, List, [], ◌∷◌, ◌++◌, Contains, All, inl, inr, Some, None, unsigned_abs}
 use Rattle.std.specs.Prelude.{◌==◌}
 use lib.IntN.{negsuc, *ℤ_comm}
 use Rattle.std.proofs.lemmas.Int.{ints}
@@ -9,9 +9,7 @@ use Rattle.frac128.specs.Terms.{when_same}
 use Rattle.frac128.proofs.SignedLemmas.{mul-le, mul-neg}
 use Rattle.frac128.proofs.TermsLemmas.{when_same-here}
 use Rattle.wcc_base.specs.declared.compare.Compare.TheVariants.{AtMost}
-use Rattle.rv_core.specs.declared.regions.Region.{Region}
 use Rattle.rv_core.specs.declared.regions.Region.TheVariants.{Flash, Spm}
-use Rattle.rv_core.specs.Instructions.{Instruction}
 use Rattle.rv_core.specs.Regions.{region_of}
 use Rattle.rv_core.specs.Table.{Table}
 use Rattle.rv_core.specs.Machine.{cost_at}
@@ -19,11 +17,11 @@ use Rattle.code_flow_system.specs.declared.claims.Never.{Never}
 use Rattle.code_flow_system.specs.declared.claims.LoopClaim.{LoopClaim}
 use Rattle.code_flow_system.specs.declared.moves.Move.{Move}
 use Rattle.code_flow_system.specs.Claims.{Claims}
-use Rattle.code_flow_system.specs.Systems.{System, IsPlaced, IsSystem}
+use Rattle.code_flow_system.specs.Systems.{System, IsPlaced}
 use Rattle.code_flow_system.specs.Counts.{Amounts, amount, count, total}
-use Rattle.code_flow_system.specs.Flows.{price, value}
+use Rattle.code_flow_system.specs.Flows.{price}
 use Rattle.code_flow_system.specs.MoveCosts.{move_cost}
-use Rattle.code_flow_system.specs.Certificates.{Limit, never_limits, least_terms, most_terms, least_limit, most_limit, loop_limits, size_by, IsNarrow}
+use Rattle.code_flow_system.specs.Certificates.{never_limits, least_limit, most_limit, loop_limits, size_by, IsNarrow}
 use Rattle.path_ranges.proofs.TotalLemmas.{leaves, count-total, total_least}
 use Rattle.path_ranges.proofs.PartLemmas.{same_least, same_most}
 use Rattle.path_ranges.specs.Narrow.{FetchesCost, LooseCountsBelow, HasShortBounds, LimitsAreNarrow}

@@ -12,10 +12,10 @@ ghost use Rattle.path_search.specs.Unmarked.{no_flow, one_flow};
 
 use crate::marking::{kind_of, marked};
 use crate::unmarked::unmarked_cert;
+use code_flow_answer::Bounded;
 use code_flow_lookup::potential;
 use code_flow_system::{Cert, Flow, LoopClaim, LoopShape, Mark, Part, Span, System};
-use path_amounts::{Costed, cost_flow};
-use path_answer::Bounded;
+use path_flow_counts::{Costed, cost_flow};
 use path_values::settle_costs;
 use rv_core::Costs;
 use std::alloc::{AllocError, Global};

@@ -3,8 +3,8 @@ ghost use Rattle.std.specs.Prelude.{◌≡◌};
 ghost use Rattle.path_search.specs.Kinds.{IsMarked, SaysOne};
 ghost use Rattle.path_search.specs.Unmarked.{marked};
 
+use code_flow_answer::Kind;
 use code_flow_system::{Cert, Flow, Mark};
-use path_answer::Kind;
 
 /// A certificate with a mark, the bound and a flow.
 pub fn marked(cert: Cert, mark: Mark, cycles: u64, flow: Flow) -> Cert

@@ -1,10 +1,9 @@
 -- All ranges of a search by costs.
-use Rattle.std.proofs.Common.{◌*◌, ◌≤◌, ◌^◌, ℤ, pos, ◌≤ℤ◌, arith, List, [], ◌∷◌, All, unsigned_abs}
+use Rattle.std.proofs.Common.{◌*◌, ◌≤◌, ◌^◌, pos, arith, List, [], ◌∷◌, All, unsigned_abs}
 use Rattle.std.proofs.lemmas.Int.{ints}
 use Rattle.std.proofs.lemmas.List.Elements.{All-head, All-tail, All-cons, All-nil}
 use Rattle.frac128.specs.Terms.{coefficient}
 use Rattle.rv_core.specs.Table.{Table}
-use Rattle.code_flow_system.specs.declared.moves.Move.{Move}
 use Rattle.code_flow_system.specs.declared.shapes.LoopShape.{LoopShape}
 use Rattle.code_flow_system.specs.declared.shapes.Span.{Span}
 use Rattle.code_flow_system.specs.Systems.{System}

@@ -1,20 +1,18 @@
 -- All functions' numbers stay small, one after the other.
-use Rattle.std.proofs.Common.{◌≡◌, ℕ, zero, suc, ◌+◌, ◌≤◌, ◌<◌, ◌^◌, ℤ, pos, neg_ℤ, ◌+ℤ◌, ◌-ℤ◌, ◌≤ℤ◌, ◌<ℤ◌, arith, refl, sym, ap, ◌∙◌, subst, List, [], ◌∷◌, length}
+use Rattle.std.proofs.Common.{ℕ, ◌+◌, ◌≤◌, ◌<◌, ◌^◌, ℤ, pos, ◌+ℤ◌, ◌-ℤ◌, ◌≤ℤ◌, ◌<ℤ◌, arith, sym, subst, List, [], ◌∷◌, length}
 use Rattle.std.proofs.lemmas.Int.{ints}
-use Rattle.code_flow_system.specs.declared.moves.Move.{Move}
 use Rattle.code_flow_system.specs.declared.shapes.LoopShape.{LoopShape}
 use Rattle.code_flow_system.specs.declared.shapes.Span.{Span}
 use Rattle.code_flow_system.specs.Systems.{System}
 use Rattle.loop_walks.specs.Walks.{worth_at}
 use Rattle.loop_walks.specs.Levels.{Level}
 use Rattle.loop_ranges.specs.Reach.{AreBelow, reach}
-use Rattle.loop_sizes.specs.Laws.{IsIn, IsSizedCode, IsSized}
+use Rattle.loop_sizes.specs.Laws.{IsIn, IsSized}
 use Rattle.loop_sizes.proofs.LevelSizes.{stay_small}
 use Rattle.path_places.specs.PlaceLaws.{function_steps}
 use Rattle.path_places.specs.Driver.{Prices, blank, function_loops, function_level}
 use Rattle.path_places.proofs.DriverLemmas.{zero_at}
-use Rattle.path_ranges.specs.Bounded.{IsBounded}
-use Rattle.path_ranges.specs.Ranges.{IsLooseFunction, FunctionsAreLoose, loop_step, IsEnough}
+use Rattle.path_ranges.specs.Ranges.{IsLooseFunction, FunctionsAreLoose, loop_step}
 use Rattle.path_ranges.proofs.CountLemmas.{kept, loops-kept, all_kept, all_kept_most, reach_least, reach-add, reach_grows}
 use Rattle.path_ranges.proofs.WorthRanges.{AreAbove, step_positive, ground_below, function_below, function_above, blank_within}
 use Rattle.path_ranges.proofs.SystemRanges.{walks_bounded}

@@ -1,5 +1,5 @@
 // A certificate with nothing for claims that forbid to visit an address.
-ghost use Rattle.std.specs.Prelude.{◌≡◌, ◌∷◌, ◌++◌, [], length, IfOk};
+ghost use Rattle.std.specs.Prelude.{◌≡◌, IfOk};
 ghost use Rattle.path_places.specs.Duals.{both_of};
 ghost use Rattle.path_values.specs.Plain.{plain_of};
 

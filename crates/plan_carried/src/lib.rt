@@ -1,4 +1,4 @@
-//! Why the plan of a source carries it.
+//! Why the plan of a source keeps its runs, counts and bounds.
 //!
 //! `specs/Loops` has the loops of a source, fillings included, with the numbers and the bounds that they have in the plan. Proved in `proofs/`: these are
 //! the loops of the plan, each once (`LoopPrograms`), and with the numbers that they have in the source they are those of the source (`LoopSources`).

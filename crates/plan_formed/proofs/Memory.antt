@@ -3,6 +3,7 @@ use Rattle.std.proofs.Common.{◌≡◌, ℕ, ◌+◌, ◌*◌, ◌≤◌, Bool,
 use Rattle.std.specs.Prelude.{if◌then◌else◌, nat_lt, sum_by}
 use Rattle.std.proofs.lemmas.Bool.{ltb-false}
 use Rattle.std.proofs.lemmas.Option.{none-some}
+use Rattle.wcc_base.specs.Budgets.{most_locals}
 use Rattle.facts_definitions.specs.FlowFacts.{main_of}
 use Rattle.facts_definitions.specs.declared.facts.Facts.{Facts}
 use Rattle.c_tree.specs.Size.{size_unit}
@@ -76,7 +77,7 @@ module _ (names : List (List ℕ)) (items : Row (External ℕ)) (at : ℕ) (pass
       (no_second (broken (first_fault (unit_nodes (outline_of names unit) unit))) (limits_behind variables) behind_is))
 
   unit_takes : (facts : Facts) → FunctionsFramed (homes_of (typed_of names (Whole items at))) (typed_of names (Whole items at)).variables (length (typed_of names (Whole items at)).variables) (typed_of names (Whole items at)).functions →
-      sizes.local_bytes (program_planned (typed_of names (Whole items at)) facts (main_of (typed_of names (Whole items at)) names)) ≤ 524288
+      sizes.local_bytes (program_planned (typed_of names (Whole items at)) facts (main_of (typed_of names (Whole items at)) names)) ≤ most_locals
   unit_takes facts framed =
       let program = typed_of names (Whole items at) in
       let variables = program.variables in
@@ -90,13 +91,13 @@ module _ (names : List (List ℕ)) (items : Row (External ℕ)) (at : ℕ) (pass
       itself : (n : ℕ) → n ≤ n
       itself n = omega arith
 
-      all : (f o own s l n u : ℕ) → f ≤ 4 * own + 8 * n → own ≤ s → o + 4 * s ≤ l → n + 1 ≤ u → u ≤ 16384 → l ≤ 262144 → f + o ≤ 524288
+      all : (f o own s l n u : ℕ) → f ≤ 4 * own + 8 * n → own ≤ s → o + 4 * s ≤ l → n + 1 ≤ u → u ≤ 16384 → l ≤ 262144 → f + o ≤ most_locals
       all f o own s l n u a b d e g h = omega (arith, a, b, d, e, g, h)
 
-of_unit : (names : List (List ℕ)) (unit : TranslationUnit ℕ) → fault_of names unit ≡ None → (p : typed.Program) → p ≡ typed_of names unit → (facts : Facts) → FunctionsFramed (homes_of p) p.variables (length p.variables) p.functions → sizes.local_bytes (program_planned p facts (main_of p names)) ≤ 524288
+of_unit : (names : List (List ℕ)) (unit : TranslationUnit ℕ) → fault_of names unit ≡ None → (p : typed.Program) → p ≡ typed_of names unit → (facts : Facts) → FunctionsFramed (homes_of p) p.variables (length p.variables) p.functions → sizes.local_bytes (program_planned p facts (main_of p names)) ≤ most_locals
 of_unit names (Whole items at) passes p is facts framed =
-    subst (λ q. sizes.local_bytes (program_planned q facts (main_of q names)) ≤ 524288) (sym is) (unit_takes names items at passes facts (subst (λ q. FunctionsFramed (homes_of q) q.variables (length q.variables) q.functions) is framed))
+    subst (λ q. sizes.local_bytes (program_planned q facts (main_of q names)) ≤ most_locals) (sym is) (unit_takes names items at passes facts (subst (λ q. FunctionsFramed (homes_of q) q.variables (length q.variables) q.functions) is framed))
 
 -- where each function's scalars live in its frame, one behind the other
-pub local_most : (names : List (List ℕ)) (program : typed.Program) (facts : Facts) → IsChecked names program facts → FunctionsFramed (homes_of program) program.variables (length program.variables) program.functions → sizes.local_bytes (program_planned program facts (main_of program names)) ≤ 524288
+pub local_most : (names : List (List ℕ)) (program : typed.Program) (facts : Facts) → IsChecked names program facts → FunctionsFramed (homes_of program) program.variables (length program.variables) program.functions → sizes.local_bytes (program_planned program facts (main_of program names)) ≤ most_locals
 local_most names program facts h framed = of_unit names h.unit h.passes program h.program_is facts framed

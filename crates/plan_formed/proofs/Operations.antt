@@ -1,5 +1,6 @@
 -- The plan of a source has at most six operations for each node of the source's tree.
 use Rattle.std.proofs.Common.{ℕ, ◌*◌, ◌≤◌, List, [], sym, subst, arith}
+use Rattle.wcc_base.specs.Budgets.{most_operations}
 use Rattle.facts_definitions.specs.FlowFacts.{main_of}
 use Rattle.facts_definitions.specs.declared.facts.Facts.{Facts}
 use Rattle.c_tree.specs.Size.{size_unit}
@@ -26,5 +27,5 @@ operations_most names program facts checked =
     subst (λ p. program_operations (program_planned p facts (main_of p names)) ≤ 6 * (size_unit checked.unit).nodes) (sym checked.program_is) (unit_operations names checked.unit facts (main_of (typed_of names checked.unit) names))
 
 -- within what passes may come to, since a source has at most 16,384 nodes
-pub operations_few : (names : List (List ℕ)) (program : Program) (facts : Facts) → IsChecked names program facts → program_operations (program_planned program facts (main_of program names)) ≤ 98304
+pub operations_few : (names : List (List ℕ)) (program : Program) (facts : Facts) → IsChecked names program facts → program_operations (program_planned program facts (main_of program names)) ≤ most_operations
 operations_few names program facts checked = omega (arith, operations_most names program facts checked, few_nodes names checked.unit checked.passes)

@@ -6,7 +6,6 @@ use Rattle.std.proofs.lemmas.List.Elements.{All-head, All-tail}
 use Rattle.facts_definitions.specs.FlowFacts.{IsDerived, derived_bounds, or_none}
 use Rattle.facts_definitions.specs.Most.{no_bounds}
 use Rattle.facts_definitions.specs.PragmaTexts.{at_most, bounded, bounds_among, loop_bounds, number, pragma_runs, same_bytes}
-use Rattle.facts_definitions.specs.declared.facts.Bounds.{Bounds}
 use Rattle.facts_definitions.specs.declared.facts.Derived.{Derived}
 use Rattle.types_tree.specs.Tree.{Program}
 use Rattle.plan_formed.specs.Small.{Small}

@@ -2,6 +2,7 @@
 use Rattle.std.proofs.Common.{◌≡◌, ℕ, suc, ◌+◌, ◌≤◌, List, [], ◌∷◌, ◌++◌, length, Option, Some, None, refl, sym, ap, ◌∙◌, subst, arith}
 use Rattle.std.specs.Prelude.{slice_get, slice_index_or}
 use Rattle.std.proofs.lemmas.Option.{none-some}
+use Rattle.wcc_base.specs.Budgets.{most_locals}
 use Rattle.facts_definitions.specs.FlowFacts.{AreFacts, main_of}
 use Rattle.facts_definitions.specs.declared.facts.Facts.{Facts}
 use Rattle.c_tree.specs.Size.{size_unit}
@@ -101,5 +102,5 @@ unit_framed names (Whole items at) passes p is facts are =
     are (subst CallsDefined (sym is) (calls_defined names items at passes)) [] p.functions refl
 
 -- what is its functions' own
-pub bytes_most : (names : List (List ℕ)) (program : typed.Program) (facts : Facts) → IsChecked names program facts → local_bytes (program_planned program facts (main_of program names)) ≤ 524288
+pub bytes_most : (names : List (List ℕ)) (program : typed.Program) (facts : Facts) → IsChecked names program facts → local_bytes (program_planned program facts (main_of program names)) ≤ most_locals
 bytes_most names program facts h = local_most names program facts h (unit_framed names h.unit h.passes program h.program_is facts h.facts_are)

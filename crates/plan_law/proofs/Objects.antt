@@ -11,7 +11,6 @@ use Rattle.types_tree.specs.declared.variable.Extent.TheVariants.{Array, Paramet
 use Rattle.types_tree.specs.declared.variable.Variable.{Variable}
 use Rattle.types_value.specs.Kinds.{bytes, is_void}
 use Rattle.types_value.specs.declared.kind.Kind.{Kind}
-use Rattle.types_value.specs.declared.kind.Kind.TheVariants as types
 use Rattle.high_ir.specs.declared.object.Kind.{Kind as HighKind}
 use Rattle.high_ir.specs.declared.object.Kind.TheVariants as kinds
 use Rattle.high_ir.specs.Tree.{Object}

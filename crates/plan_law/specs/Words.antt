@@ -1,5 +1,5 @@
 -- Typed programs whose constants are words.
-use Rattle.std.specs.Prelude.{◌<◌, ◌^◌, List, [], ◌∷◌, Option, Some, None}
+use Rattle.std.specs.Prelude.{◌<◌, ◌^◌, List, [], ◌∷◌, Option}
 use Rattle.types_tree.specs.Tree as c
 use Rattle.plan_forms.specs.Everywhere.{AllHold, DeclarationHolds, Holds, InitialHolds, ItemsHold, ObjectsHold, OptionHolds, PlaceHolds, StartHolds, StatementHolds, plain_object, plain_place}
 

@@ -14,9 +14,9 @@ use Rattle.c_tree.specs.declared.pragma.Pragma.{Pragma}
 use Rattle.types_tree.specs.Tree.{Expr, ForStart, Statement, While, Do, For}
 use Rattle.high_ir.specs.declared.object.Kind.{Kind}
 use Rattle.high_ir.specs.Tree as high
-use Rattle.high_ir.specs.Tree.{Statements, End, Then, Seq, Block}
+use Rattle.high_ir.specs.Tree.{Statements, End, Seq, Block}
 use Rattle.high_ir.specs.Meaning as meaning
-use Rattle.high_ir.specs.Meaning.{State, Outcome, Goes, Leaves, Returns, then_do, out_of_block, run_all}
+use Rattle.high_ir.specs.Meaning.{State, Outcome, Goes, then_do, out_of_block, run_all}
 use Rattle.high_code.specs.Code.{joined, alone, AllWithin}
 use Rattle.high_code.proofs.Joined.{run_all-joined, run_all-alone, AllWithin-joined}
 use Rattle.plan_definition.specs.declared.purpose.Purpose.TheVariants.{Effect, Unless}

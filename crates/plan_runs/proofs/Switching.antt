@@ -8,7 +8,7 @@ use Rattle.meaning_semantics.specs.Runs.{or_zero}
 use Rattle.meaning_semantics.specs.State as source
 use Rattle.meaning_semantics.specs.Statements as statements
 use Rattle.meaning_semantics.specs.Values.{value}
-use Rattle.meaning_semantics.specs.Statements.{entered, has_case, is_case, is_chosen, is_default, out_of_switch, run, run_from, run_items}
+use Rattle.meaning_semantics.specs.Statements.{entered, has_case, is_case, is_chosen, out_of_switch, run, run_from, run_items}
 use Rattle.meaning_semantics.specs.declared.outcome.Stop.{Stop}
 use Rattle.meaning_semantics.specs.declared.outcome.Flow.{Flow}
 use Rattle.meaning_semantics.specs.declared.outcome.Flow.TheVariants.{Onward, Break, Continue, Return}

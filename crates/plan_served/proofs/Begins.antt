@@ -59,7 +59,7 @@ use Rattle.high_ir.specs.Words.{converted}
 use Rattle.high_ir.specs.declared.object.Array.{Array}
 use Rattle.high_ir.specs.declared.object.Base.TheVariants.{Object as Own}
 use Rattle.plan_definition.specs.declared.home.Home.TheVariants.{Memory}
-use Rattle.plan_definition.specs.Layouts.{Given, first_given, firsts_of, givens, homes_of, objects_from, storage_of}
+use Rattle.plan_definition.specs.Layouts.{Given, first_given, firsts_of, givens, objects_from, storage_of}
 use Rattle.plan_definition.specs.Layouts as plans
 use Rattle.plan_definition.specs.Operators.{kind_of}
 use Rattle.plan_runs.specs.Cells.{cell, size}

@@ -1,28 +1,23 @@
 -- What is known where a function of a unit is defined.
-use Rattle.std.proofs.Common.{◌≡◌, inl, inr, ⊎_elim, refl, ap, ◌∙◌, sym, subst, ℕ, ◌+◌, ◌≤◌, Bool, true, false, List, [], ◌∷◌, ◌++◌, drop, length, Some, arith, append-nil, append_assoc}
+use Rattle.std.proofs.Common.{◌≡◌, ⊎_elim, refl, ap, ◌∙◌, sym, subst, ℕ, ◌+◌, ◌≤◌, List, [], ◌∷◌, ◌++◌, drop, length, Some, arith, append-nil, append_assoc}
 use Rattle.std.specs.Prelude.{slice_get}
 use Rattle.std.specs.List.{All}
-use Rattle.std.proofs.lemmas.Bool.{false≢true}
 use Rattle.std.proofs.lemmas.List.{length-map}
 use Rattle.std.proofs.lemmas.List.Elements.{All-append, All-cons, All-head, All-nil, All-tail}
-use Rattle.std.proofs.lemmas.Option.{none-some}
-use Rattle.c_tree.specs.Tree.{Row, Nothing, Then, Object, Declared, Declaration, Objects, Prototype, External, Restriction, Declaring, Function}
+use Rattle.c_tree.specs.Tree.{Row, Nothing, Then, External, Restriction, Declaring, Function}
 use Rattle.types_tree.specs.Tree as typed
 use Rattle.types_tree.specs.Tree.{function_name}
 use Rattle.types_tree.specs.declared.variable.Variable.{Variable}
-use Rattle.types_rules.specs.DeclarationRules.{Base, after_declaration, after_object, base_of, extent_of, is_filled, routine, with_filling, within_function}
-use Rattle.types_rules.specs.Scope.{Around, Outline, after_row, has_scope, in_block, left, started, with_definition, with_object, with_routine, without_innermost}
-use Rattle.types_rules.specs.Sights.{after_external, external_nodes, externals_nodes}
-use Rattle.types_rules.specs.Typing.{and_external, typed_external, typed_function, typed_row}
+use Rattle.types_rules.specs.Scope.{Around, Outline, left, started}
+use Rattle.types_rules.specs.Typing.{typed_function}
 use Rattle.plan_definition.specs.Layouts.{first_of, firsts_of}
-use Rattle.types_seen.specs.Growing.{Grows, Inside}
-use Rattle.types_seen.proofs.Rules.{NoFault, faultless_first, faultless_second}
-use Rattle.types_seen.proofs.Growing.{external_grows, grows_same, grows_then, in_entered, in_same, inside_items, inside_list, inside_then, without_innermost-push}
-use Rattle.types_seen.specs.Fronts.{Definition, IsDefined, IsFront, begun_by, behind, ended_by, external_by, function_by, functions_of}
+use Rattle.types_seen.specs.Growing.{Grows}
+use Rattle.types_seen.proofs.Growing.{external_grows, grows_same, grows_then, inside_items}
+use Rattle.types_seen.specs.Fronts.{Definition, IsFront, begun_by, behind, ended_by, external_by, function_by, functions_of}
 use Rattle.plan_served.proofs.Homes.{AtLeast, AtMost}
 use Rattle.types_seen.specs.Units.{IsUnit}
 use Rattle.types_seen.proofs.Known.{named}
-use Rattle.types_seen.proofs.Lists.{extended, slice_get-behind, slice_get-cases, slice_get-one}
+use Rattle.types_seen.proofs.Lists.{extended, slice_get-behind}
 use Rattle.types_seen.proofs.Fronts.{begun_block, front_faultless, front_grows, front_less, functions_then}
 
 pub firsts_of-append : (xs ys : List typed.Function) → firsts_of (xs ++ ys) ≡ firsts_of xs ++ firsts_of ys

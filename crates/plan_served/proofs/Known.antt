@@ -1,41 +1,27 @@
 -- Each function that is called is known with the parameters and the result of its definition.
-use Rattle.std.proofs.Common.{◌≡◌, inl, inr, refl, ap, ◌∙◌, sym, subst, ℕ, ◌+◌, ◌<◌, zero, suc, Bool, true, false, cond, List, [], ◌∷◌, ◌++◌, length, map, Option, Some, None, nat_eq, arith, one-add, eqb-true, eq-eqb, lt-ltb}
-use Rattle.std.specs.Prelude.{◌&&◌, ◌||◌, ◌==◌, if◌then◌else◌, not, slice_get}
-use Rattle.std.specs.List.{list_any, position_or_len}
-use Rattle.std.specs.Map.{lookup}
-use Rattle.std.proofs.lemmas.Bool.{and_parts, false≢true, not-false, or_parts, true≢false}
-use Rattle.std.proofs.lemmas.Option.{none-some, same_Some}
-use Rattle.c_tree.specs.Tree.{Row, Nothing, Then, Param, Parameter, Shape, Scalar, Unsized, Sized, Object, Declared, Declaration, Objects, Prototype, External, Restriction, Declaring, Function}
+use Rattle.std.proofs.Common.{◌≡◌, inl, inr, refl, ap, ◌∙◌, sym, ℕ, Bool, true, false, List, [], ◌∷◌, Some, None}
+use Rattle.std.specs.Prelude.{if◌then◌else◌, slice_get}
+use Rattle.std.proofs.lemmas.Bool.{false≢true}
+use Rattle.c_tree.specs.Tree.{Row, Nothing, Then, Param, Parameter, Shape, Scalar, Unsized, Sized, External}
 use Rattle.c_tree.specs.declared.expression.Specifier.{Specifier}
-use Rattle.types_tree.specs.Tree.{function_name}
 use Rattle.types_tree.specs.Tree as typed
-use Rattle.types_tree.specs.declared.expression.Callee.TheVariants.{Getchar, Putchar, Function as Own}
-use Rattle.types_value.specs.Kinds.{is_void, same_kind}
-use Rattle.types_value.specs.declared.kind.Kind.{Kind as CType}
-use Rattle.types_rules.specs.DeclarationRules.{Base, after_declaration, after_object, after_param, base_of, extent_of, has_bad_param_size, has_no_constant_size, is_filled, with_filling, function_rule, has_other_type, is_no_list, is_object, param_type, param_types, redeclares, redefines, routine, types_of, within_function}
-use Rattle.types_rules.specs.ExpressionRules.{when}
-use Rattle.types_rules.specs.Scope.{Around, Outline, after_row, found_here, getchar_type, index_of, is_among, nothing_yet, or_else, or_zero, putchar_type, routine_of, same_bool, same_param, same_params, same_type, started, unseen, with_number, with_object, with_routine, with_type}
-use Rattle.types_rules.specs.Sights.{SeenFunction, definitions, external_nodes, externals_nodes, fault_at, first_fault, param_nodes, params_nodes, shape_nodes, items_nodes, body_around}
-use Rattle.types_rules.specs.Specifiers.{are_wrong, is_const, kind_spelled}
-use Rattle.types_rules.specs.StatementRules.{in_function}
-use Rattle.types_rules.specs.Types.{has_definition}
+use Rattle.types_tree.specs.declared.expression.Callee.TheVariants.{Function as Own}
+use Rattle.types_rules.specs.DeclarationRules.{after_param, is_no_list, param_type, param_types, types_of, within_function}
+use Rattle.types_rules.specs.Scope.{Around, Outline, after_row, index_of, started, unseen}
+use Rattle.types_rules.specs.Sights.{definitions, externals_nodes, param_nodes, params_nodes}
+use Rattle.types_rules.specs.Specifiers.{is_const, kind_spelled}
 use Rattle.types_rules.specs.Typing.{and_param, typed_param, typed_params, typed_row, typed_shape}
-use Rattle.types_rules.specs.declared.fault.Rule.TheVariants as rules
 use Rattle.types_rules.specs.declared.scope.ParamType.{ParamType}
 use Rattle.types_rules.specs.declared.scope.Routine.{Routine}
-use Rattle.high_ir.specs.declared.object.Kind.TheVariants.{Word}
 use Rattle.plan_definition.specs.Operators.{kind_of}
-use Rattle.plan_runs.specs.ExpressionFits.{OfWord, OfArray, Signatures, Suits, call_kind, parameters_of}
-use Rattle.types_seen.specs.Growing.{Grows}
+use Rattle.plan_runs.specs.ExpressionFits.{OfWord, OfArray, Signatures}
 use Rattle.plan_served.specs.Seen.{IsKnownAs, Knows, formal, formals}
-use Rattle.types_seen.proofs.Growing.{grows_routine, grows_same, grows_then}
-use Rattle.types_seen.proofs.Rules.{NoFault, faultless_first, faultless_second, no_rule, none_first, none_second, not_when, parts_keep}
+use Rattle.types_seen.proofs.Rules.{NoFault, faultless_first, faultless_second}
 use Rattle.types_seen.proofs.Known.{OfName, head_faultless, known_by, no_nameless}
 use Rattle.plan_served.proofs.Widths.{or_int-kind}
-use Rattle.types_seen.specs.Fronts.{Definition, IsFront, begun_by, behind, ended_by, external_by, function_by, functions_of}
+use Rattle.types_seen.specs.Fronts.{behind, external_by, function_by, functions_of}
 use Rattle.plan_served.specs.Layouts.{formal_of, formals_of, parameters_in, result_in, signatures_of}
-use Rattle.plan_served.proofs.Fronts.{among}
-use Rattle.types_seen.proofs.Fronts.{defined, front_grows, functions_then, inside_ended, part_faultless}
+use Rattle.types_seen.proofs.Fronts.{part_faultless}
 
 -- parameters of a definition
 formal_same : (specifiers : List Specifier) (name : ℕ) (shape : Shape ℕ) (at : ℕ) (a : Around) → formal (param_type (Parameter specifiers (Some name) shape at)) ≡ formal_of specifiers (typed_shape shape a)

@@ -5,7 +5,7 @@ use Rattle.std.proofs.lemmas.Bool.{and_parts, false≢true, true≢false}
 use Rattle.std.proofs.lemmas.Option.{none-some, same_Some}
 use Rattle.types_calls.specs.Chains.{Among}
 use Rattle.types_rules.specs.ExpressionRules.{is_element_place, is_scalar_place, names_array, names_no_array}
-use Rattle.types_rules.specs.Scope.{Around, found, found_here, found_outside, or_else}
+use Rattle.types_rules.specs.Scope.{Around, found}
 use Rattle.types_rules.specs.Types.{element_kind, is_array_for, is_callable, is_unknown, name_kind}
 use Rattle.types_rules.specs.Typing.{object_number, typed_name}
 use Rattle.types_rules.specs.declared.scope.Binding.{Binding}

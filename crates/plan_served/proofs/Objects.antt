@@ -1,7 +1,7 @@
 -- The objects of a function are as its layout says.
-use Rattle.std.proofs.Common.{◌≡◌, refl, ap, ◌∙◌, sym, subst, ℕ, ◌+◌, ◌<◌, ◌≤◌, Bool, true, false, List, [], ◌∷◌, ◌++◌, length, Option, Some, None, arith, length-append, ltb-true, ltb-false, leb-true}
-use Rattle.std.specs.Prelude.{◌&&◌, ◌||◌, ◌-◌, ◌==◌, not, nat_lt, nat_le, slice_get, slice_index_or, is_none, is_some}
-use Rattle.std.proofs.lemmas.Bool.{and_parts, eq-eqb, false≢true, not-false, or_left, or_parts, or_right, true≢false}
+use Rattle.std.proofs.Common.{◌≡◌, refl, ap, ◌∙◌, sym, subst, ℕ, ◌+◌, ◌<◌, ◌≤◌, Bool, true, false, List, [], ◌∷◌, ◌++◌, length, arith, length-append, ltb-true, ltb-false}
+use Rattle.std.specs.Prelude.{◌&&◌, ◌-◌, ◌==◌, not, nat_lt, slice_get, slice_index_or, is_none}
+use Rattle.std.proofs.lemmas.Bool.{eq-eqb, false≢true, or_left, or_parts, or_right, true≢false}
 use Rattle.std.proofs.lemmas.Option.{get_or_from_slice_get}
 use Rattle.c_tree.specs.Tree.{Row, Nothing, Then, Expr, Exprs, NoExpr, AndExpr, Shape, Scalar, Unsized, Sized, Initial, Absent, Value, Listed, Object, Declared}
 use Rattle.types_calls.specs.Calls.{expr_calls, exprs_calls, initial_calls, object_calls, objects_calls, shape_calls}
@@ -14,16 +14,13 @@ use Rattle.types_tree.specs.declared.variable.Duration.TheVariants.{Automatic}
 use Rattle.types_tree.specs.declared.variable.Extent.{Extent}
 use Rattle.types_tree.specs.declared.variable.Extent.TheVariants.{Scalar as Single, Array as Elements, Parameter as Passed}
 use Rattle.types_tree.specs.declared.variable.Variable.{Variable}
-use Rattle.types_value.specs.Kinds.{is_void}
 use Rattle.types_value.specs.declared.kind.Kind.{Kind as CType}
 use Rattle.types_rules.specs.Constants.{constant_word}
-use Rattle.types_rules.specs.DeclarationRules.{Base, after_object, any_not_constant, extent_of, has_bad_size, has_no_constant_size, has_no_constant_value, has_void_value, has_wrong_initial, is_bad_size, is_filled, is_size, object_rule, with_filling}
-use Rattle.types_rules.specs.ExpressionRules.{when}
-use Rattle.types_rules.specs.Scope.{Around, after_row, duration_in, found_here, in_block, is_array, or_else, or_zero, with_object}
-use Rattle.types_rules.specs.Sights.{SeenObject, expr_nodes, fault_at, first_fault, initial_nodes, list_nodes, object_nodes, objects_nodes, shape_nodes}
+use Rattle.types_rules.specs.DeclarationRules.{Base, after_object, any_not_constant, extent_of, is_filled, with_filling}
+use Rattle.types_rules.specs.Scope.{Around, after_row, duration_in, in_block, is_array, or_zero, with_object}
+use Rattle.types_rules.specs.Sights.{SeenObject, expr_nodes, list_nodes, object_nodes, objects_nodes, shape_nodes}
 use Rattle.types_rules.specs.Types.{count, kind_of}
 use Rattle.types_rules.specs.Typing.{and_object, filling_of, typed_initial, typed_object, typed_row, typed_shape, typed_value, value_at, values_at}
-use Rattle.types_rules.specs.declared.fault.Rule.TheVariants as rules
 use Rattle.high_ir.specs.declared.object.Kind.{Kind}
 use Rattle.high_ir.specs.declared.object.Base.{Base as Place}
 use Rattle.high_ir.specs.declared.object.Base.TheVariants.{Object as Own, Parameter}
@@ -36,13 +33,13 @@ use Rattle.plan_runs.specs.StatementFits.{FillingFits, FitInitial, FitObjects, F
 use Rattle.types_seen.specs.Growing.{Grows}
 use Rattle.plan_served.specs.Seen.{Callable, IsObjectSeen, Knows, LivesAs, Sees}
 use Rattle.plan_served.specs.Places.{AreBounds, IsHandedOver, IsHome, IsInFrame, IsInMemory, IsLaid, IsObjectBase, IsParameterBase, IsPlan, IsStored}
-use Rattle.types_seen.proofs.Rules.{NoFault, faultless_first, faultless_second, no_rule, none_first, none_second, not_when, parts_keep}
+use Rattle.types_seen.proofs.Rules.{NoFault, faultless_first, faultless_second, parts_keep}
 use Rattle.plan_served.proofs.Names.{calls_first, calls_second}
 use Rattle.plan_served.proofs.Expressions.{calls_converted, fit_converted, fit_expr, range_converted, range_is}
 use Rattle.types_seen.proofs.Growing.{grows_declared, grows_same, grows_then, in_same, inside_declared, slice_get-last}
 use Rattle.plan_served.proofs.Seeing.{knows_before, sees_object, sees_same}
 use Rattle.plan_served.proofs.Loops.{bounds_first, bounds_row}
-use Rattle.types_seen.proofs.ObjectRules.{KeepsObject, keeps_at, size_ok, unsized_ok}
+use Rattle.types_seen.proofs.ObjectRules.{keeps_at, size_ok, unsized_ok}
 
 abbrev is_passed_extent : Extent → Bool
 is_passed_extent Single = false

@@ -1,22 +1,20 @@
 -- No two objects of a program live at one place.
-use Rattle.std.proofs.Common.{◌≡◌, ◌⊎◌, inl, inr, ⊎_elim, refl, ap, ◌∙◌, sym, subst, ℕ, ◌+◌, ◌-◌, ◌<◌, ◌≤◌, zero, suc, Bool, true, false, cond, List, [], ◌∷◌, ◌++◌, length, Some, arith, le-leb, lt-ltb, ltb-true, ltb-false, length-append, drop}
+use Rattle.std.proofs.Common.{◌≡◌, ◌⊎◌, inl, inr, ⊎_elim, refl, ap, ◌∙◌, sym, subst, ℕ, ◌+◌, ◌-◌, ◌<◌, ◌≤◌, zero, suc, Bool, true, false, cond, List, [], ◌∷◌, ◌++◌, length, Some, arith, le-leb, lt-ltb, ltb-true, ltb-false, length-append}
 use Rattle.std.specs.Prelude.{◌==◌, if◌then◌else◌, nat_le, nat_lt, count_by, slice_get, slice_index_or}
 use Rattle.std.proofs.lemmas.Bool.{false≢true, false_from_ne_true, leb-true, true≢false}
 use Rattle.std.proofs.lemmas.List.Elements.{All-head, All-tail}
 use Rattle.std.proofs.lemmas.List.Sums.{sum_by-append, sum_by-cons}
-use Rattle.std.proofs.lemmas.Option.{get_or_from_slice_get, none-some, same_Some, slice_get_within}
+use Rattle.std.proofs.lemmas.Option.{get_or_from_slice_get}
 use Rattle.facts_definitions.specs.declared.facts.Facts.{Facts}
 use Rattle.meaning_semantics.specs.State as source
-use Rattle.c_tree.specs.Tree.{Row, Nothing, Then, Object, Declared, Scalar as Single, Unsized, Sized, Objects, Prototype, External, Restriction, Declaring, Function}
+use Rattle.c_tree.specs.Tree.{Row, Nothing, Then, External, Function}
 use Rattle.types_tree.specs.Tree as typed
 use Rattle.types_tree.specs.declared.variable.Duration.{Duration}
 use Rattle.types_tree.specs.declared.variable.Duration.TheVariants.{Static, Automatic}
 use Rattle.types_tree.specs.declared.variable.Extent.{Extent}
 use Rattle.types_tree.specs.declared.variable.Extent.TheVariants.{Scalar, Array as Elements, Parameter as Passed}
 use Rattle.types_tree.specs.declared.variable.Variable.{Variable}
-use Rattle.types_rules.specs.DeclarationRules.{Base, after_object, base_of}
-use Rattle.types_rules.specs.Scope.{Around, Outline, after_row, started}
-use Rattle.types_rules.specs.Sights.{after_external}
+use Rattle.types_rules.specs.Scope.{Outline, started}
 use Rattle.high_ir.specs.declared.object.Array.{Array}
 use Rattle.high_ir.specs.declared.object.Base.TheVariants.{Object as Own, Parameter}
 use Rattle.high_ir.specs.declared.object.Kind.{Kind}
@@ -26,18 +24,16 @@ use Rattle.plan_definition.specs.declared.home.Home.TheVariants.{Frame, Memory}
 use Rattle.plan_definition.specs.Layouts.{Next, ahead, begun, firsts_of, home_by, homes_from, homes_of, next_by}
 use Rattle.plan_definition.specs.Operators.{kind_of}
 use Rattle.plan_runs.specs.Meets.{IsLayout, Layout, home, type_in}
-use Rattle.types_seen.specs.Growing.{statics, static_count}
 use Rattle.plan_served.specs.Places.{IsHome}
-use Rattle.types_seen.proofs.Growing.{external_grows, statics-append}
 use Rattle.types_seen.specs.Fronts.{Definition, IsFront, behind, ended_by, external_by, function_by, functions_of}
 use Rattle.plan_served.specs.Layouts.{layout_of, owner_of}
 use Rattle.types_seen.specs.Units.{IsUnit}
 use Rattle.plan_served.proofs.Fronts.{among, continued, firsts_of-append}
-use Rattle.types_seen.proofs.Fronts.{functions_then, inside_ended}
+use Rattle.types_seen.proofs.Fronts.{functions_then}
 use Rattle.plan_served.proofs.Homes.{AreOwn, AtLeast, AtMost, arrays_apart, base_in, frames_apart, homes_by, is_frame_home, is_object, own_homes}
-use Rattle.types_seen.proofs.Lists.{extended, slice_get-cases, slice_get-one, slice_get-some}
+use Rattle.types_seen.proofs.Lists.{slice_get-some}
 use Rattle.plan_served.proofs.Statics.{home_at, laid}
-use Rattle.types_seen.proofs.Objects.{IsHeld, added, held, not_automatic, object_variables}
+use Rattle.types_seen.proofs.Objects.{IsHeld, held}
 use Rattle.types_seen.proofs.Objects.{is_passed_extent, static_extent}
 
 -- how many functions begin up to an object

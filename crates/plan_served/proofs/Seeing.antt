@@ -1,10 +1,6 @@
 -- What names stand for behind parts of a source.
-use Rattle.std.proofs.Common.{◌≡◌, ◌⊎◌, inl, inr, ⊎_elim, refl, ap, ◌∙◌, sym, subst, ℕ, Bool, true, false, if◌then◌else◌, cond, List, [], ◌∷◌, ◌++◌, length, Option, Some, None, nat_eq}
-use Rattle.std.specs.Map.{lookup}
-use Rattle.std.proofs.lemmas.Bool.{eq-eqb, eqb-true, false≢true}
-use Rattle.std.proofs.lemmas.Option.{none-some, same_Some}
-use Rattle.types_rules.specs.Scope.{Around, Scope, bound, entered, found_here, found_outside, is_array, or_else, routine_of, with_object, with_routine, with_type}
-use Rattle.types_rules.specs.Types.{has_definition}
+use Rattle.std.proofs.Common.{◌≡◌, ℕ, Bool, true, false, length}
+use Rattle.types_rules.specs.Scope.{Around, entered, is_array, with_object, with_routine}
 use Rattle.types_rules.specs.declared.scope.Binding.{Binding}
 use Rattle.types_rules.specs.declared.scope.Binding.TheVariants.{Object as Thing, Function as Routine}
 use Rattle.types_rules.specs.declared.scope.Routine.{Routine as Signature}
@@ -19,8 +15,6 @@ use Rattle.plan_runs.specs.Meets.{Layout, home}
 use Rattle.types_seen.specs.Growing.{Grows}
 use Rattle.types_seen.proofs.Scopes as scopes
 use Rattle.plan_served.specs.Seen.{IsKnown, IsObjectSeen, IsSeen, Knows, LivesAs, Sees}
-use Rattle.types_seen.proofs.Growing.{grows_routine}
-use Rattle.plan_served.proofs.Names.{seen_by, type_by}
 
 scalar_wider : (layout : Layout) (f g : Function) (o : ℕ) (h : Home) → (f.live o ≡ true → g.live o ≡ true) → IsScalar layout f o h → IsScalar layout g o h
 scalar_wider layout f g o (Frame x) w s = w s

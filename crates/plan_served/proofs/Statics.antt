@@ -1,10 +1,9 @@
 -- Objects of file level, and those of functions.
-use Rattle.std.proofs.Common.{◌≡◌, inl, inr, ⊎_elim, refl, ap, ◌∙◌, sym, subst, ℕ, ◌+◌, ◌<◌, ◌≤◌, suc, Bool, true, false, List, [], ◌∷◌, ◌++◌, drop, take, length, Option, Some, arith, add-zero, ltb-true, ltb-false}
-use Rattle.std.specs.Prelude.{◌-◌, ◌==◌, ◌||◌, nat_lt, slice_get}
+use Rattle.std.proofs.Common.{◌≡◌, refl, ap, ◌∙◌, sym, subst, ℕ, ◌+◌, suc, Bool, true, false, List, [], ◌∷◌, ◌++◌, drop, take, length, Option, Some, arith, add-zero}
+use Rattle.std.specs.Prelude.{◌-◌, ◌==◌, ◌||◌, slice_get}
 use Rattle.std.specs.List.{list_any}
 use Rattle.std.proofs.Math.Seq.{take-append_seam}
-use Rattle.std.proofs.lemmas.Bool.{false≢true}
-use Rattle.std.proofs.lemmas.Option.{get_or_from_slice_get, none-some, same_Some, slice_get_within}
+use Rattle.std.proofs.lemmas.Option.{get_or_from_slice_get, none-some}
 use Rattle.facts_definitions.specs.Sites.{elements_of}
 use Rattle.facts_definitions.specs.declared.facts.Facts.{Facts}
 use Rattle.c_tree.specs.Tree.{Row, Nothing, Then, Object, Declared, Objects, Prototype, External, Restriction, Declaring, Function}
@@ -17,7 +16,7 @@ use Rattle.types_tree.specs.declared.variable.Extent.{Extent}
 use Rattle.types_tree.specs.declared.variable.Extent.TheVariants.{Scalar, Array as Elements, Parameter as Passed}
 use Rattle.types_tree.specs.declared.variable.Variable.{Variable}
 use Rattle.types_rules.specs.DeclarationRules.{Base, after_object, base_of, extent_of, is_filled, routine, with_filling, within_function}
-use Rattle.types_rules.specs.Scope.{Around, Outline, after_row, duration_in, has_scope, in_block, is_array, left, nothing_yet, started, with_object, with_routine, innermost, getchar_type, putchar_type}
+use Rattle.types_rules.specs.Scope.{Around, Outline, after_row, duration_in, in_block, is_array, left, nothing_yet, started, with_object, with_routine, innermost, getchar_type, putchar_type}
 use Rattle.types_rules.specs.Sights.{after_external}
 use Rattle.types_rules.specs.Specifiers.{has, word_number}
 use Rattle.types_rules.specs.Typing.{and_external, and_object, typed_external, typed_object, typed_row}
@@ -33,11 +32,11 @@ use Rattle.plan_served.specs.Places.{IsHome, IsInMemory, IsLaid, IsStored}
 use Rattle.types_seen.proofs.Growing.{external_grows, grows_declared, grows_same, grows_then, innermost-push, slice_get-last, statics-append}
 use Rattle.plan_served.proofs.Objects.{laid_kind, static_array, static_scalar}
 use Rattle.plan_served.proofs.Seeing.{sees_object, sees_routine, sees_same}
-use Rattle.types_seen.specs.Fronts.{Definition, IsFront, behind, ended_by, external_by}
+use Rattle.types_seen.specs.Fronts.{Definition, behind, ended_by}
 use Rattle.plan_served.specs.Layouts.{constant_by, constant_in, constant_of, first_in, layout_of, owner_of, parameters_in}
-use Rattle.types_seen.proofs.Fronts.{defined_outer, file_level, inside_ended, object_outer, row_outer}
+use Rattle.types_seen.proofs.Fronts.{defined_outer, file_level, inside_ended}
 use Rattle.plan_served.proofs.Homes.{home_is, homes_by}
-use Rattle.types_seen.proofs.Lists.{extended, slice_get-cases, slice_get-one, slice_get-some}
+use Rattle.types_seen.proofs.Lists.{extended}
 use Rattle.types_seen.proofs.Objects.{added, added_duration, object_variables, row_block}
 
 -- what a program's layout says of an object

@@ -1,20 +1,12 @@
 -- A typed tree is that of a unit at which no rule fails.
-use Rattle.std.proofs.Common.{◌≡◌, refl, ap, sym, ℕ, List, Option, Some, None}
-use Rattle.std.proofs.lemmas.Option.{none-some}
+use Rattle.std.proofs.Common.{ℕ, List}
 use Rattle.facts_definitions.specs.declared.facts.Facts.{Facts}
-use Rattle.types_rules.specs.Limits.{broken, limits_before, limits_behind, tally_unit, variables_of}
-use Rattle.types_rules.specs.Scope.{started}
-use Rattle.types_rules.specs.Sights.{externals_nodes, first_fault, outline_of, unit_nodes, SeenUnit}
-use Rattle.types_rules.specs.declared.fault.Fault.{Fault}
-use Rattle.types_rules.specs.declared.fault.TypeFault.TheVariants.{Rule as BreaksRule}
-use Rattle.c_tree.specs.Size.{size_unit}
-use Rattle.c_tree.specs.Tree.{Row, External, TranslationUnit, Whole}
-use Rattle.types_rules.specs.Typed.{fault_behind, fault_of, typed_of}
+use Rattle.types_rules.specs.Sights.{outline_of}
+use Rattle.c_tree.specs.Tree.{Whole}
 use Rattle.types_tree.specs.Tree as typed
 use Rattle.plan_runs.specs.Meets.{IsLayout}
-use Rattle.types_seen.proofs.Rules.{none_first, none_second, parts_keep}
 use Rattle.plan_served.specs.Layouts.{layout_of}
-use Rattle.types_seen.specs.Units.{HasTree, IsUnit}
+use Rattle.types_seen.specs.Units.{HasTree}
 use Rattle.plan_served.proofs.Placed.{placed}
 use Rattle.types_seen.proofs.Units.{of_tree}
 

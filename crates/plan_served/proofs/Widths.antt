@@ -1,8 +1,6 @@
 -- Types of the source as kinds of words.
-use Rattle.std.proofs.Common.{◌≡◌, inl, inr, refl, ap, ◌∙◌, sym, ℕ, true, if◌then◌else◌}
-use Rattle.std.specs.Prelude.{◌==◌}
-use Rattle.std.proofs.lemmas.Bool.{eqb-true}
-use Rattle.types_value.specs.Kinds.{common, joined, kind_number, promoted, same_kind}
+use Rattle.std.proofs.Common.{◌≡◌, inl, inr, refl}
+use Rattle.types_value.specs.Kinds.{common, joined, promoted}
 use Rattle.types_value.specs.declared.kind.Kind.{Kind as CType}
 use Rattle.types_value.specs.declared.kind.Kind.TheVariants.{Void, Char, SignedChar, UnsignedChar, Short, UnsignedShort, Int, Unsigned, Long, UnsignedLong}
 use Rattle.types_value.specs.declared.operator.Operator.{Operator}

@@ -1,5 +1,5 @@
 -- What the layout of a program says of the names that are seen at a place of its source.
-use Rattle.std.specs.Prelude.{◌≡◌, ℕ, Bool, true, false, List, map, Some}
+use Rattle.std.specs.Prelude.{◌≡◌, ℕ, Bool, true, false, List, map}
 use Rattle.types_calls.specs.Chains.{Among}
 use Rattle.types_rules.specs.Scope.{Around, Outline}
 use Rattle.types_tree.specs.declared.expression.Callee.{Callee}

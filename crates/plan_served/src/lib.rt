@@ -1,4 +1,4 @@
-//! That the plan of a well-typed program serves it, and that both begin alike.
+//! Storage of the plan of a well-typed program: each object has a place that fits it, and source and plan begin with the same values.
 //!
 //! `specs/` says what a layout says of the names that are seen at a place (`Seen`) and of the objects that a function declares (`Places`); where the objects
 //! of a program live, whose they are, to which nothing is stored, and what calls of its functions hand over (`Layouts`); and what an object of file level

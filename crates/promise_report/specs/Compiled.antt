@@ -18,8 +18,8 @@ use Rattle.code_flow_system.specs.Systems.{System}
 use Rattle.facts_definitions.specs.declared.facts.Facts.{Facts}
 use Rattle.facts_sources.specs.Sources.{IsSourceBy}
 use Rattle.types_tree.specs.Tree.{Program}
-use Rattle.path_answer.specs.declared.bounded.Kind.{Kind}
-use Rattle.path_answer.specs.declared.bounded.Kind.TheVariants.{Greatest, Empty, Wide, Spent}
+use Rattle.code_flow_answer.specs.declared.bounded.Kind.{Kind}
+use Rattle.code_flow_answer.specs.declared.bounded.Kind.TheVariants.{Greatest, Empty, Wide, Spent}
 use Rattle.path_fact_kinds.specs.Causes.{IsSpent, IsWide}
 use Rattle.path_fact_kinds.specs.Kinds.{IsBoundAlone}
 use Rattle.report_check.specs.Checks.{Holds, IsTextOf}

@@ -1,5 +1,5 @@
 -- What the steps of a check say together.
-use Rattle.std.proofs.Common.{◌≡◌, ◌↔◌, ℕ, ◌≤◌, List, Option, Some, IsNone, true, false, sym, subst, All}
+use Rattle.std.proofs.Common.{◌≡◌, ◌↔◌, ℕ, ◌≤◌, List, Option, Some, IsNone, true, sym, subst, All}
 use Rattle.std.proofs.lemmas.List.Elements.{All-weaker}
 use Rattle.rv_core.specs.Table.{Table}
 use Rattle.rv_core.specs.Images.{Image, AreLoadable}
@@ -28,11 +28,10 @@ use Rattle.report_reading.specs.declared.fault.ReportFault.TheVariants as readin
 use Rattle.report_reading.specs.Reading.{StopsAt as StopsReading}
 use Rattle.report_shares.specs.Shares.{IsProper, SharesFit}
 use Rattle.report_shares.specs.Faults.{share_fault}
-use Rattle.report_check.specs.declared.verdict.Cause.{Cause}
 use Rattle.report_check.specs.declared.verdict.Cause.TheVariants.{FailedRow, FailedShare}
 use Rattle.report_check.specs.declared.verdict.Checked.{Checked}
 use Rattle.report_check.specs.Causes.{image_cause, report_cause, code_cause}
-use Rattle.report_check.specs.Checks.{IsTextOf, AreRead, HaveSystem, TellsShares, Holds, BoundsRuns, IsChecked, StopsAt}
+use Rattle.report_check.specs.Checks.{IsTextOf, AreRead, HaveSystem, TellsShares, BoundsRuns, IsChecked, StopsAt}
 
 -- a certificate is in the form that its system's claims ask for
 pub form_of : (r : Report) (s : System) → s.claims ≡ r.claims → IsReport r → IsInForm s.claims r.cert

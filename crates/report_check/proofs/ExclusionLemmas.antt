@@ -1,5 +1,5 @@
 -- Where a report holds of an image, nothing fails.
-use Rattle.std.proofs.Common.{◌≡◌, ℕ, ◌⊎◌, inl, List, Result, Err, IsOk, refl, sym, ap, ◌∙◌, subst, All}
+use Rattle.std.proofs.Common.{◌≡◌, ℕ, ◌⊎◌, inl, List, Result, Err, IsOk, refl, sym, ap, ◌∙◌, subst}
 use Rattle.rv_core.specs.Table.{Table}
 use Rattle.elf_image.specs.Loading.{image_of}
 use Rattle.elf_image.proofs.FaultLemmas.{is_image}
@@ -13,7 +13,7 @@ use Rattle.report_check.specs.declared.verdict.Cause.{Cause}
 use Rattle.report_check.specs.declared.verdict.Cause.TheVariants.{NoImage, NoReport, BadClaim, NoCode, FailedRow, FailedShare, Memory}
 use Rattle.report_check.specs.declared.verdict.Checked.{Checked}
 use Rattle.std.specs.Prelude.{IsErrOf}
-use Rattle.report_check.specs.Checks.{IsTextOf, AreRead, HaveSystem, TellsShares, Holds, IsAccepted, Fails, StopsAt}
+use Rattle.report_check.specs.Checks.{IsTextOf, HaveSystem, Holds, IsAccepted, Fails, StopsAt}
 use Rattle.report_check.proofs.SystemLemmas.{one_system}
 
 same_report : (text : List ℕ) (r s : Report) → IsTextOf text r → IsTextOf text s → r ≡ s

@@ -1,5 +1,5 @@
 -- An image and claims have one system.
-use Rattle.std.proofs.Common.{◌≡◌, ◌≢◌, ℕ, ◌<◌, ◌≤◌, ◌⊎◌, zero, suc, inl, inr, arith, refl, sym, ap, ◌∙◌, subst, List, [], ◌∷◌, Contains, All, Bool, true, false}
+use Rattle.std.proofs.Common.{◌≡◌, ◌≢◌, ℕ, ◌<◌, ◌≤◌, ◌⊎◌, suc, inl, inr, arith, refl, sym, ap, ◌∙◌, subst, List, [], ◌∷◌, Contains, All, Bool, true, false}
 use Rattle.std.specs.Prelude.{◌==◌, if◌then◌else◌}
 use Rattle.std.proofs.lemmas.Bool.{cases_lt}
 use Rattle.std.proofs.lemmas.Bool.Decides.{nat_tests, eqb_tells}
@@ -7,9 +7,9 @@ use Rattle.std.proofs.lemmas.List.Elements.{All-head, All-tail}
 use Rattle.rv_core.specs.Images.{Image}
 use Rattle.code_flow_system.specs.declared.moves.Move.{Move}
 use Rattle.code_flow_system.specs.Claims.{Claims}
-use Rattle.code_flow_system.specs.Moves.{code_of, moves_at}
+use Rattle.code_flow_system.specs.Moves.{code_of}
 use Rattle.code_flow_system.specs.Reach.{IsReached}
-use Rattle.code_flow_system.specs.Systems.{System, system_of, ComesBefore, AreAscending, moves_from, IsSystemOf}
+use Rattle.code_flow_system.specs.Systems.{System, ComesBefore, AreAscending, moves_from, IsSystemOf}
 
 same_test : (a : ℕ) → (a == a) ≡ true
 same_test a = grind (arith, nat_tests)

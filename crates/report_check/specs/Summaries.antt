@@ -1,8 +1,8 @@
 -- What a report comes to in a few lines: its bound and kind, how many loop and fact lines it has, and the shares of its functions.
 use Rattle.std.specs.Prelude.{◌≡◌, ℕ, List, [], ◌∷◌, length, map, codes}
 use Rattle.std.specs.Fmt.{decimal, signed_decimal}
-use Rattle.path_answer.specs.declared.bounded.Kind.{Kind}
-use Rattle.path_answer.specs.declared.bounded.Kind.TheVariants.{Greatest, Empty, Wide, Spent}
+use Rattle.code_flow_answer.specs.declared.bounded.Kind.{Kind}
+use Rattle.code_flow_answer.specs.declared.bounded.Kind.TheVariants.{Greatest, Empty, Wide, Spent}
 use Rattle.report_words.specs.Words.{Word, Line, lines_text}
 use Rattle.report_text.specs.declared.entries.Share.{Share}
 use Rattle.report_text.specs.Reports.{Report}

@@ -1,12 +1,12 @@
 // What a report comes to in a few lines.
-ghost use Rattle.std.specs.Prelude.{◌≡◌, ◌++◌, ◌∷◌, [], map, IfOk, IfErr, MatchResult, OnOk};
+ghost use Rattle.std.specs.Prelude.{◌≡◌, ◌++◌, map, IfOk, IfErr, MatchResult, OnOk};
 ghost use Rattle.report_words.specs.Words.{line_text, lines_text};
 ghost use Rattle.report_reading.specs.declared.fault.ReportFault.TheVariants as faults;
 ghost use Rattle.report_reading.specs.Reading.{StopsAt};
 ghost use Rattle.report_check.specs.Summaries.{kind_word, count_line, share_line, summary_text, IsSummary};
 
 use crate::reading::read_text;
-use path_answer::Kind;
+use code_flow_answer::Kind;
 use report_reading::ReportFault;
 use report_text::{Report, Share};
 use report_words::{Field, put_line};

@@ -4,9 +4,9 @@ use Rattle.std.proofs.lemmas.List.Elements.{All-head, All-tail, All-weaker}
 use Rattle.std.specs.Fmt.{decimal, signed_decimal}
 use borrow.Author.Tests.{le-leb, eq-eqb}
 use Rattle.code_flow_system.specs.Certificates.{IsSmall}
-use Rattle.path_answer.specs.declared.bounded.Kind.{Kind}
-use Rattle.path_answer.specs.declared.bounded.Kind.TheVariants.{Greatest, Empty, Wide, Spent}
-use Rattle.path_answer.specs.declared.bounded.Column.{Column}
+use Rattle.code_flow_answer.specs.declared.bounded.Kind.{Kind}
+use Rattle.code_flow_answer.specs.declared.bounded.Kind.TheVariants.{Greatest, Empty, Wide, Spent}
+use Rattle.code_flow_answer.specs.declared.bounded.Column.{Column}
 use Rattle.report_words.specs.Words.{address_word}
 use Rattle.report_words.specs.Numbers.{address_of}
 use Rattle.report_words.proofs.WordLemmas.{is_address-address_word, address_of-address_word}

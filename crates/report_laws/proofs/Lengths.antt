@@ -18,9 +18,9 @@ use Rattle.code_flow_system.specs.declared.claims.FactClaim.{FactClaim}
 use Rattle.code_flow_system.specs.declared.claims.LoopClaim.{LoopClaim}
 use Rattle.code_flow_system.specs.declared.claims.Never.{Never}
 use Rattle.code_flow_system.specs.declared.claims.Within.{Within}
-use Rattle.path_answer.specs.declared.bounded.Column.{Column}
-use Rattle.path_answer.specs.declared.bounded.Kind.{Kind}
-use Rattle.path_answer.specs.declared.bounded.Kind.TheVariants.{Greatest, Empty, Wide, Spent}
+use Rattle.code_flow_answer.specs.declared.bounded.Column.{Column}
+use Rattle.code_flow_answer.specs.declared.bounded.Kind.{Kind}
+use Rattle.code_flow_answer.specs.declared.bounded.Kind.TheVariants.{Greatest, Empty, Wide, Spent}
 use Rattle.report_laws.specs.Typed.{IsTyped, IsTypedKind, IsTypedLoop, IsTypedNever, IsTypedPart, IsWord}
 use Rattle.report_words.specs.Words.{Word, Line, address_word, line_text, lines_text, spaced, term_word}
 use Rattle.report_text.specs.declared.entries.CopyLine.{CopyLine}

@@ -7,7 +7,7 @@ use Rattle.code_flow_system.specs.Certificates.{IsSmall, IsPart, FitsMark}
 use Rattle.code_flow_system.specs.declared.cert.Mark.{Mark}
 use Rattle.code_flow_system.specs.declared.cert.Mark.TheVariants as marks
 use Rattle.code_flow_system.specs.declared.cert.Part.{Part}
-use Rattle.path_answer.specs.declared.bounded.Column.{Column}
+use Rattle.code_flow_answer.specs.declared.bounded.Column.{Column}
 use Rattle.report_words.specs.Words.{Word, Line}
 use Rattle.report_text.specs.Reports.{Report}
 use Rattle.report_text.specs.Forms.{mark_of, IsFact, IsColumn, IsShare, IsReport}

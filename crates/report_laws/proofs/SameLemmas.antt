@@ -12,9 +12,9 @@ use Rattle.code_flow_system.specs.declared.claims.LoopClaim.{LoopClaim}
 use Rattle.code_flow_system.specs.declared.claims.FactClaim.{FactClaim}
 use Rattle.code_flow_system.specs.declared.cert.Part.{Part}
 use Rattle.code_flow_system.specs.Certificates.{IsSmall, IsPart}
-use Rattle.path_answer.specs.declared.bounded.Kind.{Kind}
-use Rattle.path_answer.specs.declared.bounded.Kind.TheVariants.{Greatest, Empty, Wide, Spent}
-use Rattle.path_answer.specs.declared.bounded.Column.{Column}
+use Rattle.code_flow_answer.specs.declared.bounded.Kind.{Kind}
+use Rattle.code_flow_answer.specs.declared.bounded.Kind.TheVariants.{Greatest, Empty, Wide, Spent}
+use Rattle.code_flow_answer.specs.declared.bounded.Column.{Column}
 use Rattle.report_words.specs.Words.{Word, Line, address_word, term_word, is_name}
 use Rattle.report_words.specs.Numbers.{number_of, signed_of, address_of, term_number}
 use Rattle.report_words.proofs.WordLemmas.{address_of-address_word}

@@ -2,8 +2,8 @@
 ghost use Rattle.std.specs.Prelude.{All};
 ghost use Rattle.report_laws.specs.Typed.{IsWord, IsTypedKind, IsTypedNever, IsTypedWithin, IsTypedLoop, IsTypedFact, IsTypedPart, IsTypedShare, IsTyped};
 
+use code_flow_answer::Kind;
 use code_flow_system::{FactClaim, LoopClaim, Never, Part, Within};
-use path_answer::Kind;
 use report_text::{CopyLine, Report, Share};
 
 fn are_words(xs: &[u32])

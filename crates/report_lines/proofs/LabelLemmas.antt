@@ -1,9 +1,8 @@
 -- A label that isn't `-` is a name.
-use Rattle.std.proofs.Common.{◌≡◌, ◌==◌, ◌&&◌, ◌||◌, [], ◌∷◌, Bool, true, false, refl, ap, ◌∙◌, codes}
+use Rattle.std.proofs.Common.{◌≡◌, ◌==◌, ◌&&◌, ◌||◌, [], ◌∷◌, Bool, true, false, refl, ap, codes}
 use Rattle.std.proofs.lemmas.Bool.{false≢true}
 use borrow.Author.Tests.{eqb-true}
 use Rattle.report_words.specs.Words.{Word, is_name}
-use Rattle.report_words.specs.Numbers.{is_empty}
 use Rattle.report_words.specs.Shapes.{is_dash}
 
 dash_by : (t u : Bool) (b : Word) → (t && u) ≡ true → (t ≡ true) × (u ≡ true)

@@ -4,7 +4,7 @@ ghost use Rattle.report_words.specs.Numbers.{is_number, number_of};
 ghost use Rattle.report_text.specs.Lines.{kind_line};
 
 use crate::values::small;
-use path_answer::Kind;
+use code_flow_answer::Kind;
 
 /// The kind that a single word says, if it is one.
 pub fn plain_kind(word: &[u8]) -> Option<Kind>

@@ -1,13 +1,13 @@
 // The lines that have any number of words.
-ghost use Rattle.std.specs.Prelude.{◌≡◌, ◌∷◌, [], ◌<◌, ◌&&◌, ℕ, true, length, map, codes, IfOk, ◌^◌, nat_lt, unsigned_abs};
+ghost use Rattle.std.specs.Prelude.{◌≡◌, ◌∷◌, ◌<◌, true, map, codes, IfOk, ◌^◌, nat_lt, unsigned_abs};
 ghost use Rattle.std.specs.Fmt.{signed_decimal};
-ghost use Rattle.report_words.specs.Words.{address_word, is_name};
+ghost use Rattle.report_words.specs.Words.{address_word};
 ghost use Rattle.report_words.specs.Numbers.{is_signed, signed_of, address_of};
 ghost use Rattle.report_text.specs.Lines.{copy_line, column_line};
 ghost use Rattle.report_lines.specs.LineLists.{are_addresses, are_integers, are_small};
 
 use crate::values::{integer, place};
-use path_answer::Column;
+use code_flow_answer::Column;
 use report_text::CopyLine;
 use report_words::{Shape, are_in_range, is_address, is_signed};
 use std::alloc::Global;

@@ -1,6 +1,6 @@
 -- The first lines, one behind the other.
 use Rattle.std.proofs.Common.{ℕ, [], ◌∷◌, false, ap, ◌∙◌}
-use Rattle.path_answer.specs.declared.bounded.Kind.{Kind}
+use Rattle.code_flow_answer.specs.declared.bounded.Kind.{Kind}
 use Rattle.report_text.specs.Lines.{version_lines, cycles_line, kind_line}
 use Rattle.report_rules.specs.Heads.{version_rule, cycles_rule, is_greatest_kind, kind_rule}
 use Rattle.report_reading.specs.declared.fault.ReportFault.{ReportFault}

@@ -15,7 +15,7 @@ use Rattle.report_words.specs.Numbers.{number_of}
 use Rattle.report_words.specs.Shapes.{fit}
 use Rattle.report_text.specs.declared.entries.Share.{Share}
 use Rattle.report_text.specs.declared.entries.CopyLine.{CopyLine}
-use Rattle.path_answer.specs.declared.bounded.Column.{Column}
+use Rattle.code_flow_answer.specs.declared.bounded.Column.{Column}
 use Rattle.report_text.specs.Forms.{AreApart, NamesOne, IsFact, IsCopyLine, IsColumn, IsShare}
 use Rattle.report_text.specs.Lines.{copy_line, column_line, exit_line, never_line, region_line, loop_line, fact_line, paired, potential_line, flow_line, share_line}
 use Rattle.report_lines.specs.LineShapes.{exit_shapes, never_shapes, region_shapes, loop_shapes, potential_shapes, flow_shapes, share_shapes}

@@ -3,8 +3,8 @@ use Rattle.std.specs.Prelude.{ℕ, ℤ, List, [], ◌∷◌, ◌++◌, map}
 use Rattle.frac128.specs.Terms.{Terms}
 use Rattle.code_flow_system.specs.Claims.{Claims}
 use Rattle.code_flow_system.specs.declared.cert.Part.{Part}
-use Rattle.path_answer.specs.declared.bounded.Kind.{Kind}
-use Rattle.path_answer.specs.declared.bounded.Column.{Column}
+use Rattle.code_flow_answer.specs.declared.bounded.Kind.{Kind}
+use Rattle.code_flow_answer.specs.declared.bounded.Column.{Column}
 use Rattle.report_words.specs.Words.{Line}
 use Rattle.report_text.specs.Reports.{Report}
 use Rattle.report_text.specs.declared.entries.CopyLine.{CopyLine}

@@ -9,7 +9,7 @@ ghost use Rattle.report_reading.specs.Reading.{at_of, IsNumbered, Passes, Stops}
 use crate::fault::ReportFault;
 use crate::place::Place;
 use crate::single::{cycles_at, kind_at, version_at};
-use path_answer::Kind;
+use code_flow_answer::Kind;
 use std::alloc::Global;
 
 /// What the first lines say.

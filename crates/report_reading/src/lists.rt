@@ -9,7 +9,7 @@ ghost use Rattle.report_reading.specs.Reading.{at_of, IsNumbered, PassesOn, Stop
 
 use crate::fault::ReportFault;
 use crate::place::{Place, add, fault_at, next_line};
-use path_answer::Column;
+use code_flow_answer::Column;
 use report_rules::{column, copy};
 use report_text::CopyLine;
 use std::alloc::Global;

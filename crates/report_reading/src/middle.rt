@@ -11,8 +11,8 @@ use crate::claims::{exits, facts, loops, nevers, regions};
 use crate::fault::ReportFault;
 use crate::lists::{columns, names};
 use crate::place::Place;
+use code_flow_answer::Column;
 use code_flow_system::Claims;
-use path_answer::Column;
 use report_text::CopyLine;
 use std::alloc::Global;
 

@@ -9,7 +9,7 @@ ghost use Rattle.report_reading.specs.Reading.{at_of, IsNumbered, Passes, Stops}
 
 use crate::fault::ReportFault;
 use crate::place::{Place, fault_at, next_line};
-use path_answer::Kind;
+use code_flow_answer::Kind;
 use report_rules::{cycles, end, kind, scale, unit, version};
 use std::alloc::Global;
 

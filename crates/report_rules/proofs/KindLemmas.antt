@@ -1,14 +1,13 @@
 -- Each form of the line `kind`.
-use Rattle.std.proofs.Common.{◌≡◌, ◌&&◌, ℕ, List, [], ◌∷◌, Bool, true, false, refl, sym, ap, subst, ◌∙◌, codes, arith, if◌then◌else◌}
+use Rattle.std.proofs.Common.{◌≡◌, ◌&&◌, ℕ, List, [], ◌∷◌, Bool, true, false, refl, sym, ap, ◌∙◌, codes, arith}
 use Rattle.std.proofs.lemmas.Bool.{false≢true}
 use Rattle.std.specs.Fmt.{decimal}
-use Rattle.path_answer.specs.declared.bounded.Kind.{Kind}
-use Rattle.path_answer.specs.declared.bounded.Kind.TheVariants.{Greatest, Empty, Wide, Spent}
+use Rattle.code_flow_answer.specs.declared.bounded.Kind.{Kind}
+use Rattle.code_flow_answer.specs.declared.bounded.Kind.TheVariants.{Greatest, Empty}
 use Rattle.report_words.specs.Words.{Word}
 use Rattle.report_words.specs.Numbers.{number_of}
 use Rattle.report_words.proofs.NumberLemmas.{decimal-number_of}
-use Rattle.report_words.specs.Shapes.{is_in_range, fit, are_in_range}
-use Rattle.report_text.specs.Lines.{kind_line}
+use Rattle.report_words.specs.Shapes.{fit, are_in_range}
 use Rattle.report_lines.specs.LineShapes.{small}
 use Rattle.report_rules.specs.declared.flaw.Flaw.{Flaw}
 use Rattle.report_rules.specs.declared.flaw.Flaw.TheVariants.{Form, Range, Memory}

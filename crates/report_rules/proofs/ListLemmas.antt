@@ -1,13 +1,13 @@
 -- What the lines `copy` and `column` keep to.
-use Rattle.std.proofs.Common.{◌≡◌, ℕ, suc, ◌+◌, ◌^◌, ◌<◌, ◌≤◌, ◌==◌, ◌&&◌, ℤ, unsigned_abs, Bool, true, false, List, [], ◌∷◌, length, map, refl, sym, ap, subst, ◌∙◌, arith, nat_lt, nat_le, All}
+use Rattle.std.proofs.Common.{◌≡◌, ℕ, suc, ◌^◌, ◌<◌, ◌≤◌, ◌==◌, ◌&&◌, unsigned_abs, Bool, true, false, List, [], ◌∷◌, length, map, refl, sym, ap, subst, ◌∙◌, arith, nat_lt, nat_le, All}
 use Rattle.std.proofs.lemmas.Bool.{false≢true}
 use Rattle.std.proofs.lemmas.List.Elements.{All-nil, All-cons, All-weaker}
 use borrow.Author.Tests.{eqb-true, leb-true, ltb-true}
 use Rattle.code_flow_system.specs.Certificates.{IsSmall}
 use Rattle.report_words.specs.Words.{Word, is_name}
-use Rattle.report_words.specs.Numbers.{address_of, is_signed, signed_of}
+use Rattle.report_words.specs.Numbers.{address_of, signed_of}
 use Rattle.report_lines.specs.LineLists.{are_addresses, are_integers, are_small}
-use Rattle.path_answer.specs.declared.bounded.Column.{Column}
+use Rattle.code_flow_answer.specs.declared.bounded.Column.{Column}
 use Rattle.report_text.specs.declared.entries.CopyLine.{CopyLine}
 use Rattle.report_text.specs.Forms.{Ascend, IsCopyLine, IsColumn}
 use Rattle.report_rules.specs.WordTests.{places_ascend}

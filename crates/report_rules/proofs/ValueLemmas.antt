@@ -1,5 +1,5 @@
 -- What lines say is what they were written of, and so is in range.
-use Rattle.std.proofs.Common.{◌≡◌, ℕ, ◌+◌, ◌^◌, ◌<◌, ◌≤◌, ◌&&◌, ◌||◌, ◌++◌, ℤ, pos, negsuc, ◌<ℤ◌, ◌≤ℤ◌, unsigned_abs, FitsSigned, MatchOption, Bool, true, false, List, [], ◌∷◌, length, refl, sym, ap, subst, ◌∙◌, codes, arith, nat_lt, nat_le}
+use Rattle.std.proofs.Common.{◌≡◌, ℕ, ◌+◌, ◌^◌, ◌<◌, ◌≤◌, ◌&&◌, ◌||◌, ◌++◌, ℤ, pos, negsuc, ◌<ℤ◌, ◌≤ℤ◌, unsigned_abs, FitsSigned, MatchOption, Bool, true, false, List, ◌∷◌, refl, sym, ap, subst, ◌∙◌, codes, arith, nat_lt, nat_le}
 use Rattle.std.proofs.lemmas.Bool.{false≢true}
 use Rattle.std.specs.Int.{w128}
 use Rattle.std.proofs.lemmas.Int.{ints}
@@ -11,8 +11,7 @@ use Rattle.code_flow_system.specs.declared.claims.LoopClaim.{LoopClaim}
 use Rattle.code_flow_system.specs.declared.cert.Part.{Part}
 use Rattle.code_flow_system.specs.Certificates.{IsSmall, IsPart}
 use Rattle.report_words.specs.Words.{Word, address_word, is_name}
-use Rattle.report_words.specs.declared.shapes.Shape.{Shape}
-use Rattle.report_words.specs.declared.shapes.Shape.TheVariants.{Number, Amount, Signed, Address}
+use Rattle.report_words.specs.declared.shapes.Shape.TheVariants.{Signed}
 use Rattle.report_words.specs.Shapes.{are_letters, fit, are_in_range}
 use Rattle.report_words.specs.Numbers.{is_number, number_of, signed_of, address_of}
 use Rattle.report_words.proofs.WordLemmas.{address_of-address_word, signed_of-signed_decimal, signed_of_number}

@@ -4,10 +4,10 @@ use Rattle.report_words.specs.Words.{Word, is_name}
 use Rattle.report_words.specs.Shapes.{fit, are_in_range}
 use Rattle.report_lines.specs.LineShapes.{small, cycles_shapes}
 use Rattle.report_lines.specs.LineLists.{are_addresses, are_integers, are_small}
-use Rattle.path_answer.specs.declared.bounded.Kind.{Kind}
-use Rattle.path_answer.specs.declared.bounded.Kind.TheVariants.{Greatest, Empty, Wide, Spent}
+use Rattle.code_flow_answer.specs.declared.bounded.Kind.{Kind}
+use Rattle.code_flow_answer.specs.declared.bounded.Kind.TheVariants.{Greatest, Empty, Wide, Spent}
 use Rattle.report_rules.specs.Rules.{Rule}
-use Rattle.report_rules.specs.WordTests.{word_at, same_word, are_none, places_ascend}
+use Rattle.report_rules.specs.WordTests.{same_word, are_none, places_ascend}
 
 -- the word `2`
 abbrev pub are_two : List Word → Bool

@@ -1,7 +1,6 @@
 -- What the words behind `kind` say.
-use Rattle.std.specs.Prelude.{◌≡◌, List, ◌∷◌, [], Bool, true, false, codes}
-use Rattle.path_answer.specs.declared.bounded.Kind.{Kind}
-use Rattle.path_answer.specs.declared.bounded.Kind.TheVariants.{Greatest, Empty, Wide, Spent}
+use Rattle.std.specs.Prelude.{◌≡◌, List, ◌∷◌, [], true, false, codes}
+use Rattle.code_flow_answer.specs.declared.bounded.Kind.{Kind}
 use Rattle.report_words.specs.Words.{Word}
 use Rattle.report_words.specs.declared.shapes.Shape.{Shape}
 use Rattle.report_words.specs.Shapes.{fit, are_in_range}

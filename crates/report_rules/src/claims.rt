@@ -1,5 +1,5 @@
 // The lines `exit`, `never`, `region` and `loop`.
-ghost use Rattle.std.specs.Prelude.{◌≡◌, ℕ, map, IfOk, IfErr};
+ghost use Rattle.std.specs.Prelude.{◌≡◌, map, IfOk, IfErr};
 ghost use Rattle.code_flow_system.specs.Certificates.{IsSmall};
 ghost use Rattle.report_text.specs.Forms.{NamesOne};
 ghost use Rattle.report_text.specs.Lines.{exit_line, never_line, region_line, loop_line};

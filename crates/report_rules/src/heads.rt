@@ -12,7 +12,7 @@ ghost use Rattle.report_rules.specs.declared.flaw.Flaw.TheVariants as flaws;
 use crate::flaw::Flaw;
 use crate::shapes::{CYCLES, SMALL};
 use crate::words::is_word;
-use path_answer::Kind;
+use code_flow_answer::Kind;
 use report_lines::{spent_kind, wide_kind};
 use report_words::{are_in_range, fit};
 

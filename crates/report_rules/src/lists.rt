@@ -1,5 +1,5 @@
 // The lines `copy` and `column`.
-ghost use Rattle.std.specs.Prelude.{◌≡◌, ◌∷◌, true, map, length, IfOk, IfErr};
+ghost use Rattle.std.specs.Prelude.{◌≡◌, ◌∷◌, true, map, IfOk, IfErr};
 ghost use Rattle.report_words.specs.Words.{is_name};
 ghost use Rattle.report_lines.specs.LineLists.{are_addresses, are_integers, are_small};
 ghost use Rattle.report_text.specs.Forms.{IsCopyLine, IsColumn};
@@ -10,7 +10,7 @@ ghost use Rattle.report_rules.specs.Heads.{copy_rule, column_rule};
 
 use crate::flaw::Flaw;
 use crate::words::places_ascend;
-use path_answer::Column;
+use code_flow_answer::Column;
 use report_lines::{are_addresses, are_integers, are_small};
 use report_text::CopyLine;
 use report_words::{Shape, are_in_range, is_name, is_signed};

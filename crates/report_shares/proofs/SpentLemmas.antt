@@ -1,14 +1,11 @@
 -- What a list of moves costs, move by move.
 use Rattle.std.proofs.Common.{◌≡◌, ℕ, zero, suc, ◌+◌, ◌*◌, ◌<◌, ◌≤◌, ◌^◌, arith, refl, sym, ap, ◌∙◌, subst, List, [], ◌∷◌, length, drop, get_or, All, Bool, true, false}
-use Rattle.std.specs.Prelude.{ℤ, pos, unsigned_abs, ◌==◌, ◌&&◌, ◌≤ℤ◌, nat_le, nat_lt, if◌then◌else◌}
-use Rattle.std.specs.Ordering.{int_eq}
-use Rattle.std.proofs.lemmas.Int.{ints}
-use Rattle.std.proofs.lemmas.Bool.Decides.{nat_tests}
+use Rattle.std.specs.Prelude.{◌&&◌, nat_le, nat_lt, if◌then◌else◌}
 use Rattle.std.proofs.lemmas.List.Elements.{All-head, All-tail, All-cons}
 use Rattle.rv_core.specs.Table.{Table}
 use Rattle.code_flow_system.specs.declared.moves.Move.{Move}
 use Rattle.code_flow_system.specs.declared.cert.Part.{Part}
-use Rattle.code_flow_system.specs.Systems.{System, IsPlaced}
+use Rattle.code_flow_system.specs.Systems.{System}
 use Rattle.code_flow_system.specs.MoveCosts.{move_cost}
 use Rattle.code_flow_system.specs.Certificates.{listed}
 use Rattle.report_shares.specs.Shares.{moves_between, spent}

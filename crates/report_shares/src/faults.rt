@@ -5,7 +5,7 @@ ghost use Rattle.rv_core.specs.Table.{table_of};
 ghost use Rattle.code_flow_system.specs.Certificates.{IsPart, PartsAscend};
 ghost use Rattle.report_text.specs.Forms.{SharesAscend};
 ghost use Rattle.report_shares.specs.Shares.{IsProper, SharesFit, share_sum};
-ghost use Rattle.report_shares.specs.Faults.{lesser, least_by, or_else, first_by, unheld, unbegun, unequal, share_fault};
+ghost use Rattle.report_shares.specs.Faults.{lesser, least_by, first_by, unheld, unbegun, unequal, share_fault};
 
 use crate::places::{begins, is_held};
 use crate::sums::spent_between;

@@ -4,7 +4,7 @@ ghost use Rattle.rv_core.specs.Table.{table_of};
 ghost use Rattle.code_flow_system.specs.Systems.{AreAscending, IsPlaced};
 ghost use Rattle.code_flow_system.specs.MoveCosts.{move_cost};
 ghost use Rattle.code_flow_system.specs.Certificates.{listed, IsPart, PartsAscend};
-ghost use Rattle.report_shares.specs.Shares.{moves_between, spent, share_sum};
+ghost use Rattle.report_shares.specs.Shares.{moves_between, spent};
 
 use code_flow_lookup::{amount, move_cost};
 use code_flow_system::{Flow, Move, System};

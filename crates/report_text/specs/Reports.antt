@@ -2,8 +2,8 @@
 use Rattle.std.specs.Prelude.{ℕ, List}
 use Rattle.code_flow_system.specs.Claims.{Claims}
 use Rattle.code_flow_system.specs.declared.cert.Cert.{Cert}
-use Rattle.path_answer.specs.declared.bounded.Kind.{Kind}
-use Rattle.path_answer.specs.declared.bounded.Column.{Column}
+use Rattle.code_flow_answer.specs.declared.bounded.Kind.{Kind}
+use Rattle.code_flow_answer.specs.declared.bounded.Column.{Column}
 use Rattle.report_text.specs.declared.entries.CopyLine.{CopyLine}
 use Rattle.report_text.specs.declared.entries.Share.{Share}
 

@@ -1,8 +1,8 @@
 // Reports.
 
 use crate::entries::{CopyLine, Share};
+use code_flow_answer::{Column, Kind};
 use code_flow_system::{Cert, Claims};
-use path_answer::{Column, Kind};
 use std::marker::Model;
 use wcc_base::Items;
 

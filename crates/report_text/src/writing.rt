@@ -1,13 +1,13 @@
 // The text of a report.
-ghost use Rattle.std.specs.Prelude.{◌≡◌, ◌++◌, ◌∷◌, [], map, IfOk, OnOk};
+ghost use Rattle.std.specs.Prelude.{◌≡◌, ◌++◌, [], map, IfOk, OnOk};
 ghost use Rattle.std.specs.Fmt.{signed_decimal};
 ghost use Rattle.report_words.specs.Words.{address_word, lines_text, line_text, spaced};
-ghost use Rattle.report_text.specs.Lines.{version_lines, kind_line, head_lines, copy_line, column_line, potential_line, flow_line, cert_lines, share_line, report_lines, report_text};
+ghost use Rattle.report_text.specs.Lines.{version_lines, kind_line, head_lines, copy_line, column_line, potential_line, flow_line, cert_lines, share_line, report_text};
 
 use crate::claim_lines::put_claims;
 use crate::{CopyLine, Report, Share};
+use code_flow_answer::{Column, Kind};
 use code_flow_system::{Cert, Part};
-use path_answer::{Column, Kind};
 use report_words::{Field, end_line, put_fields, put_line, put_start};
 use std::alloc::Global;
 use wcc_base::Memory;

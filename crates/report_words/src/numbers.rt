@@ -1,5 +1,5 @@
 // Which words are numbers and addresses, and what they say.
-ghost use Rattle.std.specs.Prelude.{◌≡◌, ◌<◌, ◌≤◌, ◌^◌, ◌*◌, ◌+◌, ◌-◌, true, min, pos, unsigned_abs};
+ghost use Rattle.std.specs.Prelude.{◌≡◌, ◌<◌, ◌≤◌, ◌^◌, ◌*◌, ◌+◌, ◌-◌, true, min, unsigned_abs};
 ghost use Rattle.std.specs.Str.{all_ascii_digits};
 ghost use Rattle.std.specs.Char.{is_ascii_digit};
 ghost use Rattle.report_words.specs.Numbers.{is_number, number_of, is_positive, is_signed, signed_of, is_hex_digit, are_hex_digits, is_address, hex_value, address_of};

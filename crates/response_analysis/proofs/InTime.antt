@@ -5,7 +5,7 @@ use Rattle.std.proofs.lemmas.Bool.{cases_eq}
 use Rattle.response_analysis.specs.declared.task.Task.{Task}
 use Rattle.response_analysis.specs.Tasks.{period_of}
 use Rattle.response_analysis.specs.Equation.{IsResponse, AreResponses}
-use Rattle.response_analysis.specs.Schedule.{Job, schedule, is_job, left, IsFinishedAt, AreJobs}
+use Rattle.response_analysis.specs.Schedule.{Job, is_job, left, IsFinishedAt, AreJobs}
 use Rattle.response_analysis.specs.Ends.{EndInTime}
 use Rattle.response_analysis.proofs.Cycles.{need_fades}
 use Rattle.response_analysis.proofs.Windows.{zero_or, start, done_in_stretch}

@@ -9,7 +9,7 @@ use Rattle.std.proofs.Math.Seq.{take-append_seam, get_or-append_seam}
 use Rattle.std.proofs.lemmas.List.Elements.{All-head, All-tail}
 use Rattle.report_words.specs.Words.{Word, Line, is_letter, is_name_byte, are_name_bytes, is_name, line_text, lines_text}
 use Rattle.report_words.specs.Splitting.{lacks, SplitsAt, words_of}
-use Rattle.report_words.specs.Numbers.{is_number, number_of}
+use Rattle.report_words.specs.Numbers.{number_of}
 use Rattle.report_words.proofs.NumberLemmas.{digits-decimal, number_of-decimal, is_number-decimal}
 use Rattle.report_words.proofs.ScanLemmas.{words_of-one, words_of-more}
 use Rattle.response_time.specs.declared.entry.Entry.{Entry}

@@ -1,5 +1,5 @@
 // What instructions compute of words.
-ghost use Rattle.std.specs.Prelude.{◌≡◌, ◌≢◌, ◌*◌, ◌/◌, ◌%◌, ◌^◌, ◌<◌, ◌*ℤ◌, unsigned_abs};
+ghost use Rattle.std.specs.Prelude.{◌≡◌, ◌*◌, ◌/◌, ◌^◌, ◌<◌, ◌*ℤ◌, unsigned_abs};
 ghost use Rattle.rv_core.specs.Arithmetic.{upper_word, alu_value, holds, byte_count, extended};
 
 use crate::row::{Alu, Condition, Width};

@@ -1,9 +1,9 @@
 // The instructions of an image.
-ghost use Rattle.std.specs.Prelude.{◌≡◌, ◌%◌, ◌+◌, ◌<◌, ◌≤◌, length, slice_index, IsTrue};
+ghost use Rattle.std.specs.Prelude.{◌≡◌, ◌%◌, ◌+◌, ◌<◌, ◌≤◌, length, slice_index};
 ghost use Rattle.rv_core.specs.declared.row.Width.{Width};
 ghost use Rattle.rv_core.specs.Images.{AreSegments};
 ghost use Rattle.rv_core.specs.Memory.{block_of, loaded, holds_span, number_at, read_from};
-ghost use Rattle.rv_core.specs.Code.{word_in, instruction_in};
+ghost use Rattle.rv_core.specs.Code.{instruction_in};
 
 use crate::{Image, Instr, Segment, decode};
 

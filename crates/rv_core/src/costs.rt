@@ -1,5 +1,5 @@
 // What each instruction costs.
-ghost use Rattle.std.specs.Prelude.{◌≡◌, ◌≤◌};
+ghost use Rattle.std.specs.Prelude.{◌≤◌};
 ghost use Rattle.rv_core.specs.CostRange.{IsFetchCost};
 
 /// The costs of a machine in cycles: of a fetch by the region of the code, of an instruction by

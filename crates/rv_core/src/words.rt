@@ -1,9 +1,9 @@
 // Instructions as words.
 ghost use Rattle.std.specs.Prelude.{◌≡◌, ◌<◌, ◌+◌, ◌*◌, ◌/◌, ◌%◌, ◌^◌};
-ghost use Rattle.std.specs.Int.{w32, cast_unsigned};
-ghost use Rattle.rv_core.specs.Words.{AreFields, pack, low_five, high_seven, low_jump, high_jump, fields_by, fields_of, word_of};
+ghost use Rattle.std.specs.Int.{cast_unsigned};
+ghost use Rattle.rv_core.specs.Words.{AreFields, pack, low_five, high_seven, low_jump, high_jump, fields_of, word_of};
 
-use crate::row::{Format, Row};
+use crate::row::Format;
 use crate::{Fields, Instr};
 
 /// The word of these fields.

@@ -1,12 +1,11 @@
 // A block of the memory.
-ghost use Rattle.std.specs.Prelude.{◌≡◌, ◌≢◌, ◌+◌, ◌-◌, ◌%◌, ◌<◌, ◌≤◌, ◌^◌, ◌*◌, length, IsTrue, IfOk, Some};
+ghost use Rattle.std.specs.Prelude.{◌≡◌, ◌≢◌, ◌+◌, ◌-◌, ◌%◌, ◌<◌, ◌≤◌, ◌^◌, ◌*◌, length, IsTrue, IfOk};
 ghost use Rattle.rv_core.specs.declared.regions.Region.{Region};
 ghost use Rattle.rv_core.specs.declared.row.Width.{Width};
 ghost use Rattle.rv_core.specs.Words.{decode_of};
-ghost use Rattle.rv_core.specs.Regions.{region_of};
 ghost use Rattle.rv_core.specs.Images.{IsSegment};
 ghost use Rattle.rv_core.specs.Arithmetic.{byte_count};
-ghost use Rattle.rv_sim.specs.Blocks.{IsRegionOf, AreDecoded, LieIn, IsKept};
+ghost use Rattle.rv_sim.specs.Blocks.{IsRegionOf, LieIn, IsKept};
 ghost use Rattle.rv_core.specs.Memory.{Block, block_of, holds_span, number_at, with_number};
 
 use crate::code::decoded;

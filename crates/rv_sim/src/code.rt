@@ -1,6 +1,6 @@
 // The instructions of a block, decoded once.
-ghost use Rattle.std.specs.Prelude.{◌≡◌, ◌+◌, ◌^◌, ◌≤◌, length, IfOk};
-ghost use Rattle.rv_sim.specs.Blocks.{first_word, word_place, AreDecoded};
+ghost use Rattle.std.specs.Prelude.{◌+◌, ◌^◌, ◌≤◌, length, IfOk};
+ghost use Rattle.rv_sim.specs.Blocks.{AreDecoded};
 
 use crate::numbers::number_at;
 use rv_core::{Instr, Width, decode};

@@ -17,8 +17,8 @@ use Rattle.low_ir.specs.Effects.{World}
 use Rattle.low_ir.specs.Runs.{lrun}
 use Rattle.low_ir.specs.Turns.{IsGood}
 use Rattle.low_ir.specs.Places.{Assignment, Placed, Placing, assignment, placed}
-use Rattle.low_places.proofs.Follow.{carried}
-use Rattle.low_places.proofs.Ways.{all_safe}
+use Rattle.register_places.proofs.Follow.{carried}
+use Rattle.register_places.proofs.Ways.{all_safe}
 use Rattle.asm_program.proofs.FormedLemmas.{program}
 use Rattle.asm_code.proofs.Registers.{placed_there}
 use Rattle.simulation_loaded.proofs.PlacedLemmas.{placed_keeps}

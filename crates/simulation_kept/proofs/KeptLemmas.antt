@@ -19,7 +19,7 @@ use Rattle.low_ir.specs.Code.{Loop}
 use Rattle.low_ir.specs.Effects.{World}
 use Rattle.low_ir.specs.Formed.{IsLoop, only_jump}
 use Rattle.low_ir.specs.Places.{Placed}
-use Rattle.low_places.specs.Totals.{KeepsTotals}
+use Rattle.register_places.specs.Totals.{KeepsTotals}
 use Rattle.asm_program.specs.Formed.{IsProgram}
 use Rattle.asm_program.specs.Functions.{function_in, graph_of, loop_of}
 use Rattle.asm_program.proofs.GraphLemmas.{function_at, with_loops}

@@ -8,9 +8,9 @@ use Rattle.low_ir.specs.Formed.{IsLow}
 use Rattle.low_ir.specs.Runs.{lrun}
 use Rattle.low_ir.specs.Turns.{IsGood}
 use Rattle.low_ir.specs.Places.{Assignment, placed}
-use Rattle.low_places.specs.Totals.{KeepsTotals}
-use Rattle.low_places.proofs.Following.{all_totals}
-use Rattle.low_places.proofs.Ways.{of_function}
+use Rattle.register_places.specs.Totals.{KeepsTotals}
+use Rattle.register_places.proofs.Following.{all_totals}
+use Rattle.register_places.proofs.Ways.{of_function}
 use Rattle.asm_program.specs.Functions.{function_in, no_function}
 use Rattle.simulation_kept.specs.Laws.{LoopsKeepTotals}
 

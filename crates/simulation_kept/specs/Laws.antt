@@ -20,7 +20,7 @@ use Rattle.low_ir.specs.Formed.{IsLow}
 use Rattle.low_ir.specs.Runs.{lrun}
 use Rattle.low_ir.specs.Turns.{IsGood}
 use Rattle.low_ir.specs.Spacing.{IsAssignment}
-use Rattle.low_places.specs.Totals.{KeepsTotals}
+use Rattle.register_places.specs.Totals.{KeepsTotals}
 use Rattle.asm_program.specs.Formed.{IsProgram}
 use Rattle.asm_program.specs.Functions.{function_in}
 use Rattle.asm_program.specs.Ranges.{InProgram}

@@ -10,7 +10,7 @@ use Rattle.asm_items.specs.Items.{Starts}
 use Rattle.low_ir.specs.declared.run.Began.{Began}
 use Rattle.low_ir.specs.Effects.{World}
 use Rattle.low_ir.specs.Places.{Placed}
-use Rattle.low_places.specs.Totals.{once, began_count}
+use Rattle.register_places.specs.Totals.{once, began_count}
 use Rattle.asm_program.specs.Functions.{function_in}
 use Rattle.simulation_relation.specs.Layouts.{Layout}
 use Rattle.simulation_relation.specs.Positions.{seen}

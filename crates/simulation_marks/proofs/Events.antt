@@ -12,7 +12,7 @@ use Rattle.low_ir.specs.Places.{Placed}
 use Rattle.low_ir.specs.Room.{marks_once}
 use Rattle.low_ir.specs.Runs.{block_in}
 use Rattle.low_ir.specs.Turns.{is_at, mark_at, mark_count, mark_in, marks_passed}
-use Rattle.low_places.specs.Totals.{once, began_count}
+use Rattle.register_places.specs.Totals.{once, began_count}
 use Rattle.asm_program.specs.Functions.{PlacedBlock, PlacedFunction, function_in, no_function}
 use Rattle.claims_definition.specs.Listed.{marked_from, marked_here}
 use Rattle.simulation_marks.proofs.Sums.{summed, summed-add, summed-append, summed-same, summed-zero, upto, one_counts}

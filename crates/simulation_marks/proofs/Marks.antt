@@ -15,7 +15,7 @@ use Rattle.asm_placed.proofs.Alike.{functions_long}
 use Rattle.low_ir.specs.Effects.{World}
 use Rattle.low_ir.specs.Places.{Placed}
 use Rattle.low_ir.specs.Turns.{mark_count}
-use Rattle.low_places.specs.Totals.{began_count}
+use Rattle.register_places.specs.Totals.{began_count}
 use Rattle.asm_program.specs.Frames.{Memory}
 use Rattle.asm_program.specs.Functions.{PlacedBlock, PlacedFunction, function_in, functions_from, no_function, program_items, start_items}
 use Rattle.simulation_relation.specs.Following.{Ends}

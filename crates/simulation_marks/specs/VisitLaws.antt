@@ -7,7 +7,7 @@ use Rattle.code_flow_system.specs.KeptRuns.{visit_count, EndsAtExit}
 use Rattle.low_ir.specs.Code.{Loop}
 use Rattle.low_ir.specs.Effects.{World}
 use Rattle.low_ir.specs.Places.{Placed}
-use Rattle.low_places.specs.Totals.{began_count, KeepsTotals}
+use Rattle.register_places.specs.Totals.{began_count, KeepsTotals}
 use Rattle.asm_program.specs.Functions.{function_in}
 use Rattle.simulation_relation.specs.Layouts.{Layout}
 use Rattle.simulation_relation.specs.Following.{Ends}

@@ -1,6 +1,5 @@
 pub mod Given
 pub mod Words
-pub mod Values
 pub mod Opened
 pub mod Touching
 pub mod Stepping

@@ -26,7 +26,7 @@ use Rattle.simulation_relation.specs.Views.{view_of, IsLocated, HasRoom}
 use Rattle.simulation_relation.specs.Waiting.{IsIn}
 use Rattle.simulation_relation.specs.Following.{PlacedRunning, PlacedRun, Exchanges, Goes, Follows}
 use Rattle.simulation_steps.proofs.Given.{Given, run_of, state, At}
-use Rattle.simulation_steps.proofs.Values.{alu-small}
+use Rattle.low_parts.proofs.Words.{alu-small}
 use Rattle.simulation_steps.proofs.Operands.{frame, code, Ready, IsThere, Gave}
 use Rattle.simulation_steps.proofs.Operands as operands
 use Rattle.simulation_steps.proofs.Plain.{set_lays, operate_lays, take_lays}

@@ -1,5 +1,5 @@
 // The best set of items that fits.
-ghost use Rattle.std.specs.Prelude.{◌≡◌, ◌+◌, ◌-◌, ◌<◌, ◌≤◌, drop, length, take, All, IfOk, OnOk};
+ghost use Rattle.std.specs.Prelude.{◌+◌, ◌-◌, ◌<◌, ◌≤◌, drop, length, take, All, IfOk, OnOk};
 ghost use Rattle.spm_placement.specs.Sets.{AreBest, HasSmallGain, HasWholeWords};
 ghost use Rattle.spm_placement.specs.Tops.{HasChosen, HasChosenBefore};
 ghost use Rattle.spm_placement.specs.Rows.{HasTops};

@@ -1,5 +1,5 @@
 -- A run in the low form, by the marks that it passed.
-use Rattle.std.specs.Prelude.{◌≡◌, List, Option, Some, None}
+use Rattle.std.specs.Prelude.{◌≡◌, Option, Some, None}
 use Rattle.wcc_base.specs.Words.{signed_word}
 use Rattle.low_eval.specs.Evaluated.{Seen, StillGoes, HasEnded, IsBad}
 use Rattle.low_ir.specs.Code.{Low}

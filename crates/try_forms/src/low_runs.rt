@@ -7,7 +7,7 @@ ghost use Rattle.low_ir.specs.Placings.{placed_of};
 ghost use Rattle.low_ir.specs.Programs.{low_of};
 ghost use Rattle.low_ir.specs.Runs.{lrun};
 ghost use Rattle.low_ir.specs.Turns.{mark_at, marks_passed};
-ghost use Rattle.low_placed_eval.specs.Seen as placed;
+ghost use Rattle.register_eval.specs.Seen as placed;
 
 use low_eval::Outcome;
 use low_ir::{Began, Low, LowReg};
@@ -84,6 +84,6 @@ pub fn over_places(
 ) -> Result<Option<Ended>, Memory>
     ensures { IfOk result (λ r. IsSeen (low_of code.now.low) (placed.seen_run (prun (placed_of code.now) input.now steps)) r) }
 {
-    let outcome = low_placed_eval::evaluate(alloc, code, input, steps)?;
+    let outcome = register_eval::evaluate(alloc, code, input, steps)?;
     marked(alloc, &code.low, outcome)
 }

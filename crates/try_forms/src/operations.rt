@@ -1,5 +1,5 @@
 // The operations of a program: its nodes without constants and variables, and a value that is passed is one more.
-ghost use Rattle.std.specs.Prelude.{◌≡◌, ◌+◌, ◌<◌, ◌^◌, length, sum_by};
+ghost use Rattle.std.specs.Prelude.{◌≡◌, ◌+◌, ◌<◌, ◌^◌, sum_by};
 ghost use Rattle.high_ir.specs.Programs.{program_of};
 ghost use Rattle.high_ir.specs.Size.{expr_operations, operations, program_operations};
 ghost use Rattle.high_ir.specs.View.{expr_of, function_of, statement_of};

@@ -5,9 +5,9 @@ ghost use Rattle.path_conditions.specs.Bounding.{CanBound};
 ghost use Rattle.rv_core.specs.Table.{table_of};
 
 use code_flow::system;
+use code_flow_answer::Kind;
 use code_flow_system::{Claims, LoopShape, Span, System};
-use layout_laid::Laid;
-use path_answer::Kind;
+use layout_program::Laid;
 use path_places::systems_are_reached;
 use path_search::{bound, can_bound};
 use rv_core::{Costs, Image, default_costs};

@@ -1,10 +1,10 @@
 // Programs with places, laid out where they have room.
 use super::placing::everything;
 use layout_fitting::{lay_placed, sizes_of};
-use layout_laid::Laid;
+use layout_program::Laid;
 use low_ir::{Low, LowReg, all_slots};
-use low_live::live;
-use low_registers::allocate;
+use register_allocation::allocate;
+use register_live_ranges::live;
 use std::alloc::Global;
 use wcc_base::Memory;
 

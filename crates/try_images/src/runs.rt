@@ -2,7 +2,7 @@
 ghost use Rattle.std.specs.Prelude.{IfOk};
 ghost use Rattle.try_images.specs.Verdicts.{IsExit, IsSeen};
 
-use layout_laid::Laid;
+use layout_program::Laid;
 use rv_runs::{ImageRun, run};
 use std::alloc::Global;
 use std::collections::BTreeMap;

@@ -3,7 +3,7 @@ ghost use Rattle.std.specs.Prelude.{◌≡◌, ◌++◌, ◌∷◌, [], IfOk, On
 ghost use Rattle.c_tree.specs.Tree.{NoExpr};
 ghost use Rattle.c_tree.specs.Named.{map_option};
 ghost use Rattle.c_tree.specs.View.{exprs_of as sources_of, initial_of as source_initial};
-ghost use Rattle.types_tree.specs.View.{expr_of, exprs_of, initial_of, loop_of};
+ghost use Rattle.types_tree.specs.View.{initial_of, loop_of};
 ghost use Rattle.types_rules.specs.DeclarationRules.{any_not_constant, has_no_constant_value, has_void_value};
 ghost use Rattle.types_rules.specs.Sights.{first_fault, initial_nodes};
 ghost use Rattle.types_rules.specs.Typing.{typed_initial};

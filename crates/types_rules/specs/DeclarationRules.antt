@@ -27,10 +27,6 @@ pub record Base : Type 0 where
 abbrev pub base_of : List Specifier → Base
 base_of specifiers = record { kind = kind_spelled specifiers; const = is_const specifiers }
 
-abbrev pub is_unsized : {N : Type 0} → Shape N → Bool
-is_unsized Unsized = true
-is_unsized _ = false
-
 abbrev pub has_brackets : {N : Type 0} → Shape N → Bool
 has_brackets Scalar = false
 has_brackets _ = true

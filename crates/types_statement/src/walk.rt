@@ -1,5 +1,5 @@
 // The walk over a statement.
-ghost use Rattle.std.specs.Prelude.{◌≡◌, IfOk, OnOk};
+ghost use Rattle.std.specs.Prelude.{IfOk};
 ghost use Rattle.c_tree.specs.Tree.{NoItem};
 ghost use Rattle.c_tree.specs.View.{items_of as source_items, statement_of as source_statement};
 ghost use Rattle.types_statement.specs.Checked.{AreItems, AreTyped, IsItem, IsStatement};

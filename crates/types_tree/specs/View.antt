@@ -1,7 +1,6 @@
 -- The typed trees of the code, without where they lie in memory.
-use Rattle.std.specs.Prelude.{ℕ, List, [], ◌∷◌, map, Option, Some, None}
+use Rattle.std.specs.Prelude.{ℕ, List, [], ◌∷◌, map}
 use Rattle.c_tree.specs.Named.{map_option}
-use Rattle.c_tree.specs.declared.expression.NameId.{NameId}
 use Rattle.c_tree.specs.View.{id_of}
 use Rattle.types_tree.specs.declared.expression.Place as places
 use Rattle.types_tree.specs.declared.expression.Expr as exprs

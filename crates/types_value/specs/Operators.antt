@@ -1,6 +1,6 @@
 -- The operators at a type, and where they are undefined (C11 6.5.3.3, 6.5.5 to 6.5.12).
 use Rattle.std.specs.Prelude.{ℕ, ◌-◌, ◌*◌, ◌^◌, ◌==◌, nat_le, ◌&&◌, Bool, true, false, not, ℤ, pos, negsuc, ◌+ℤ◌, ◌-ℤ◌, ◌*ℤ◌, int_le, Result, Ok, Err, Option, Some, None, if◌then◌else◌}
-use Rattle.wcc_base.specs.Words.{signed_word, truth_word, sum_word, difference_word, product_word, quotient_word, remainder_word, signed_quotient_word, signed_remainder_word, and_word, or_word, xor_word, left_shift_word, right_shift_word, signed_right_shift_word, equal_word, less_word, signed_less_word}
+use Rattle.wcc_base.specs.Words.{signed_word, sum_word, difference_word, product_word, quotient_word, remainder_word, signed_quotient_word, signed_remainder_word, and_word, or_word, xor_word, left_shift_word, right_shift_word, signed_right_shift_word, equal_word, less_word, signed_less_word}
 use Rattle.types_value.specs.Kinds.{is_signed}
 use Rattle.types_value.specs.declared.kind.Kind.{Kind}
 use Rattle.types_value.specs.declared.operator.Operator.{Operator}

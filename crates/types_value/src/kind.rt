@@ -1,4 +1,4 @@
-ghost use Rattle.std.specs.Prelude.{◌≡◌, ◌≤◌};
+ghost use Rattle.std.specs.Prelude.{◌≡◌};
 ghost use Rattle.types_value.specs.Kinds.{bytes, common, converted, is_signed, is_void, joined, kind_number, promoted, same_kind};
 
 use wcc_base::words::sign_filled;

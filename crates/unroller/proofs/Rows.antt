@@ -5,6 +5,7 @@ use Rattle.std.specs.Global.{Global}
 use Rattle.std.proofs.lemmas.List.{drop_all, drop_more}
 use Rattle.std.proofs.lemmas.List.Elements.{All-cons, All-nil}
 use Rattle.std.proofs.lemmas.List.Sums.{sum_by-cons}
+use Rattle.wcc_base.specs.Budgets.{most_depth}
 use Rattle.high_ir.proofs.Rows.{statement_of-Seq}
 use Rattle.high_ir.specs.Size.{depth, depth_all, expr_depth, function_nodes, greatest, nodes}
 use Rattle.high_ir.specs.Tree.{Function, Seq}
@@ -90,13 +91,13 @@ pub loop_seq : (s : statements.Statement) (v : Vec statements.Statement Global) 
 loop_seq s v xs is read = sym (ap has_loop (seq_seen s v xs is read))
 
 -- each function of a program is small
-functions_small : (fs : List functions.Function) (n : ℕ) → greatest (λ f. depth f.body) (map function_of fs) ≤ 1024 → sum_by function_nodes (map function_of fs) < n → All (λ f. (depth (statement_of f.body) ≤ 1024) × (nodes (statement_of f.body) < n)) fs
-functions_small [] n deep few = All-nil (λ f. (depth (statement_of f.body) ≤ 1024) × (nodes (statement_of f.body) < n))
+functions_small : (fs : List functions.Function) (n : ℕ) → greatest (λ f. depth f.body) (map function_of fs) ≤ most_depth → sum_by function_nodes (map function_of fs) < n → All (λ f. (depth (statement_of f.body) ≤ most_depth) × (nodes (statement_of f.body) < n)) fs
+functions_small [] n deep few = All-nil (λ f. (depth (statement_of f.body) ≤ most_depth) × (nodes (statement_of f.body) < n))
 functions_small (f ∷ fs) n deep few =
     let c = sum_by-cons function_nodes (function_of f) (map function_of fs) in
-    All-cons (λ f. (depth (statement_of f.body) ≤ 1024) × (nodes (statement_of f.body) < n)) f fs (omega (arith, deep), omega (arith, few, c)) (functions_small fs n (omega (arith, deep)) (omega (arith, few, c)))
+    All-cons (λ f. (depth (statement_of f.body) ≤ most_depth) × (nodes (statement_of f.body) < n)) f fs (omega (arith, deep), omega (arith, few, c)) (functions_small fs n (omega (arith, deep)) (omega (arith, few, c)))
 
-pub each_small : (fs : List functions.Function) → greatest (λ f. depth f.body) (map function_of fs) ≤ 1024 → sum_by function_nodes (map function_of fs) < 2 ^ 26 → All (λ f. (depth (statement_of f.body) ≤ 1024) × (nodes (statement_of f.body) < 2 ^ 26)) fs
+pub each_small : (fs : List functions.Function) → greatest (λ f. depth f.body) (map function_of fs) ≤ most_depth → sum_by function_nodes (map function_of fs) < 2 ^ 26 → All (λ f. (depth (statement_of f.body) ≤ most_depth) × (nodes (statement_of f.body) < 2 ^ 26)) fs
 each_small fs deep few = functions_small fs (2 ^ 26) deep few
 
 -- the operations of a program are a number

@@ -1,6 +1,7 @@
 -- Where a walk begins, and what it comes to.
 use Rattle.std.proofs.Common.{◌≡◌, ℕ, ◌-◌, List, [], map, ap, ◌∙◌}
 use Rattle.std.specs.List.{range_with_len}
+use Rattle.wcc_base.specs.Budgets.{most_operations}
 use Rattle.high_ir.specs.Tree.{Function, Object, Program}
 use Rattle.high_ir.specs.declared.copies.LoopCopies.{LoopCopies}
 use Rattle.high_ir.specs.declared.copies.NeverMark.{NeverMark}
@@ -10,11 +11,11 @@ use Rattle.high_unrolled.specs.declared.made.Made.{Made}
 use Rattle.high_unrolled.specs.Programs.{copies_of, functions_spread, listing, nevers_from, program_busy, program_spread, unrolled}
 use Rattle.unroller.specs.View.{Progress, at_start, continued, going}
 
-pub begun_is : (p : Program) (room busy : ℕ) (made : List Made) (entries : List LoopCopies) → room ≡ 98304 - busy → busy ≡ program_busy p → made ≡ [] → entries ≡ [] → going room p.marks 0 made (map loop_entry entries) ≡ at_start p
+pub begun_is : (p : Program) (room busy : ℕ) (made : List Made) (entries : List LoopCopies) → room ≡ most_operations - busy → busy ≡ program_busy p → made ≡ [] → entries ≡ [] → going room p.marks 0 made (map loop_entry entries) ≡ at_start p
 begun_is p room busy made entries left counted none_made none_met =
-    ap (λ r. going r p.marks 0 made (map loop_entry entries)) (left ∙ ap (λ b. 98304 - b) counted)
-    ∙ ap (λ m. going (98304 - program_busy p) p.marks 0 m (map loop_entry entries)) none_made
-    ∙ ap (λ es. going (98304 - program_busy p) p.marks 0 [] (map loop_entry es)) none_met
+    ap (λ r. going r p.marks 0 made (map loop_entry entries)) (left ∙ ap (λ b. most_operations - b) counted)
+    ∙ ap (λ m. going (most_operations - program_busy p) p.marks 0 m (map loop_entry entries)) none_made
+    ∙ ap (λ es. going (most_operations - program_busy p) p.marks 0 [] (map loop_entry es)) none_met
 
 -- what a walk that begins there makes of the functions
 module _ (k : ℕ) (p : Program) (fs : List Function) where

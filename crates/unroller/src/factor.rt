@@ -1,5 +1,6 @@
 // What a loop is by a factor, in numbers.
 ghost use Rattle.std.specs.Prelude.{◌≡◌, ◌+◌, ◌-◌, ◌*◌, ◌%◌, ◌<◌, ◌≤◌, ◌^◌, false, true, nat_lt, if◌then◌else◌};
+ghost use Rattle.wcc_base.specs.Budgets.{most_depth};
 ghost use Rattle.high_ir.specs.Size.{depth, nodes};
 ghost use Rattle.high_ir.specs.Splitting.{split};
 ghost use Rattle.high_ir.specs.View.{statement_of};
@@ -7,6 +8,7 @@ ghost use Rattle.high_unrolled.specs.Factor.{as_loop, depth_by, fits, growth, ha
 
 use super::measure::{busy, depth, has_loop};
 use high_ir::statement::Statement;
+use wcc_base::MOST_DEPTH;
 
 /// The number of a loop, and from how many up to how many times an entry of it starts its body.
 #[derive(Clone, Copy)]
@@ -64,7 +66,7 @@ pub fn growth(factor: u32, most: u32, body: &Statement) -> u64
 
 /// How deep they are at most.
 fn depth_by(factor: u32, most: u32, body: &Statement) -> u32
-    requires { depth (statement_of body.now) ≤ 1024 }
+    requires { depth (statement_of body.now) ≤ most_depth }
     ensures depth { result ≡ depth_by factor (as_loop 0 0 most (statement_of body.now)) }
     ensures most { result ≤ 1027 }
 {
@@ -78,17 +80,18 @@ fn depth_by(factor: u32, most: u32, body: &Statement) -> u32
 fn fits(factor: u32, room: u32, level: u32, most: u32, body: &Statement) -> bool
     requires least { 1 ≤ factor }
     requires nodes { nodes (statement_of body.now) < 2 ^ 26 }
-    requires depth { level + depth (statement_of body.now) ≤ 1024 }
+    requires depth { level + depth (statement_of body.now) ≤ most_depth }
     requires innermost { has_loop (statement_of body.now) ≡ false }
     ensures { result ≡ fits factor room level (as_loop 0 0 most (statement_of body.now)) }
 {
-    growth(factor, most, body) <= u64::from(room) && level + depth_by(factor, most, body) <= 1024
+    growth(factor, most, body) <= u64::from(room)
+        && u64::from(level + depth_by(factor, most, body)) <= MOST_DEPTH
 }
 
 /// Whether a loop is unrolled: an innermost one that fits, where the factor is more than 1.
 pub fn is_taken(factor: u32, room: u32, level: u32, most: u32, body: &Statement) -> bool
     requires nodes { nodes (statement_of body.now) < 2 ^ 26 }
-    requires depth { level + depth (statement_of body.now) ≤ 1024 }
+    requires depth { level + depth (statement_of body.now) ≤ most_depth }
     ensures taken { result ≡ is_taken factor room level (as_loop 0 0 most (statement_of body.now)) }
     ensures factor { result ≡ true → 2 ≤ factor }
     ensures innermost { result ≡ true → has_loop (statement_of body.now) ≡ false }

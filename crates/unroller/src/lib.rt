@@ -1,4 +1,4 @@
-//! Loops by a factor, as a pass over programs in the high form.
+//! Loop unrolling: the pass that makes several starts of an innermost loop one.
 //!
 //! Each innermost loop becomes some starts of its body, and then a loop of as many at a time as the factor says, while the budgets
 //! allow. `high_unrolled` defines the program that is made; this crate makes it, in one walk over the old one (`walk`), whose

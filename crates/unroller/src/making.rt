@@ -7,7 +7,7 @@ ghost use Rattle.high_ir.specs.View.{expr_of, statement_of, statements_of};
 use high_again::expressions::copied_expr;
 use high_ir::expression::Expr;
 use high_ir::statement::Statement;
-use high_parts::statements::{choice, let_go};
+use high_ir::statements::{choice, let_go};
 use std::alloc::Global;
 use wcc_base::Memory;
 

@@ -11,7 +11,7 @@ use super::walk::Walk;
 use high_again::statements::copied;
 use high_ir::expression::Expr;
 use high_ir::statement::Statement;
-use high_parts::statements::{block, let_go, loop_of};
+use high_ir::statements::{block, let_go, loop_of};
 use high_unrolled::made::Made;
 use wcc_base::Memory;
 

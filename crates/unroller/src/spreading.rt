@@ -1,5 +1,6 @@
 // What statements become where their innermost loops are unrolled.
 ghost use Rattle.std.specs.Prelude.{◌≡◌, ◌+◌, ◌<◌, ◌≤◌, ◌^◌, All, IfOk, OnOk, map};
+ghost use Rattle.wcc_base.specs.Budgets.{most_depth};
 ghost use Rattle.high_ir.specs.Size.{depth, depth_all, nodes, nodes_all};
 ghost use Rattle.high_ir.specs.Tree.{If, Loop};
 ghost use Rattle.high_ir.specs.View.{expr_of, function_of, statement_of, statements_of};
@@ -14,7 +15,7 @@ use high_again::statements::copied;
 use high_ir::Function;
 use high_ir::expression::Expr;
 use high_ir::statement::Statement;
-use high_parts::statements::{block, let_go, loop_of};
+use high_ir::statements::{block, let_go, loop_of};
 use wcc_base::Memory;
 
 /// What a statement becomes that so many statements stand around.
@@ -26,7 +27,7 @@ pub fn spread(
     level: u32,
     statement: &Statement,
 ) -> Result<Statement, Memory>
-    requires { (level + depth (statement_of statement.now) ≤ 1024) × (nodes (statement_of statement.now) < 2 ^ 26) }
+    requires { (level + depth (statement_of statement.now) ≤ most_depth) × (nodes (statement_of statement.now) < 2 ^ 26) }
     ensures code { IfOk result (λ s. statement_of s ≡ (spread factor level (progress_of walk.old).place (statement_of statement.now)).code) }
     ensures progress { OnOk result (progress_of walk.new ≡ continued (progress_of walk.old) (spread factor level (progress_of walk.old).place (statement_of statement.now))) }
 {
@@ -68,7 +69,7 @@ fn spread_all(
     level: u32,
     parts: &[Statement],
 ) -> Result<Vec<Statement>, Memory>
-    requires { (level + depth_all (statements_of parts.now) ≤ 1024) × (nodes_all (statements_of parts.now) < 2 ^ 26) }
+    requires { (level + depth_all (statements_of parts.now) ≤ most_depth) × (nodes_all (statements_of parts.now) < 2 ^ 26) }
     ensures code { IfOk result (λ v. statements_of v.items ≡ (spread_all factor level (progress_of walk.old).place (statements_of parts.now)).code) }
     ensures progress { OnOk result (progress_of walk.new ≡ continued (progress_of walk.old) (spread_all factor level (progress_of walk.old).place (statements_of parts.now))) }
 {
@@ -88,7 +89,7 @@ fn spread_choice(
     first: &Statement,
     other: &Statement,
 ) -> Result<Statement, Memory>
-    requires { (level + depth (If (expr_of test.now) (statement_of first.now) (statement_of other.now)) ≤ 1024) × (nodes (If (expr_of test.now) (statement_of first.now) (statement_of other.now)) < 2 ^ 26) }
+    requires { (level + depth (If (expr_of test.now) (statement_of first.now) (statement_of other.now)) ≤ most_depth) × (nodes (If (expr_of test.now) (statement_of first.now) (statement_of other.now)) < 2 ^ 26) }
     ensures code { IfOk result (λ s. statement_of s ≡ (spread factor level (progress_of walk.old).place (If (expr_of test.now) (statement_of first.now) (statement_of other.now))).code) }
     ensures progress { OnOk result (progress_of walk.new ≡ continued (progress_of walk.old) (spread factor level (progress_of walk.old).place (If (expr_of test.now) (statement_of first.now) (statement_of other.now)))) }
 {
@@ -111,7 +112,7 @@ fn spread_loop(
     by: Turns,
     body: &Statement,
 ) -> Result<Statement, Memory>
-    requires { (level + depth (Loop by.id by.min by.max (statement_of body.now)) ≤ 1024) × (nodes (Loop by.id by.min by.max (statement_of body.now)) < 2 ^ 26) }
+    requires { (level + depth (Loop by.id by.min by.max (statement_of body.now)) ≤ most_depth) × (nodes (Loop by.id by.min by.max (statement_of body.now)) < 2 ^ 26) }
     ensures code { IfOk result (λ s. statement_of s ≡ (spread factor level (progress_of walk.old).place (Loop by.id by.min by.max (statement_of body.now))).code) }
     ensures progress { OnOk result (progress_of walk.new ≡ continued (progress_of walk.old) (spread factor level (progress_of walk.old).place (Loop by.id by.min by.max (statement_of body.now)))) }
 {
@@ -124,7 +125,7 @@ fn spread_loop(
 }
 
 fn function(walk: &mut Walk, factor: u32, function: &Function) -> Result<Function, Memory>
-    requires { (depth (statement_of function.now.body) ≤ 1024) × (nodes (statement_of function.now.body) < 2 ^ 26) }
+    requires { (depth (statement_of function.now.body) ≤ most_depth) × (nodes (statement_of function.now.body) < 2 ^ 26) }
     ensures code { IfOk result (λ f. function_of f ≡ (function_spread factor (progress_of walk.old).place (function_of function.now)).code) }
     ensures progress { OnOk result (progress_of walk.new ≡ continued (progress_of walk.old) (function_spread factor (progress_of walk.old).place (function_of function.now))) }
 {
@@ -144,7 +145,7 @@ pub fn functions(
     factor: u32,
     functions: &[Function],
 ) -> Result<Vec<Function>, Memory>
-    requires { All (λ f. (depth (statement_of f.body) ≤ 1024) × (nodes (statement_of f.body) < 2 ^ 26)) functions.now }
+    requires { All (λ f. (depth (statement_of f.body) ≤ most_depth) × (nodes (statement_of f.body) < 2 ^ 26)) functions.now }
     ensures code { IfOk result (λ v. map function_of v.items ≡ (functions_spread factor (progress_of walk.old).place (map function_of functions.now)).code) }
     ensures progress { OnOk result (progress_of walk.new ≡ continued (progress_of walk.old) (functions_spread factor (progress_of walk.old).place (map function_of functions.now))) }
 {

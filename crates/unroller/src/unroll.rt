@@ -5,7 +5,7 @@ ghost use Rattle.high_ir.specs.Programs.{program_of};
 ghost use Rattle.high_ir.specs.View.{statement_of};
 ghost use Rattle.high_pass.specs.Law.{IsLawful};
 ghost use Rattle.high_pass.specs.Listing.{listing_of, loop_entry};
-ghost use Rattle.high_unrolled.specs.Programs.{busy, copies_of, listing, nevers_from, program_spread, unrolled};
+ghost use Rattle.high_unrolled.specs.Programs.{busy, copies_of, nevers_from, program_spread, unrolled};
 ghost use Rattle.high_unrolled.specs.Promise.{Unrolls};
 ghost use Rattle.unroller.specs.View.{at_start, continued, progress_of};
 
@@ -17,7 +17,7 @@ use high_ir::{Carried, Copies, Function, High};
 use high_parts::objects::copied_objects;
 use high_pass::Pass;
 use std::alloc::Global;
-use wcc_base::Memory;
+use wcc_base::{MOST_OPERATIONS, Memory};
 
 /// Each innermost loop by a factor, while the budgets hold: some starts, and then so many at a time.
 #[derive(Drop)]
@@ -46,7 +46,7 @@ fn begun(alloc: Global, old: &High) -> Walk
     let busy = busy_in(&old.functions);
     Walk {
         alloc,
-        room: 98304u32.saturating_sub(busy),
+        room: MOST_OPERATIONS.saturating_sub(busy),
         marks: old.marks,
         loops: 0,
         made: Vec::new(alloc),

@@ -5,10 +5,11 @@
 //! that answers `Failed`, so that a fault can't be told as want of memory, nor want of memory as a
 //! fault. The stores and sinks that there are stand in `base_stores`.
 //!
-//! Beside them stand the ways in which a call ends, the limits of its inputs, lists that contracts
-//! see as lists, and the operators on words of 32 bits. Nothing here knows a language or a machine.
+//! Beside them stand the ways in which a call ends, the limits of its inputs, the budgets
+//! of a program on its way, lists that contracts see as lists, and the operators on words of 32 bits. Nothing here knows a language or a machine.
 #![tactic(auto)]
 
+mod budgets;
 mod compare;
 mod items;
 mod limits;
@@ -19,6 +20,9 @@ mod status;
 mod text;
 pub mod words;
 
+pub use budgets::{
+    MOST_DEPTH, MOST_INSTRUCTIONS, MOST_LOCALS, MOST_OPERATIONS, SPARE_ROOM, budgets_agree,
+};
 pub use compare::Compare;
 pub use items::Items;
 pub use limits::{Bound, limit_of};

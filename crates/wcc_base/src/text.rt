@@ -23,14 +23,6 @@ impl Text {
         Text { bytes }
     }
 
-    /// Gives the bytes back. It takes no memory.
-    pub fn into_bytes(self) -> Vec<u8>
-        ensures { result.items ≡ self }
-    {
-        let Text { bytes } = self;
-        bytes
-    }
-
     pub fn as_bytes(&self) -> &[u8]
         ensures { result.now ≡ self.now }
     {

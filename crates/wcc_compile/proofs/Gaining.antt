@@ -13,13 +13,13 @@ use Rattle.image_definition.specs.Sizes.{globals_size}
 use Rattle.promise_compiler.specs.declared.built.Options.{Options}
 use Rattle.spm_placement.specs.declared.item.Item.{Item}
 use Rattle.spm_placement.specs.Gains.{gained}
-use Rattle.compile_choices.specs.Laws.{ItemsAreFew, items_of}
-use Rattle.compile_kept.specs.Limits.{global_bytes}
-use Rattle.compile_turns.proofs.Arrays.{globals_few}
-use Rattle.compile_made.specs.Made.{high_of}
-use Rattle.compile_turns.proofs.Functions.{functions_few}
-use Rattle.compile_told.proofs.Images.{elements}
-use Rattle.compile_reporting.specs.Sources.{names_of, tree_of}
+use Rattle.compile_placement.specs.Laws.{ItemsAreFew, items_of}
+use Rattle.compile_high_definitions.specs.Limits.{global_bytes}
+use Rattle.compile_capacity.proofs.Arrays.{globals_few}
+use Rattle.compile_stages.specs.Made.{high_of}
+use Rattle.compile_capacity.proofs.Functions.{functions_few}
+use Rattle.compile_promise.proofs.Images.{elements}
+use Rattle.compile_report.specs.Sources.{names_of, tree_of}
 use Rattle.lower_definition.specs.Objects.{object_of}
 use Rattle.wcc_compile.specs.declared.built.Built.{Built}
 use Rattle.wcc_compile.specs.Built.{gains_of}

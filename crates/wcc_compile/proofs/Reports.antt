@@ -4,12 +4,12 @@ use Rattle.rv_core.specs.Table.{Table}
 use Rattle.code_flow_system.specs.Certificates.{IsInForm}
 use Rattle.facts_front.specs.declared.reading.Source.{Source}
 use Rattle.report_text.specs.Forms.{IsReport}
-use Rattle.compile_made.specs.declared.made.Made.{Made}
-use Rattle.compile_reports.specs.Laws.{ReportedAreReports}
-use Rattle.compile_reporting.specs.declared.finding.Found.{Found}
-use Rattle.compile_reporting.specs.declared.telling.Told.{Told}
-use Rattle.compile_reporting.specs.Found.{HasBound, IsTold, joined_report}
-use Rattle.compile_reporting.specs.Sources.{IsMadeOf, IsReportOn, names_of, tree_of}
+use Rattle.compile_stages.specs.declared.made.Made.{Made}
+use Rattle.compile_report_law.specs.Laws.{ReportedAreReports}
+use Rattle.compile_report.specs.declared.finding.Found.{Found}
+use Rattle.compile_report.specs.declared.telling.Told.{Told}
+use Rattle.compile_report.specs.Found.{HasBound, IsTold, joined_report}
+use Rattle.compile_report.specs.Sources.{IsMadeOf, IsReportOn, names_of, tree_of}
 
 module _ (t : Table) (s : Source) (m : Made) (told : Told) (found : Found) (is_told : IsTold s m told) (has : HasBound t s m told.claims found) where
   pub is_reported : IsReportOn t s m (joined_report told found)

@@ -8,8 +8,8 @@ use Rattle.code_flow_system.specs.Certificates.{IsInForm, KeepsMark, potential, 
 use Rattle.code_flow_system.specs.Claims.{Claims}
 use Rattle.code_flow_system.specs.Systems.{System}
 use Rattle.code_flow_system.proofs.DualityLemmas.{keeps_promise, weak_duality}
-use Rattle.path_answer.specs.declared.bounded.Kind.{Kind}
-use Rattle.path_answer.specs.declared.bounded.Kind.TheVariants.{Greatest, Empty, Wide, Spent}
+use Rattle.code_flow_answer.specs.declared.bounded.Kind.{Kind}
+use Rattle.code_flow_answer.specs.declared.bounded.Kind.TheVariants.{Greatest, Empty, Wide, Spent}
 use Rattle.path_fact_kinds.specs.Kinds.{HasKind}
 use Rattle.promise_report.specs.Compiled.{CyclesAreGreatest, IsReached}
 use Rattle.report_check.specs.Checks.{Holds}

@@ -10,17 +10,17 @@ use Rattle.low_ir.specs.Programs.{low_of}
 use Rattle.promise_compiler.specs.declared.built.Options.{Options}
 use Rattle.spm_placement.specs.Sets.{AreBest}
 use Rattle.low_ir.specs.declared.places.LowReg.{LowReg}
-use Rattle.compile_choices.specs.Laws.{ChoicesFit}
-use Rattle.compile_kept.specs.Carried.{IsCarried}
+use Rattle.compile_placement.specs.Laws.{ChoicesFit}
+use Rattle.compile_high_definitions.specs.Carried.{IsCarried}
 use Rattle.high_ir.specs.Programs.{program_of}
 use Rattle.high_pass.specs.Listing.{listing_of}
-use Rattle.compile_made.specs.declared.made.Made.{Made}
-use Rattle.compile_made.specs.declared.made.Stages.{Stages}
-use Rattle.compile_made.specs.Made.{IsInMemory, IsLowered, IsMade, high_of}
-use Rattle.compile_made.specs.Placed.{HasNumbers, IsPlacedBy, placed_bytes}
-use Rattle.compile_passes.specs.Passes.{AreStages, passes, stages_of}
-use Rattle.compile_reporting.specs.Sources.{IsOf, IsReportOn, names_of, tree_of}
-use Rattle.compile_turns.proofs.Sizes.{limited_fit}
+use Rattle.compile_stages.specs.declared.made.Made.{Made}
+use Rattle.compile_stages.specs.declared.made.Stages.{Stages}
+use Rattle.compile_stages.specs.Made.{IsInMemory, IsLowered, IsMade, high_of}
+use Rattle.compile_stages.specs.Placed.{HasNumbers, IsPlacedBy, placed_bytes}
+use Rattle.wcc_compile.specs.Passes.{AreStages, passes, stages_of}
+use Rattle.compile_report.specs.Sources.{IsOf, IsReportOn, names_of, tree_of}
+use Rattle.compile_capacity.proofs.Sizes.{limited_fit}
 use Rattle.wcc_compile.specs.declared.built.Built.{Built}
 use Rattle.wcc_compile.specs.Built.{IsLaidOut, gains_of}
 use Rattle.wcc_compile.specs.Steps.{IsFirst, IsLast}

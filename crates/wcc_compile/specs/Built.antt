@@ -9,11 +9,11 @@ use Rattle.claims_image.specs.Images.{laid_of}
 use Rattle.spm_placement.specs.declared.item.Item.{Item}
 use Rattle.spm_placement.specs.Sets.{AreBest}
 use Rattle.promise_compiler.specs.declared.built.Options.{Options}
-use Rattle.compile_choices.specs.Laws.{items_of}
-use Rattle.compile_made.specs.Made.{IsMade}
-use Rattle.compile_made.specs.Placed.{IsPlacedBy}
-use Rattle.compile_passes.specs.Passes.{AreStages, passes, stages_of}
-use Rattle.compile_reports.specs.Reported.{IsReported}
+use Rattle.compile_placement.specs.Laws.{items_of}
+use Rattle.compile_stages.specs.Made.{IsMade}
+use Rattle.compile_stages.specs.Placed.{IsPlacedBy}
+use Rattle.wcc_compile.specs.Passes.{AreStages, passes, stages_of}
+use Rattle.compile_report_law.specs.Reported.{IsReported}
 use Rattle.wcc_compile.specs.declared.built.Built.{Built}
 
 -- a source that is laid out, each step made of the one before it, with these options

@@ -10,11 +10,11 @@ use Rattle.promise_report.specs.Compiled.{IsCompiled}
 use Rattle.facts_definitions.specs.declared.facts.Facts.{Facts}
 use Rattle.facts_sources.specs.Sources.{IsSourceBy}
 use Rattle.types_tree.specs.Tree.{Program}
-use Rattle.compile_made.specs.declared.made.Made.{Made}
+use Rattle.compile_stages.specs.declared.made.Made.{Made}
 use Rattle.low_ir.specs.Placings.{placed_of}
-use Rattle.compile_made.specs.Made.{IsMade}
-use Rattle.compile_made.specs.Placed.{placed_bytes}
-use Rattle.compile_reports.specs.Reported.{IsReported}
+use Rattle.compile_stages.specs.Made.{IsMade}
+use Rattle.compile_stages.specs.Placed.{placed_bytes}
+use Rattle.compile_report_law.specs.Reported.{IsReported}
 
 -- the text of an image loads as that image
 pub record LoadsAsItself (m : Made) : Type 0 where

@@ -1,3 +1,4 @@
+pub mod Passes
 pub mod Laws
 pub mod Built
 pub mod Steps

@@ -2,8 +2,8 @@
 use Rattle.std.specs.Prelude.{[]}
 use Rattle.facts_front.specs.declared.reading.Source.{Source}
 use Rattle.promise_compiler.specs.declared.built.Options.{Options}
-use Rattle.compile_made.specs.Placed.{IsPlacedBy}
-use Rattle.compile_reporting.specs.Sources.{IsMadeOf, names_of, tree_of}
+use Rattle.compile_stages.specs.Placed.{IsPlacedBy}
+use Rattle.compile_report.specs.Sources.{IsMadeOf, names_of, tree_of}
 use Rattle.wcc_compile.specs.Built.{IsLaidOut, IsPlaced}
 use Rattle.wcc_compile.specs.declared.built.Built.{Built}
 

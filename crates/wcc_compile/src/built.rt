@@ -1,8 +1,8 @@
 // What is kept of a compilation.
 ghost use Rattle.std.specs.Prelude.{◌≡◌};
 
-use compile_made::Made;
-use layout_laid::Laid;
+use compile_stages::Made;
+use layout_program::Laid;
 use promise_compiler::Built as Written;
 use rv_core::Image;
 use wcc_report::Report;

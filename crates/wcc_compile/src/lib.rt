@@ -18,7 +18,11 @@
 #![tactic(auto)]
 
 mod built;
+mod high_passes;
 mod laws;
+mod low_passes;
+mod making;
+mod reading;
 mod stages;
 
 pub use built::Built;

@@ -8,25 +8,26 @@ ghost use Rattle.report_laws.specs.Typed.{IsTyped};
 ghost use Rattle.report_text.specs.Lines.{report_text};
 ghost use Rattle.rv_core.specs.Table.{table_of};
 ghost use Rattle.spm_placement.specs.Sets.{AreBest};
-ghost use Rattle.compile_made.specs.Made.{IsMade};
-ghost use Rattle.compile_made.specs.Placed.{IsPlacedBy};
-ghost use Rattle.compile_passes.specs.Passes as passes;
-ghost use Rattle.compile_reporting.specs.Sources as sources;
+ghost use Rattle.compile_stages.specs.Made.{IsMade};
+ghost use Rattle.compile_stages.specs.Placed.{IsPlacedBy};
+ghost use Rattle.wcc_compile.specs.Passes as passes;
+ghost use Rattle.compile_report.specs.Sources as sources;
 ghost use Rattle.wcc_compile.specs.Built.{IsBuilt, gains_of};
 ghost use Rattle.wcc_compile.specs.Steps.{IsFirst, IsLast};
 ghost use Rattle.wcc_compile.specs.Written.{IsWritten};
 
 use crate::built::{Built, written};
+use crate::high_passes::{begun, passed};
 use crate::laws::reported_are_compiled;
-use compile_choices::{
+use crate::making::{laid, lowered, planned, unlaid};
+use crate::reading::read;
+use compile_placement::{
     choices_can_be_placed, choices_fit, items_are_few, items_are_whole, nothing_can_be_placed,
 };
-use compile_image::{laid, lowered, planned, read, unlaid};
-use compile_made::{Made, Stages};
-use compile_passes::{begun, passed};
-use compile_reporting::{find, flows_visit_few, gains_by, joined, tell};
-use compile_reports::reported_are_reports;
-use compile_told::texts_are_short;
+use compile_promise::texts_are_short;
+use compile_report::{find, flows_visit_few, gains_by, joined, tell};
+use compile_report_law::reported_are_reports;
+use compile_stages::{Made, Stages};
 use elf_image::read_of_write;
 use facts_front::Source;
 use high_fold::Fold;

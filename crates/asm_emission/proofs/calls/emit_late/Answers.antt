@@ -1,4 +1,4 @@
-use Rattle.std.proofs.Common.{◌+◌, ◌<◌, ◌≤◌, length, map, drop, get_or, arith}
+use Rattle.std.proofs.Common.{◌+◌, ◌<◌, length, map, drop, get_or, arith}
 use Rattle.asm_program.specs.Emission.{late_code}
 use Rattle.asm_emission.specs.declared.placed.PlacedOperand.TheVariants as operands
 use Rattle.asm_emission.specs.View.{operand_of}

@@ -1,7 +1,6 @@
-use Rattle.std.proofs.Common.{◌+◌, ◌<◌, ◌≤◌, length, map, drop, get_or, arith}
+use Rattle.std.proofs.Common.{◌+◌, ◌<◌, length, map, drop, arith}
 use Rattle.asm_program.specs.Emission.{pass_code}
 use Rattle.asm_emission.specs.View.{operand_of}
-use Rattle.asm_emission.specs.Passing.{passed_code}
 use Rattle.asm_emission.proofs.Passing.{emitted, drop-next, operand-there, pass-step, pass-done}
 use Rattle.asm_emission.proofs.calls.emit_pass.Goals as goal
 

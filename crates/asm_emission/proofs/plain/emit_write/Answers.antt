@@ -1,4 +1,4 @@
-use Rattle.std.proofs.Common.{pos, ap, ◌∙◌}
+use Rattle.std.proofs.Common.{ap, ◌∙◌}
 use Rattle.rv_core.specs.Instructions.{instruction}
 use Rattle.asm_program.specs.Operands.{operand_code, operand_register}
 use Rattle.asm_program.specs.Emission.{store_op}

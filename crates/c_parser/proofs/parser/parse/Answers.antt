@@ -1,4 +1,4 @@
-use Rattle.std.proofs.Common.{◌≡◌, subst, sym}
+use Rattle.std.proofs.Common.{◌≡◌, subst}
 use Rattle.c_tree.specs.Names.{name_of}
 use Rattle.c_tree.specs.Spelling.{spoken}
 use Rattle.c_tree.specs.Units.{named_tree_of}

@@ -1,4 +1,4 @@
-use Rattle.std.proofs.Common.{◌≡◌, ◌+◌, ◌++◌, drop, map, length}
+use Rattle.std.proofs.Common.{◌≡◌, ◌+◌, ◌++◌, drop, map}
 use Rattle.low_ir.specs.View.{instr_of}
 use Rattle.low_ir.specs.Placings.{placings_of}
 use Rattle.image_saving.specs.Walks.{code_calls}

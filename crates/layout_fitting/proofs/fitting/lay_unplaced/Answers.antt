@@ -2,7 +2,7 @@ use Rattle.std.proofs.Common.{sym, subst}
 use Rattle.low_ir.specs.Placings.{placed_of}
 use Rattle.image_definition.specs.Sizes.{HasSizes}
 use Rattle.image_definition.proofs.FitLemmas.{nothing_fits}
-use Rattle.layout_laid.specs.Laid.{IsLaid}
+use Rattle.layout_program.specs.Laid.{IsLaid}
 use Rattle.layout_fitting.proofs.fitting.lay_unplaced.Goals as goal
 
 pub lay-requires : goal.lay-requires

@@ -4,7 +4,7 @@ use Rattle.low_ir.specs.Placings.{assignment_of, placed_of}
 use Rattle.low_ir.specs.View.{function_of}
 use Rattle.claims_definition.specs.Movables.{movable_of}
 use Rattle.claims_movables.proofs.RowLemmas.{functions_count}
-use Rattle.layout_kept.specs.Items.{sized}
+use Rattle.layout_relation.specs.Items.{sized}
 use Rattle.layout_fitting.specs.Fitted.{size_listed}
 use Rattle.layout_fitting.proofs.SizeLemmas.{sizes_are, sizes_step}
 use Rattle.layout_fitting.proofs.fitting.listed_sizes.Goals as goal

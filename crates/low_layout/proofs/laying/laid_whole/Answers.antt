@@ -1,7 +1,7 @@
 use Rattle.std.proofs.Common.{◌∙◌, sym, subst}
 use Rattle.low_ir.specs.Placings.{placed_of}
 use Rattle.claims_image.specs.Images.{laid_of}
-use Rattle.layout_laid.specs.Laid.{AreClaimed, AreListed}
+use Rattle.layout_program.specs.Laid.{AreClaimed, AreListed}
 use Rattle.low_layout.proofs.laying.laid_whole.Goals as goal
 
 pub returns-in-Ok : goal.returns-in-Ok

@@ -1,6 +1,6 @@
 use Rattle.std.proofs.Common.{subst, sym, map}
 use Rattle.high_ir.specs.Programs.{program_of}
-use Rattle.low_constants.proofs.Formed.{formed}
+use Rattle.pass_constant_hoisting.proofs.Formed.{formed}
 use Rattle.low_ir.specs.Formed.{IsLow}
 use Rattle.low_ir.specs.View.{claim_of}
 use Rattle.lower_definition.specs.Programs.{lowered}

@@ -1,9 +1,9 @@
 use Rattle.std.proofs.Common.{◌≡◌, ◌+◌, sym, subst, IfOk}
 use Rattle.std.proofs.lemmas.Result.{IfOk-weaker}
-use Rattle.path_pivot_tables.specs.declared.running.Ended.{Ended}
-use Rattle.path_pivot_tables.specs.Shapes.{HasEnded}
-use Rattle.path_pivot_rounds.specs.Rounds.{round_over}
-use Rattle.path_pivot_rounds.proofs.SideLemmas.{variables_are}
+use Rattle.simplex_tables.specs.declared.running.Ended.{Ended}
+use Rattle.simplex_tables.specs.Shapes.{HasEnded}
+use Rattle.simplex_rounds.specs.Rounds.{round_over}
+use Rattle.simplex_rounds.proofs.SideLemmas.{variables_are}
 use Rattle.path_enum.specs.Steps.{HasFewRows}
 use Rattle.path_enum.proofs.RoundLemmas.{round_few}
 use Rattle.path_enum.proofs.searching.ended.Goals as goal

@@ -3,7 +3,7 @@ use Rattle.std.specs.Int.{w128}
 use Rattle.std.proofs.lemmas.Int.{to_z-of_z}
 use Rattle.wcc_base.specs.declared.compare.Compare.{Compare}
 use Rattle.rv_core.specs.Table.{table_of}
-use Rattle.path_pivot_laws.specs.RoundLaws.{IsInfeasible}
+use Rattle.simplex_laws.specs.RoundLaws.{IsInfeasible}
 use Rattle.path_enum.specs.Steps.{IsAsked}
 use Rattle.path_enum.proofs.NextLemmas.{ops_few, first_is, best_value, size_below, first_some, first_narrow, first_signs, first_next}
 use Rattle.path_enum.proofs.stepping.after_first.Goals as goal

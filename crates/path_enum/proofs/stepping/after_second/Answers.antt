@@ -1,8 +1,8 @@
 use Rattle.std.proofs.Common.{◌<◌, arith, sym, subst, List, length}
 use Rattle.wcc_base.specs.declared.compare.Compare.{Compare}
 use Rattle.rv_core.specs.Table.{table_of}
-use Rattle.path_pivot_laws.specs.RoundLaws.{IsOptimum}
-use Rattle.path_pivot_rounds.specs.declared.pricing.Multipliers.{Multipliers}
+use Rattle.simplex_laws.specs.RoundLaws.{IsOptimum}
+use Rattle.simplex_rounds.specs.declared.pricing.Multipliers.{Multipliers}
 use Rattle.path_enum.specs.Steps.{IsAnswered, IsAsked}
 use Rattle.path_enum.proofs.NextLemmas.{ops_few, second_is, second_some, second_narrow, second_signs}
 use Rattle.path_enum.proofs.StillLemmas.{improved, is_still}

@@ -3,7 +3,7 @@ use Rattle.std.specs.Option.{IsSome}
 use Rattle.rv_core.specs.Table.{table_of}
 use Rattle.code_flow_system.specs.declared.cert.Cert.{Cert}
 use Rattle.code_flow_system.specs.declared.cert.Mark.TheVariants.{Greatest}
-use Rattle.path_pivot_rounds.specs.declared.weighing.Weight.{Weight}
+use Rattle.simplex_rounds.specs.declared.weighing.Weight.{Weight}
 use Rattle.path_fact_columns.specs.Adding.{mixed_parts, AreWeights}
 use Rattle.path_enum.specs.Weighing.{IsCommonOf}
 use Rattle.path_enum.specs.Steps.{IsAccepted}

@@ -1,8 +1,8 @@
 use Rattle.std.proofs.Common.{◌≡◌, true}
 use Rattle.std.specs.List.{AllWithin}
-use Rattle.path_pivot_rounds.specs.declared.weighing.Weight.{Weight}
-use Rattle.path_pivot_rounds.specs.Limits.{is_narrow}
-use Rattle.path_pivot_rounds.specs.Weighted.{numerator}
+use Rattle.simplex_rounds.specs.declared.weighing.Weight.{Weight}
+use Rattle.simplex_rounds.specs.Limits.{is_narrow}
+use Rattle.simplex_rounds.specs.Weighted.{numerator}
 use Rattle.path_enum.proofs.weighing.are_narrow.Given as goal
 
 abbrev pub invariant-loop-i : goal.invariant-loop-i

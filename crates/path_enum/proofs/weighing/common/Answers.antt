@@ -1,5 +1,5 @@
 use Rattle.std.proofs.Common.{◌≤◌, sym, subst, All}
-use Rattle.path_pivot_rounds.specs.declared.weighing.Weight.{Weight}
+use Rattle.simplex_rounds.specs.declared.weighing.Weight.{Weight}
 use Rattle.path_enum.proofs.WeightLemmas.{bottoms_most}
 use Rattle.path_enum.proofs.weighing.common.Goals as goal
 

@@ -8,8 +8,8 @@ use Rattle.code_flow_system.specs.declared.cert.Part.{Part}
 use Rattle.code_flow_system.specs.declared.moves.Move.{Move}
 use Rattle.code_flow_system.specs.Certificates.{listed}
 use Rattle.path_flows.specs.Flows.{parts_of}
-use Rattle.path_pivot_rounds.specs.declared.weighing.Weight.{Weight}
-use Rattle.path_pivot_rounds.specs.Weighted.{numerator}
+use Rattle.simplex_rounds.specs.declared.weighing.Weight.{Weight}
+use Rattle.simplex_rounds.specs.Weighted.{numerator}
 use Rattle.path_fact_columns.proofs.PartLemmas.{listed_below}
 use Rattle.path_fact_columns.specs.Adding.{flow_of, raised, mixed_parts}
 use Rattle.path_fact_columns.proofs.MixLemmas.{IsMixing, mixing_none, mixing_next, mixing_all}

@@ -12,7 +12,7 @@ use Rattle.path_walks.specs.Prices.{price_in, prices_of}
 use Rattle.path_walks.specs.Sizes.{AllStaySmall}
 use Rattle.path_cert.specs.Priced.{fact_price, fact_prices}
 use Rattle.path_values.proofs.SameLemmas.{values_same, small_same, price_is}
-use Rattle.path_amounts.proofs.CostLemmas.{amounts_same}
+use Rattle.path_flow_counts.proofs.CostLemmas.{amounts_same}
 use Rattle.path_fact_walks.proofs.listing.fact_flow.Goals as goal
 
 pub flow-requires-clause-small : goal.flow-requires-clause-small

@@ -1,4 +1,4 @@
-use Rattle.std.proofs.Common.{◌≡◌, sym, subst}
+use Rattle.std.proofs.Common.{sym, subst}
 use Rattle.elf_image.proofs.FaultLemmas.{stops_as, loads}
 use Rattle.report_check.specs.declared.verdict.Cause.{Cause}
 use Rattle.report_check.specs.Checks.{StopsAt}

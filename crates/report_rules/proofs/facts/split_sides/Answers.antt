@@ -1,4 +1,4 @@
-use Rattle.std.proofs.Common.{◌+◌, map, take, drop, sym, subst}
+use Rattle.std.proofs.Common.{◌+◌, map, take, sym, subst}
 use Rattle.report_rules.specs.FactForms.{AreSides}
 use Rattle.report_rules.proofs.FactLemmas.{found_at, rest_whole}
 use Rattle.report_rules.proofs.facts.split_sides.Goals as goal

@@ -1,4 +1,4 @@
-use Rattle.std.proofs.Common.{◌≡◌, map, sym, ap, ◌∙◌}
+use Rattle.std.proofs.Common.{map, sym, ap, ◌∙◌}
 use Rattle.report_text.specs.Lines.{sum_words}
 use Rattle.report_rules.proofs.FactLemmas.{zero_words}
 use Rattle.report_rules.proofs.facts.sum_of.Goals as goal

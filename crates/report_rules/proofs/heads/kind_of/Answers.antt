@@ -1,6 +1,6 @@
-use Rattle.std.proofs.Common.{◌≡◌, ◌∷◌, map, true, sym, ap, subst, ◌∙◌, codes}
+use Rattle.std.proofs.Common.{◌≡◌, ◌∷◌, map, true, sym, subst, ◌∙◌}
 use Rattle.std.proofs.lemmas.Result.{IfOk-weaker}
-use Rattle.path_answer.specs.declared.bounded.Kind.TheVariants.{Greatest, Empty}
+use Rattle.code_flow_answer.specs.declared.bounded.Kind.TheVariants.{Greatest, Empty}
 use Rattle.report_rules.specs.WordTests.{are_none}
 use Rattle.report_rules.specs.KindForms.{IsWide, IsSpent, IsKindLine}
 use Rattle.report_rules.proofs.KindLemmas.{greatest_line, empty_line, wide_line, spent_line}

@@ -1,5 +1,5 @@
-use Rattle.std.proofs.Common.{◌≡◌, ◌^◌, min, map, true, rules, sym, ap, subst, ◌∙◌}
-use Rattle.report_words.specs.Numbers.{is_address, is_number, address_of, number_of}
+use Rattle.std.proofs.Common.{◌≡◌, true, rules, sym, ap, subst, ◌∙◌}
+use Rattle.report_words.specs.Numbers.{is_address, address_of}
 use Rattle.report_rules.proofs.WordTestLemmas.{word_there, word_here}
 use Rattle.report_rules.proofs.words.place.Goals as goal
 

@@ -1,7 +1,6 @@
-use Rattle.std.proofs.Common.{◌≡◌, ◌+◌, ◌*◌, subst, sym, arith, drop}
+use Rattle.std.proofs.Common.{subst, sym, arith}
 use Rattle.rv_core.specs.Table.{table_of}
 use Rattle.code_flow_system.specs.Systems.{IsPlaced}
-use Rattle.report_shares.specs.Shares.{spent}
 use Rattle.report_shares.proofs.SpentLemmas.{spent_step, spent_past, overspent}
 use Rattle.report_shares.proofs.FaultLemmas.{none_is}
 use Rattle.report_shares.proofs.sums.spent.Goals as goal

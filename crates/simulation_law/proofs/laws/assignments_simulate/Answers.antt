@@ -1,6 +1,6 @@
 use Rattle.low_ir.specs.Places.{assignment, placed}
-use Rattle.low_places.proofs.Ways.{all_safe}
-use Rattle.low_places.proofs.Follow.{carried}
+use Rattle.register_places.proofs.Ways.{all_safe}
+use Rattle.register_places.proofs.Follow.{carried}
 use Rattle.asm_program.proofs.FormedLemmas.{program}
 use Rattle.asm_code.proofs.Registers.{placed_there}
 use Rattle.simulation_loaded.proofs.PlacedLemmas.{placed_keeps}

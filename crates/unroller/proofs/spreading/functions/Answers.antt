@@ -1,4 +1,5 @@
 use Rattle.std.proofs.Common.{◌<◌, ◌≤◌, ◌^◌, subst, sym, ◌∙◌}
+use Rattle.wcc_base.specs.Budgets.{most_depth}
 use Rattle.high_ir.specs.Size.{depth, nodes}
 use Rattle.high_ir.specs.View.{statement_of}
 use Rattle.unroller.specs.View.{progress_of}
@@ -7,7 +8,7 @@ use Rattle.unroller.proofs.spreading.functions.Goals as goal
 
 pub function-requires : goal.function-requires
 function-requires c =
-    subst (λ f. (depth (statement_of f.body) ≤ 1024) × (nodes (statement_of f.body) < 2 ^ 26)) (sym c.each-item.is)
+    subst (λ f. (depth (statement_of f.body) ≤ most_depth) × (nodes (statement_of f.body) < 2 ^ 26)) (sym c.each-item.is)
     (c.requires c.loop-each.each-index c.each-item.result c.loop-each-test.true)
 
 pub loop-each-preserved : goal.loop-each-preserved

@@ -1,4 +1,5 @@
 use Rattle.std.proofs.Common.{◌<◌, ◌≤◌, ◌^◌, All, ap, map, subst, sym, ◌∙◌}
+use Rattle.wcc_base.specs.Budgets.{most_depth}
 use Rattle.high_ir.specs.Formed.{IsHigh}
 use Rattle.high_ir.specs.Programs.{program_of}
 use Rattle.high_ir.specs.Size.{depth, nodes}
@@ -11,7 +12,7 @@ use Rattle.unroller.proofs.unroll.program.Goals as goal
 
 pub functions-requires : goal.functions-requires
 functions-requires c =
-    subst (All (λ f. (depth (statement_of f.body) ≤ 1024) × (nodes (statement_of f.body) < 2 ^ 26))) (sym c.deref-2.ensures.value)
+    subst (All (λ f. (depth (statement_of f.body) ≤ most_depth) × (nodes (statement_of f.body) < 2 ^ 26))) (sym c.deref-2.ensures.value)
     (each_small c.args.old.now.functions.items c.args.old.now.is_high.depth c.args.old.now.is_high.nodes)
 
 pub invariant_of-program : goal.invariant_of-program

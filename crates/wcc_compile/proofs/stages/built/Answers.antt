@@ -1,5 +1,5 @@
 use Rattle.rv_core.specs.Table.{table_of}
-use Rattle.compile_reporting.specs.Sources.{names_of, tree_of}
+use Rattle.compile_report.specs.Sources.{names_of, tree_of}
 use Rattle.wcc_compile.proofs.Steps.{fits}
 use Rattle.wcc_compile.proofs.stages.built.Goals as goal
 

@@ -8,7 +8,7 @@ use Rattle.claims_definition.specs.Movables.{movable_of}
 use Rattle.spm_placement.specs.declared.item.Item.{Item}
 use Rattle.spm_placement.specs.Gains.{HasFewVisits}
 use Rattle.spm_placement.specs.Sets.{AreBest, HasSmallGain, HasWholeWords}
-use Rattle.compile_reporting.specs.Sources.{names_of, tree_of}
+use Rattle.compile_report.specs.Sources.{names_of, tree_of}
 use Rattle.wcc_compile.proofs.Gaining.{gains_are, gains_few}
 use Rattle.wcc_compile.proofs.stages.chosen.Goals as goal
 

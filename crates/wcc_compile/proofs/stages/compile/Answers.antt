@@ -1,5 +1,5 @@
 use Rattle.facts_front.proofs.Ways.{one_way}
-use Rattle.compile_reporting.specs.Sources.{names_of, tree_of}
+use Rattle.compile_report.specs.Sources.{names_of, tree_of}
 use Rattle.wcc_compile.proofs.stages.compile.Goals as goal
 
 pub built-built-requires : goal.built-built-requires

@@ -2,7 +2,7 @@ use Rattle.std.proofs.Common.{sym, subst, ◌∙◌}
 use Rattle.rv_core.specs.Table.{table_of}
 use Rattle.low_ir.specs.Placings.{placed_of}
 use Rattle.low_ir.specs.declared.places.LowReg.{LowReg}
-use Rattle.compile_made.specs.Placed.{CanBePlaced}
+use Rattle.compile_stages.specs.Placed.{CanBePlaced}
 use Rattle.wcc_compile.proofs.Steps.{has_room, last_laid, last_made}
 use Rattle.wcc_compile.proofs.stages.last.Goals as goal
 

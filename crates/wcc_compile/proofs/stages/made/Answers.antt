@@ -4,12 +4,12 @@ use Rattle.high_pass.specs.Listing.{listing_of}
 use Rattle.low_ir.specs.Placings.{assignment_of, placed_of}
 use Rattle.low_ir.specs.Programs.{low_of}
 use Rattle.low_ir.specs.declared.places.LowReg.{LowReg}
-use Rattle.compile_kept.specs.Carried.{IsCarried}
-use Rattle.compile_turns.proofs.Sizes.{limited_fit}
-use Rattle.compile_made.specs.Made.{IsLowered}
-use Rattle.compile_made.specs.declared.made.Stages.{Stages}
-use Rattle.compile_passes.specs.Passes.{AreStages, stages_of}
-use Rattle.compile_reporting.specs.Sources.{names_of, tree_of}
+use Rattle.compile_high_definitions.specs.Carried.{IsCarried}
+use Rattle.compile_capacity.proofs.Sizes.{limited_fit}
+use Rattle.compile_stages.specs.Made.{IsLowered}
+use Rattle.compile_stages.specs.declared.made.Stages.{Stages}
+use Rattle.wcc_compile.specs.Passes.{AreStages, stages_of}
+use Rattle.compile_report.specs.Sources.{names_of, tree_of}
 use Rattle.wcc_compile.proofs.stages.made.Goals as goal
 
 pub laid-requires : goal.laid-requires

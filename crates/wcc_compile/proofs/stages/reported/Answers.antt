@@ -1,7 +1,7 @@
 use Rattle.std.proofs.Common.{◌^◌, ◌≤◌, sym, subst}
 use Rattle.rv_core.specs.Table.{table_of}
 use Rattle.report_text.specs.Reports.{Report}
-use Rattle.compile_reporting.specs.Sources.{IsReportOn}
+use Rattle.compile_report.specs.Sources.{IsReportOn}
 use Rattle.wcc_compile.proofs.Reports.{is_report, is_reported}
 use Rattle.wcc_compile.proofs.stages.reported.Goals as goal
 

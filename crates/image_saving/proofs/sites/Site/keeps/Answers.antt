@@ -1,4 +1,4 @@
-use Rattle.std.proofs.Common.{◌≤◌, sym, arith}
+use Rattle.std.proofs.Common.{sym, arith}
 use Rattle.image_saving.proofs.KeptLemmas.{kept_below, kept_past}
 use Rattle.image_saving.proofs.sites.Site.keeps.Goals as goal
 

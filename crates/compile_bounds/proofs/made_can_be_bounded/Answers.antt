@@ -1,5 +1,0 @@
-use Rattle.compile_bounds.proofs.Bounds.{made_bounded}
-use Rattle.compile_bounds.proofs.made_can_be_bounded.Goals as goal
-
-pub returns : goal.returns
-returns c = λ source names program facts m lines claims costs s is made told h. made_bounded source names program facts m is made lines claims told costs s h

@@ -1,5 +1,0 @@
-use Rattle.compile_bounds.proofs.Bounds.{made_only_memory}
-use Rattle.compile_bounds.proofs.made_have_systems.Goals as goal
-
-pub returns : goal.returns
-returns c = λ source names program facts m lines claims fault is made told h. made_only_memory source names program facts m is made lines claims told fault h

@@ -1,5 +1,0 @@
-use Rattle.compile_carried.proofs.Plans.{pass_limited}
-use Rattle.compile_carried.proofs.laws.passes_keep_limits.Goals as goal
-
-pub returns : goal.returns
-returns c = λ old new listing lawful limited. pass_limited old new listing lawful limited

@@ -1,5 +1,0 @@
-use Rattle.compile_carried.proofs.Carried.{planned_carried}
-use Rattle.compile_carried.proofs.laws.plans_are_carried.Goals as goal
-
-pub returns : goal.returns
-returns c = λ source names program facts p listing is planned. planned_carried source names program facts p listing is planned

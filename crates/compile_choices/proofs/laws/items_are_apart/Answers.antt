@@ -1,5 +1,0 @@
-use Rattle.compile_choices.proofs.Numbers.{apart}
-use Rattle.compile_choices.proofs.laws.items_are_apart.Goals as goal
-
-pub returns : goal.returns
-returns c = λ t ps l. apart t ps l

@@ -1,5 +1,0 @@
-use Rattle.compile_choices.proofs.Few.{few}
-use Rattle.compile_choices.proofs.laws.items_are_few.Goals as goal
-
-pub returns : goal.returns
-returns c = λ t ps l elements. few t ps l elements

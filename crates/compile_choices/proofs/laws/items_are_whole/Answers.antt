@@ -1,5 +1,0 @@
-use Rattle.compile_choices.proofs.Sizes.{items_whole}
-use Rattle.compile_choices.proofs.laws.items_are_whole.Goals as goal
-
-pub returns : goal.returns
-returns c = λ t ps l is. items_whole t ps l is

@@ -1,5 +1,0 @@
-use Rattle.compile_choices.proofs.Moves.{nothing_fits}
-use Rattle.compile_choices.proofs.laws.nothing_can_be_placed.Goals as goal
-
-pub returns : goal.returns
-returns c = λ p room. nothing_fits p room

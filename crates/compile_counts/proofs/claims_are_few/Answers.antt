@@ -1,5 +1,0 @@
-use Rattle.compile_counts.proofs.Claims.{claims_counted}
-use Rattle.compile_counts.proofs.claims_are_few.Goals as goal
-
-pub returns : goal.returns
-returns c = λ names program facts m made. claims_counted names program facts m made

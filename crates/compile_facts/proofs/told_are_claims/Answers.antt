@@ -1,5 +1,0 @@
-use Rattle.compile_facts.proofs.Forms.{told-claims}
-use Rattle.compile_facts.proofs.told_are_claims.Goals as goal
-
-pub returns : goal.returns
-returns c = told-claims

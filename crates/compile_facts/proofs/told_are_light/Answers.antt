@@ -1,5 +1,0 @@
-use Rattle.compile_facts.proofs.Totals.{told_light}
-use Rattle.compile_facts.proofs.told_are_light.Goals as goal
-
-pub returns : goal.returns
-returns c = λ facts lines claims n most limited told each. told_light facts lines n most each claims limited told

@@ -1,5 +1,0 @@
-use Rattle.compile_handed.proofs.Standing.{nevers_fine}
-use Rattle.compile_handed.proofs.nevers_are_sound.Goals as goal
-
-pub returns : goal.returns
-returns c = λ names program facts m claims made handed. nevers_fine names program facts m made claims handed

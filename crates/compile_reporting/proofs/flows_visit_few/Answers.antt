@@ -1,5 +1,0 @@
-use Rattle.compile_reporting.proofs.Visits.{few}
-use Rattle.compile_reporting.proofs.flows_visit_few.Goals as goal
-
-pub returns : goal.returns
-returns c = λ source names program facts m costs r is made reported. few source names program facts m costs r is made reported

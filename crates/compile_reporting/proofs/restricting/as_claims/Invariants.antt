@@ -1,6 +1,0 @@
-use Rattle.std.proofs.Common.{◌≡◌, map, take}
-use Rattle.compile_reporting.specs.Restricted.{as_claim}
-use Rattle.compile_reporting.proofs.restricting.as_claims.Given as goal
-
-abbrev pub invariant-loop-fact : goal.invariant-loop-fact
-invariant-loop-fact l = l.claims.items ≡ map as_claim (take l.fact-index l.facts)

@@ -1,5 +1,0 @@
-use Rattle.compile_reports.proofs.Reports.{is_report}
-use Rattle.compile_reports.proofs.reported_are_reports.Goals as goal
-
-pub returns : goal.returns
-returns c = λ source names program facts m t r is made reported. is_report source names program facts m t r is made reported

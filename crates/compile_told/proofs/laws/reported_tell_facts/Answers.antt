@@ -1,5 +1,0 @@
-use Rattle.compile_told.proofs.Told.{told}
-use Rattle.compile_told.proofs.laws.reported_tell_facts.Goals as goal
-
-pub returns : goal.returns
-returns c = λ source names program facts m t r is made reported. told source names program facts m t r is made reported

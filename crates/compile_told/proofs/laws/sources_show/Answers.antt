@@ -1,5 +1,0 @@
-use Rattle.compile_told.proofs.Sources.{source_shows}
-use Rattle.compile_told.proofs.laws.sources_show.Goals as goal
-
-pub returns : goal.returns
-returns c = λ source names facts p made q pl ps s t cert carries compiled input bytes output value counts means. source_shows source names facts p made q pl ps s t cert carries compiled input bytes output value counts means

@@ -1,5 +1,0 @@
-use Rattle.compile_turns.proofs.Light.{source_light}
-use Rattle.compile_turns.proofs.laws.all_are_light.Goals as goal
-
-pub returns : goal.returns
-returns c = λ source names facts p q are small keeps. source_light source names facts p q are small keeps

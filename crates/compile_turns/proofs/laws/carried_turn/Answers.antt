@@ -1,5 +1,0 @@
-use Rattle.compile_turns.proofs.Carrying.{carried_kept}
-use Rattle.compile_turns.proofs.laws.carried_turn.Goals as goal
-
-pub returns : goal.returns
-returns c = λ old p c carries high all. carried_kept old p c carries high all

@@ -1,5 +1,0 @@
-use Rattle.compile_turns.proofs.Lowering.{placed_kept}
-use Rattle.compile_turns.proofs.laws.placed_turn.Goals as goal
-
-pub returns : goal.returns
-returns c = λ a q all. placed_kept a q all

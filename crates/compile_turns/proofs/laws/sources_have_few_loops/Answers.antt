@@ -1,5 +1,0 @@
-use Rattle.compile_turns.proofs.Few.{source_loops_few}
-use Rattle.compile_turns.proofs.laws.sources_have_few_loops.Goals as goal
-
-pub returns : goal.returns
-returns c = λ names program facts checked. source_loops_few names program facts checked

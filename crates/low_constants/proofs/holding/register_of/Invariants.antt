@@ -1,9 +1,0 @@
-use Rattle.std.proofs.Common.{◌≡◌, ◌+◌, drop}
-use Rattle.low_constants.specs.Holding.{register_of}
-use Rattle.low_constants.proofs.holding.register_of.Given as goal
-
-abbrev pub invariant-loop-other : goal.invariant-loop-other
-invariant-loop-other l = record {
-  register : l.register ≡ l.first + l.other-index;
-  rest : register_of l.register (drop l.other-index l.words) l.word ≡ register_of l.first l.words l.word;
-}

@@ -1,8 +1,0 @@
-pub mod Lists
-pub mod Blocks
-pub mod Stores
-pub mod Omitted
-pub mod Renamed
-pub mod Serving
-pub mod Costs
-pub mod Formed

@@ -1,6 +1,0 @@
-use Rattle.std.proofs.Common.{◌≡◌, [], replicate}
-use Rattle.low_live.specs.Rows.{rows_of}
-use Rattle.low_live.proofs.accesses.no_accesses.Given as goal
-
-abbrev pub invariant-loop : goal.invariant-loop
-invariant-loop l = rows_of l.rows.items ≡ replicate l.counter []

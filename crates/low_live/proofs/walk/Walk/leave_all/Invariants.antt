@@ -1,6 +1,0 @@
-use Rattle.std.proofs.Common.{◌≡◌, drop}
-use Rattle.low_live.specs.Walks.{all_left}
-use Rattle.low_live.proofs.walk.Walk.leave_all.Given as goal
-
-abbrev pub invariant-loop-source : goal.invariant-loop-source
-invariant-loop-source l = all_left l.fn.register (drop l.source-index l.sources) l.self ≡ all_left l.fn.register l.sources l.initial.self

@@ -1,6 +1,0 @@
-use Rattle.std.proofs.Common.{◌≡◌, drop}
-use Rattle.low_live.specs.Walks.{all_taken}
-use Rattle.low_live.proofs.walk.Walk.take_all.Given as goal
-
-abbrev pub invariant-loop-access : goal.invariant-loop-access
-invariant-loop-access l = all_taken l.fn.register (drop l.access-index l.accesses) l.self ≡ all_taken l.fn.register l.accesses l.initial.self

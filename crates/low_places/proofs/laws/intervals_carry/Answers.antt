@@ -1,6 +1,0 @@
-use Rattle.low_places.proofs.Follow.{carried}
-use Rattle.low_places.proofs.Ways.{all_safe}
-use Rattle.low_places.proofs.laws.intervals_carry.Goals as goal
-
-pub returns : goal.returns
-returns c = λ a p h. carried a p (all_safe a p h)

@@ -1,5 +1,0 @@
-use Rattle.low_places.proofs.Follow.{carried}
-use Rattle.low_places.proofs.laws.places_carry.Goals as goal
-
-pub returns : goal.returns
-returns c = carried

@@ -1,5 +1,0 @@
-use Rattle.low_places.proofs.Weights.{reach_kept}
-use Rattle.low_places.proofs.laws.places_keep_reach.Goals as goal
-
-pub returns : goal.returns
-returns c = λ a low mark. reach_kept a low mark

@@ -1,5 +1,0 @@
-use Rattle.low_places.proofs.Weights.{weight_kept}
-use Rattle.low_places.proofs.laws.places_keep_weight.Goals as goal
-
-pub returns : goal.returns
-returns c = λ a low. weight_kept a low

@@ -1,7 +1,0 @@
-use Rattle.std.proofs.Common.{subst, sym}
-use Rattle.low_constants.specs.Carried.{Ends}
-use Rattle.low_promoted.proofs.Follow.{carried}
-use Rattle.low_promoted.proofs.laws.promoted_carries.Goals as goal
-
-pub returns : goal.returns
-returns c = λ q r low h input n v u bytes good. subst (λ s. Ends s input v u) (sym h.is) (carried h.residents h.table q low h.may input n v u bytes good)

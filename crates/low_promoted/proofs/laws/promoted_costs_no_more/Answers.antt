@@ -1,7 +1,0 @@
-use Rattle.std.proofs.Common.{subst, sym}
-use Rattle.low_promoted.specs.Laws.{CostsNoMore}
-use Rattle.low_promoted.proofs.Costs.{reach_less, weight_less}
-use Rattle.low_promoted.proofs.laws.promoted_costs_no_more.Goals as goal
-
-pub returns : goal.returns
-returns c = λ q r h. subst (CostsNoMore q) (sym h.is) (record { weight = weight_less h.residents q h.paid; reach = reach_less h.residents q })

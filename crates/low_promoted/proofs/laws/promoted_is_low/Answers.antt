@@ -1,7 +1,0 @@
-use Rattle.std.proofs.Common.{subst, sym}
-use Rattle.low_ir.specs.Formed.{IsLow}
-use Rattle.low_promoted.proofs.Formed.{formed}
-use Rattle.low_promoted.proofs.laws.promoted_is_low.Goals as goal
-
-pub returns : goal.returns
-returns c = λ q r h low. subst IsLow (sym h.is) (formed h.residents h.table q h.may low)

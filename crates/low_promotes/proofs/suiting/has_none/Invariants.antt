@@ -1,8 +1,0 @@
-use Rattle.std.proofs.Common.{◌≡◌, ℕ, true, false, drop}
-use Rattle.low_ir.specs.Effects.{is_member}
-use Rattle.low_promoted.specs.Suiting.{is_resident}
-use Rattle.low_promotes.specs.Residents.{residents_of}
-use Rattle.low_promotes.proofs.suiting.has_none.Given as goal
-
-abbrev pub invariant-loop-object : goal.invariant-loop-object
-invariant-loop-object l = ((o : ℕ) → is_member (drop l.object-index l.claim) o ≡ true → is_resident (residents_of l.residents) o ≡ false) → (o : ℕ) → is_member l.claim o ≡ true → is_resident (residents_of l.residents) o ≡ false

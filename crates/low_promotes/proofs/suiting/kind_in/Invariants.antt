@@ -1,7 +1,0 @@
-use Rattle.std.proofs.Common.{◌≡◌, drop}
-use Rattle.low_promoted.specs.Suiting.{kind_in}
-use Rattle.low_promotes.specs.Residents.{residents_of}
-use Rattle.low_promotes.proofs.suiting.kind_in.Given as goal
-
-abbrev pub invariant-loop-resident : goal.invariant-loop-resident
-invariant-loop-resident l = kind_in (residents_of (drop l.resident-index l.residents)) l.object ≡ kind_in (residents_of l.residents) l.object

@@ -1,7 +1,0 @@
-use Rattle.std.proofs.Common.{◌≡◌, ◌++◌, drop, map}
-use Rattle.low_ir.specs.View.{block_of}
-use Rattle.low_registers.specs.Briefs.{blocks_turns}
-use Rattle.low_registers.proofs.briefs.turns.Given as goal
-
-abbrev pub invariant-loop-block : goal.invariant-loop-block
-invariant-loop-block l = l.turns.items ++ blocks_turns (map block_of (drop l.block-index l.function.blocks.items)) ≡ blocks_turns (map block_of l.function.blocks.items)

@@ -1,6 +1,0 @@
-use Rattle.std.proofs.Common.{◌≡◌, ℕ, ◌<◌, false}
-use Rattle.low_registers.specs.Scans.{is_free}
-use Rattle.low_registers.proofs.scan.Scan.first_free.Given as goal
-
-abbrev pub invariant-loop-machine : goal.invariant-loop-machine
-invariant-loop-machine l = (q : ℕ) → q < l.machine → is_free l.self l.fn.at q ≡ false

@@ -1,5 +1,0 @@
-use Rattle.low_reloads.proofs.Table.{nothing_known}
-use Rattle.low_reloads.proofs.known.Known.new.Goals as goal
-
-pub returns : goal.returns
-returns c = nothing_known c.in_ok-facts.facts.items 32 c.in_ok-facts.ensures

@@ -1,7 +1,0 @@
-use Rattle.std.proofs.Common.{map}
-use Rattle.low_ir.specs.View.{claim_of, instr_of}
-use Rattle.low_reloads.proofs.Table.{Forgets}
-use Rattle.low_reloads.proofs.known.forget.Given as goal
-
-abbrev pub invariant-loop-at : goal.invariant-loop-at
-invariant-loop-at l = Forgets (map claim_of l.claims) (instr_of l.instr) l.initial.facts.items l.facts.items l.at

@@ -1,6 +1,0 @@
-use Rattle.std.proofs.Common.{subst}
-use Rattle.low_reloads.specs.Making.{AreKnown}
-use Rattle.low_reloads.proofs.lists.leads_to.Goals as goal
-
-pub returns : goal.returns
-returns c = λ done. subst (AreKnown c.args.known.now) c.list_for.ensures (c.knows_all.ensures done)

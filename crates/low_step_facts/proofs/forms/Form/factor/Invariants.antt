@@ -1,6 +1,0 @@
-use Rattle.std.proofs.Common.{◌+◌, drop}
-use Rattle.low_step_facts.specs.Forms.{Same, factor_in}
-use Rattle.low_step_facts.proofs.forms.Form.factor.Given as goal
-
-abbrev pub invariant-loop-term : goal.invariant-loop-term
-invariant-loop-term l = Same (l.factor + factor_in l.register (drop l.term-index l.term-items)) (factor_in l.register l.fn.self.terms)

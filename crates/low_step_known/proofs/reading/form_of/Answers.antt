@@ -1,5 +1,0 @@
-use Rattle.low_step_known.proofs.Tables.{true_at}
-use Rattle.low_step_known.proofs.reading.form_of.Goals as goal
-
-pub returns-in-Some : goal.returns-in-Some
-returns-in-Some c = λ s known. c.in-Some.ensures s (true_at s c.args.facts.now c.loop-fact.fact-index _ c.loop-fact-test.true known)

@@ -1,7 +1,0 @@
-use Rattle.low_step_facts.specs.Facts.{number_in}
-use Rattle.low_step_facts.specs.Forms.{Same, form_value}
-use Rattle.low_step_known.specs.Learning.{Sure}
-use Rattle.low_step_known.proofs.reading.vanishes.Given as goal
-
-abbrev pub invariant-loop : goal.invariant-loop
-invariant-loop l = Sure l.facts (λ s. Same (form_value (number_in s) l.now) (form_value (number_in s) l.fn.form))

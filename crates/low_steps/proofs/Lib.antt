@@ -1,7 +1,0 @@
-pub mod Ways
-pub mod Lists
-pub mod Following
-pub mod Making
-pub mod Blocks
-pub mod Weights
-pub mod Wholes

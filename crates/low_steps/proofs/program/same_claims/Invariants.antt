@@ -1,6 +1,0 @@
-use Rattle.std.proofs.Common.{◌≡◌, ◌++◌, drop, map}
-use Rattle.low_ir.specs.View.{claim_of}
-use Rattle.low_steps.proofs.program.same_claims.Given as goal
-
-abbrev pub invariant-loop-claim : goal.invariant-loop-claim
-invariant-loop-claim l = map claim_of l.same.items ++ map claim_of (drop l.claim-index l.claims) ≡ map claim_of l.claims

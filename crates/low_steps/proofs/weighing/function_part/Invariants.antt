@@ -1,8 +1,0 @@
-use Rattle.std.proofs.Common.{◌≡◌, ◌+◌, drop, map}
-use Rattle.std.specs.Prelude.{sum_by}
-use Rattle.low_ir.specs.Room.{block_room}
-use Rattle.low_ir.specs.View.{block_of}
-use Rattle.low_steps.proofs.weighing.function_part.Given as goal
-
-abbrev pub invariant-loop-block : goal.invariant-loop-block
-invariant-loop-block l = l.total + sum_by block_room (map block_of (drop l.block-index l.function.blocks.items)) ≡ l.with_frame + sum_by block_room (map block_of l.function.blocks.items)

@@ -1,7 +1,0 @@
-use Rattle.std.proofs.Common.{ap, sym, ◌∙◌}
-use Rattle.low_threads.specs.Facts.{lookup}
-use Rattle.low_threads.proofs.Knowing.{pushed_says}
-use Rattle.low_threads.proofs.facts.with_fact.Goals as goal
-
-pub returns : goal.returns
-returns c = λ r w e. pushed_says c.args.facts.items (record { register = c.args.register; word = c.args.word }) r w (ap (λ fs. lookup fs r) (sym c.in_ok-push.ensures.items) ∙ e)

@@ -1,8 +1,0 @@
-use Rattle.std.proofs.Common.{map}
-use Rattle.std.specs.Prelude.{All}
-use Rattle.low_ir.specs.View.{block_of, function_of}
-use Rattle.low_threads.specs.Planning.{IsSeen, SoFar, plan_of}
-use Rattle.low_threads.proofs.making.blocks_of.Given as goal
-
-abbrev pub invariant-loop-at : goal.invariant-loop-at
-invariant-loop-at l = All (IsSeen l.plan.seen.items) (function_of l.function).loops → SoFar (function_of l.function) (plan_of l.plan) l.at (map block_of l.made.items)

@@ -1,8 +1,0 @@
-use Rattle.std.proofs.Common.{map, take}
-use Rattle.std.specs.List.{AllZip}
-use Rattle.low_ir.specs.View.{function_of}
-use Rattle.low_threaded.specs.Threads.{FunctionThreaded}
-use Rattle.low_threads.proofs.program.functions_threaded.Given as goal
-
-abbrev pub invariant-loop-function : goal.invariant-loop-function
-invariant-loop-function l = AllZip FunctionThreaded (map function_of (take l.function-index l.functions)) (map function_of l.made.items)

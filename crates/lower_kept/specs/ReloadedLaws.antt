@@ -1,8 +1,0 @@
--- What a low program keeps of a program in the high form with copies in place of loads and operations.
-use Rattle.high_ir.specs.Tree.{Program}
-use Rattle.low_ir.specs.Code.{Low}
-use Rattle.low_reloaded.specs.Reloads.{MayBeReloaded}
-use Rattle.lower_law.specs.Programs.{KeepsProgram}
-
-abbrev pub ReloadsKeep : Type 0
-ReloadsKeep = (p : Program) (q r : Low) → KeepsProgram p q → MayBeReloaded q r → KeepsProgram p r

@@ -1,0 +1,10 @@
+pub mod Giving
+pub mod Blocks
+pub mod Places
+pub mod Effects
+pub mod Words
+pub mod Small
+pub mod Truth
+pub mod Serving
+pub mod Costs
+pub mod Formed

@@ -1,5 +1,0 @@
-use Rattle.path_pivot_laws.proofs.RoundLemmas.{all_end_well}
-use Rattle.path_pivot_laws.proofs.laws.rounds_end_well.Goals as goal
-
-pub returns : goal.returns
-returns c = all_end_well

@@ -1,6 +1,0 @@
-use Rattle.std.proofs.Common.{◌≡◌, ◌++◌, drop}
-use Rattle.path_pivot_rounds.specs.Starts.{slacks}
-use Rattle.path_pivot_rounds.proofs.starting.push_slacks.Given as goal
-
-abbrev pub invariant-loop-k : goal.invariant-loop-k
-invariant-loop-k l = l.row.items ++ slacks l.own l.k (drop l.k l.sides) ≡ l.fn.row.items ++ slacks l.own 0 l.sides

@@ -1,6 +1,0 @@
-use Rattle.std.proofs.Common.{◌≡◌, drop}
-use Rattle.path_pivot_tables.specs.Choices.{is_among}
-use Rattle.path_pivot_tables.proofs.choosing.has_artificial.Given as goal
-
-abbrev pub invariant-loop-i : goal.invariant-loop-i
-invariant-loop-i l = is_among 0 (drop l.i l.owns) ≡ is_among 0 l.owns

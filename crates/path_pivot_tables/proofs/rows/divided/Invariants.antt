@@ -1,6 +1,0 @@
-use Rattle.std.proofs.Common.{◌≡◌, drop, ◌++◌}
-use Rattle.path_pivot_tables.specs.Rows.{divided}
-use Rattle.path_pivot_tables.proofs.rows.divided.Given as goal
-
-abbrev pub invariant-loop-i : goal.invariant-loop-i
-invariant-loop-i l = l.out.items ++ divided l.g (drop l.i l.row) ≡ divided l.g l.row

@@ -1,6 +1,0 @@
-use Rattle.std.proofs.Common.{◌≡◌, drop}
-use Rattle.path_pivot_tables.specs.Rows.{divisor_from}
-use Rattle.path_pivot_tables.proofs.rows.divisor.Given as goal
-
-abbrev pub invariant-loop-i : goal.invariant-loop-i
-invariant-loop-i l = divisor_from l.g (drop l.i l.row) ≡ divisor_from 0 l.row

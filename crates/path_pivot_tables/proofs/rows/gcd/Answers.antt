@@ -1,6 +1,0 @@
-use Rattle.std.proofs.lemmas.Nat.Gcd.{same_from_IsGcd}
-use Rattle.path_pivot_tables.proofs.RowLemmas.{gcd_is}
-use Rattle.path_pivot_tables.proofs.rows.gcd.Goals as goal
-
-pub returns : goal.returns
-returns c = same_from_IsGcd _ _ _ _ c.common.ensures (gcd_is c.args.a c.args.b)

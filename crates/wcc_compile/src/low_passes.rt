@@ -1,0 +1,55 @@
+// The low passes: from the last program in the high form to its code over places, a line for each pass.
+ghost use Rattle.std.specs.Prelude.{IfOk};
+ghost use Rattle.high_ir.specs.Programs.{program_of};
+ghost use Rattle.high_ir.specs.Tree.{Program};
+ghost use Rattle.low_ir.specs.Programs.{low_of};
+ghost use Rattle.lower_law.specs.Programs.{KeepsProgram};
+ghost use Rattle.compile_stages.specs.Made.{IsLowered};
+
+use high_ir::High;
+use low_ir::{Low, LowReg};
+use low_make::lower;
+use pass_common_subexpressions::without_reloads;
+use pass_copy_propagation::without_copies;
+use pass_jump_threading::threaded;
+use pass_register_promotion::promoted;
+use pass_strength_reduction::stepped;
+use register_allocation::allocate;
+use register_live_ranges::live;
+use std::alloc::Global;
+use wcc_base::Memory;
+
+/// Jump threading, then common subexpression elimination and copy propagation, twice: copies make more values equal.
+fn shortened(alloc: Global, low: Low) -> Result<Low, Memory>
+    ensures { IfOk result (λ l. (p : Program) → KeepsProgram p (low_of low) → KeepsProgram p (low_of l)) }
+{
+    let short = threaded(alloc, low)?;
+    let loaded = without_reloads(alloc, short)?;
+    let brief = without_copies(alloc, loaded)?;
+    let again = without_reloads(alloc, brief)?;
+    let fewer = without_copies(alloc, again)?;
+    Ok(fewer)
+}
+
+/// Strength reduction, then copy propagation, which leaves out the indexes that nothing reads any more, and jump threading.
+fn quickened(alloc: Global, low: Low) -> Result<Low, Memory>
+    ensures { IfOk result (λ l. (p : Program) → KeepsProgram p (low_of low) → KeepsProgram p (low_of l)) }
+{
+    let quick = stepped(alloc, low)?;
+    let bare = without_copies(alloc, quick)?;
+    let last = threaded(alloc, bare)?;
+    Ok(last)
+}
+
+/// The code of a program in the high form: its low form, the passes over that, and a place for each register.
+pub(crate) fn code_of(alloc: Global, program: &High) -> Result<LowReg, Memory>
+    ensures { IfOk result (IsLowered (program_of program.now)) }
+{
+    let plain = lower(alloc, program)?;
+    let held = promoted(alloc, plain)?;
+    let brief = shortened(alloc, held)?;
+    let low = quickened(alloc, brief)?;
+    let live = live(alloc, &low)?;
+    let code = allocate(alloc, low, &live)?;
+    Ok(code)
+}
