@@ -1,73 +1,100 @@
 """A copy of an image with section headers and symbols, for objdump, nm and gdb. What is loaded is the same."""
 import struct
+from collections.abc import Iterator
+from dataclasses import dataclass
 from itertools import groupby
 
+from bound import Bound
+from functions import START
 from simulator.decoder import decode
-from simulator.images import W, X, read_image, region_of
+from simulator.images import HEADER, LOADED, PROGRAM_HEADER, W, X, program_table, programs, read_image, region_of
 
 PROGRAM, SYMBOLS, STRINGS, NOTHING, ATTRIBUTES = 1, 2, 3, 8, 0x7000_0003  # types of sections
 WRITE, ALLOCATED, EXECUTED = 1, 2, 4  # flags of sections
 LOCAL, GLOBAL = 0, 1
 NO_TYPE, FUNCTION = 0, 2
 ARCHITECTURE = b"rv32i2p0_m2p0"
-HEADER, SECTION, SYMBOL = 52, 40, 16  # bytes
-START = "_start"
+SECTION, SYMBOL = 40, 16  # bytes
+ENTRY = "_start"
+NO_SECTION = 0xFFF1  # of a symbol that is an absolute address
+
+
+class OddImage(Exception):
+    """An image that is accepted, and that gets no copy, with the reason."""
 
 
 class Strings:
     """A table of strings, each ended by a zero."""
 
-    def __init__(self):
+    def __init__(self) -> None:
         self.data = bytearray(1)
 
-    def put(self, text):
+    def put(self, text: str) -> int:
         place = len(self.data)
         self.data += text.encode() + b"\0"
         return place
 
 
+@dataclass
 class Section:
-    def __init__(self, name, kind, flags=0, start=0, offset=0, size=0, data=None, link=0, info=0, align=1, each=0):
-        self.name, self.kind, self.flags, self.start, self.offset, self.size = name, kind, flags, start, offset, size
-        self.data, self.link, self.info, self.align, self.each = data, link, info, align, each
+    name: str
+    kind: int
+    flags: int = 0
+    start: int = 0
+    offset: int = 0
+    size: int = 0
+    data: bytes | None = None
+    link: int = 0
+    info: int = 0
+    align: int = 1
+    each: int = 0
 
-    def header(self, name):
-        return struct.pack("<10I", name, self.kind, self.flags, self.start, self.offset, self.size, self.link, self.info, self.align, self.each)
+    def header(self, name: int) -> bytes:
+        return struct.pack("<10I", name, self.kind, self.flags, self.start, self.offset, self.size, self.link, self.info,
+                           self.align, self.each)
 
 
-def loaded(data):
-    """The parts of the file's program headers that are loaded: start, place in the file, bytes there, bytes in memory, rights."""
-    table, = struct.unpack_from("<I", data, 28)
-    count, = struct.unpack_from("<H", data, 44)
-    for index in range(count):
-        kind, offset, start, _, file_size, size, rights, _ = struct.unpack_from("<8I", data, table + 32 * index)
-        if kind == 1 and size:
-            yield start, offset, file_size, size, rights
+@dataclass
+class Symbol:
+    name: str
+    at: int
+    size: int = 0
+    kind: int = NO_TYPE
+    binding: int = LOCAL
 
 
-def sections_of(data):
+class Sections:
     """The sections of what is loaded; names are those that linkers give, with the region where it isn't the usual one."""
-    usual = {".text": "flash", ".rodata": "flash", ".data": "ram", ".bss": "ram"}
-    seen = set()
+    USUAL = {".text": "flash", ".rodata": "flash", ".data": "ram", ".bss": "ram"}
 
-    def named(name, start):
-        region = region_of(start)
-        name = name if region == usual[name] else f"{name}.{region}"
-        number = next(it for it in range(len(seen) + 1) if (name, it) not in seen)
-        seen.add((name, number))
-        return f"{name}.{number}" if number else name
+    def __init__(self, data: bytes) -> None:
+        self.seen: dict[str, int] = {}
+        self.found = [Section("", 0, align=0)]
+        for it in programs(data):
+            if it.kind == LOADED and it.size:
+                self.found += self.of(it.start, it.offset, it.file_size, it.size, it.rights)
 
-    for start, offset, file_size, size, rights in loaded(data):
+    def of(self, start: int, offset: int, file_size: int, size: int, rights: int) -> Iterator[Section]:
         flags = ALLOCATED | WRITE * bool(rights & W) | EXECUTED * bool(rights & X)
         name = ".text" if rights & X else ".data" if rights & W else ".rodata"
         if file_size:
-            yield Section(named(name, start), PROGRAM, flags, start, offset, file_size, align=4 if rights & X else 1)
+            yield Section(self.named(name, start), PROGRAM, flags, start, offset, file_size, align=4 if rights & X else 1)
         if size > file_size:
-            yield Section(named(".bss" if rights & W else name, start + file_size), NOTHING, flags, start + file_size, offset + file_size,
-                          size - file_size)
+            name = self.named(".bss" if rights & W else name, start + file_size)
+            # Of what the file has no bytes of, no place in the file counts.
+            yield Section(name, NOTHING, flags, start + file_size, (offset + file_size) % (1 << 32), size - file_size)
+
+    def named(self, name: str, start: int) -> str:
+        region = region_of(start)
+        name = name if region == self.USUAL[name] else f"{name}.{region}"
+        self.seen[name] = self.seen.get(name, -1) + 1
+        return f"{name}.{self.seen[name]}" if self.seen[name] else name
+
+    def number_at(self, at: int) -> int:
+        return next((number for number, it in enumerate(self.found) if it.kind and it.start <= at < it.start + it.size), NO_SECTION)
 
 
-def attributes():
+def attributes() -> bytes:
     """Which instructions there are, as the tools of RISC-V read it."""
     tag = bytes([5]) + ARCHITECTURE + b"\0"
     inner = bytes([1]) + struct.pack("<I", len(tag) + 5) + tag
@@ -75,55 +102,56 @@ def attributes():
     return b"A" + struct.pack("<I", len(inner) + len(vendor) + 4) + vendor + inner
 
 
-def symbols_of(bound):
-    """Names, addresses, sizes, types and bindings. A name of a loop or of a further copy has a dot, as none of C has."""
+def symbols_of(bound: Bound) -> Iterator[Symbol]:
+    """A name of a loop or of a further copy has a dot, as none of C has."""
     named = {it.name for it in bound.codes}
     for it in bound.codes:
-        is_start = it.name == "-"
-        name = (START if START not in named else ".start") if is_start else it.name
-        yield name, it.first, it.end - it.first, FUNCTION, GLOBAL
-    firsts = {it.first for it in bound.codes}
+        name = (ENTRY if ENTRY not in named else ".start") if it.name == START else it.name
+        yield Symbol(name, it.first, it.end - it.first, FUNCTION, GLOBAL)
     markers = {name for name, _ in bound.markers}
     for name, places in bound.report.copies:
-        for number, at in enumerate((it for it in places if it not in firsts), 1):
-            is_first = name in markers and number == 1
-            yield name if is_first else f"{name}.{number}", at, 0, NO_TYPE, LOCAL
-    seen = {}
-    for it in sorted(bound.loops, key=lambda it: it.header):
+        for number, at in enumerate((it for it in places if it not in bound.functions.by_first), 1):
+            yield Symbol(name if name in markers and number == 1 else f"{name}.{number}", at)
+    seen: dict[int, int] = {}
+    for it in bound.loops:
         seen[it.number] = seen.get(it.number, 0) + 1
         copy = f".{seen[it.number]}" if seen[it.number] > 1 else ""
         line = f".line{it.part.place.number}" if it.part else ""
-        yield f"loop.{it.number}{copy}{line}", it.header, 0, NO_TYPE, LOCAL
+        yield Symbol(f"loop.{it.number}{copy}{line}", it.header)
 
 
-def mapping_of(bound):
+def mapping_of(bound: Bound) -> Iterator[Symbol]:
     """Where code begins, and where data within it."""
     for segment in (it for it in bound.segments if it.rights & X):
-        words = [(at, int.from_bytes(segment.memory[at - segment.start:at - segment.start + 4], "little"))
-                 for at in range(segment.start, segment.end - 3, 4)]
-        for is_code, run in groupby(words, key=lambda it: it[0] in bound.moves or decode(it[1]) is not None):
-            yield "$x" if is_code else "$d", next(run)[0], 0, NO_TYPE, LOCAL
+        begin = segment.start + -segment.start % 4
+        memory = segment.memory[begin - segment.start:]
+        words = ((at, word) for at, (word,) in zip(range(begin, segment.end - 3, 4), struct.iter_unpack("<I", memory[:len(memory) // 4 * 4])))
+        for is_code, run in groupby(words, key=lambda it: it[0] in bound.counts.at or decode(it[1]) is not None):
+            yield Symbol("$x" if is_code else "$d", next(run)[0])
 
 
-def with_symbols(bound, data):
+def with_symbols(bound: Bound, data: bytes) -> bytes:
     """The bytes of the copy."""
-    sections = [Section("", 0, align=0), *sections_of(data)]
+    table, count = program_table(data)
+    if count and table < HEADER and table + PROGRAM_HEADER * count > 0:
+        raise OddImage("its program headers lie within the header of the file")
+    sections = Sections(data)
+    strings, symbols = Strings(), [*mapping_of(bound), *symbols_of(bound)]
+    packed = [bytes(SYMBOL)]
+    for it in sorted(symbols, key=lambda it: it.binding):
+        packed.append(struct.pack("<3I2BH", strings.put(it.name), it.at, it.size, it.binding << 4 | it.kind, 0, sections.number_at(it.at)))
+    local = 1 + sum(it.binding == LOCAL for it in symbols)
+    number = len(sections.found)
+    made = assembled(data, sections.found + [
+        Section(".riscv.attributes", ATTRIBUTES, data=attributes()),
+        Section(".symtab", SYMBOLS, data=b"".join(packed), link=number + 2, info=local, align=4, each=SYMBOL),
+        Section(".strtab", STRINGS, data=bytes(strings.data)), Section(".shstrtab", STRINGS, data=b"")])
+    if not is_same_image(data, made):
+        raise OddImage("what is loaded of it lies within the header of the file, which changes")
+    return made
 
-    def section_at(at):
-        return next((number for number, it in enumerate(sections) if it.kind and it.start <= at < it.start + it.size), 0xFFF1)
 
-    strings, table, local = Strings(), [bytes(SYMBOL)], 1
-    for name, at, size, kind, binding in sorted([*mapping_of(bound), *symbols_of(bound)], key=lambda it: it[4]):
-        table.append(struct.pack("<3I2BH", strings.put(name), at, size, binding << 4 | kind, 0, section_at(at)))
-        local += binding == LOCAL
-    count = len(sections)
-    sections += [Section(".riscv.attributes", ATTRIBUTES, data=attributes()),
-                 Section(".symtab", SYMBOLS, data=b"".join(table), link=count + 2, info=local, align=4, each=SYMBOL),
-                 Section(".strtab", STRINGS, data=bytes(strings.data)), Section(".shstrtab", STRINGS, data=b"")]
-    return assembled(data, sections)
-
-
-def assembled(data, sections):
+def assembled(data: bytes, sections: list[Section]) -> bytes:
     """The file with these sections behind its bytes, and a header that says where they are."""
     names = Strings()
     places = [names.put(it.name) if it.name else 0 for it in sections]
@@ -142,9 +170,9 @@ def assembled(data, sections):
     return bytes(made)
 
 
-def is_same_image(one, other):
+def is_same_image(one: bytes, other: bytes) -> bool:
     """Whether two files are loaded as the same image."""
-    def parts(data):
+    def parts(data: bytes) -> tuple[int, list[tuple[int, int, int, bytes]]]:
         entry, segments = read_image(data)
         return entry, [(it.start, it.end, it.rights, bytes(it.memory)) for it in segments]
 

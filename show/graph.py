@@ -1,83 +1,138 @@
-"""The graph of calls as a picture: callers above callees, each box with its share of the bound, each arrow with its calls."""
+"""The graph of calls as a picture: callers above callees, each box with its share, each arrow with its calls.
+
+Boxes stand in rows that are no wider than the page. An arrow that passes a row goes through a gap between its boxes, and bends only
+between two rows: so it passes behind none.
+"""
+from collections import defaultdict
+from collections.abc import Iterator
 from dataclasses import dataclass, field
-from html import escape
 
-from text import number, percent
+from bound import Bound
+from functions import Code
+from text import Numbers, percent
+from writing import clean
 
-WIDEST = 1140
-HEIGHT, GAP_X, GAP_Y, MARGIN = 46, 26, 64, 10
+WIDEST = 1120
+MOST = 64  # boxes
+HEIGHT, GAP_X, GAP_Y, MARGIN = 46, 28, 66, 10
 LETTER = 7.6  # the width of one, at most
-BEND = 14  # the width of a place where an arrow passes a row
-WIDEST_STEP = 46  # between the ends of two arrows
-LEAST_STEP, MOST_ENDS = 36, 12
-LABEL, DEEP = 13, 3  # the height of a label, and how many stand above each other
-SWEEPS = 8
+LABEL_LETTER, LABEL, DEEP = 6.6, 13, 3  # of a label the width of a letter and the height, and how many stand above each other
+LEAST_STEP, MOST_ENDS = 38, 12  # between the ends of two arrows, and of how many at one box
+LANE, LANES = 4, 5  # between two arrows that pass a gap
+SWEEPS = 6
 
 
-@dataclass
+@dataclass(eq=False)
 class Box:
-    """A function in the picture, or where an arrow passes a row; `code` is None there."""
-    code: object
-    row: int
+    """A function in the picture."""
+    code: Code
     width: float
-    above: list = field(default_factory=list)
-    below: list = field(default_factory=list)
+    row: int = 0
     x: float = 0  # of its middle
+    callers: list["Arrow"] = field(default_factory=list)
+    callees: list["Arrow"] = field(default_factory=list)
 
-    def y(self):
+    def y(self) -> int:
         return MARGIN + self.row * (HEIGHT + GAP_Y)
 
 
-def rows_of(bound):
-    """The row of each function: below all of its callers, where no function calls itself."""
-    callers = {it.first: [other.first for other in bound.codes if it.first in other.callees] for it in bound.codes}
-    rows = {}
-
-    def row_of(first):
-        if first not in rows:
-            rows[first] = 0
-            rows[first] = max((row_of(it) + 1 for it in callers[first]), default=0)
-        return rows[first]
-
-    return {first: row_of(first) for first in callers}
+@dataclass(eq=False)
+class Arrow:
+    """From a caller to a callee in a row below; `passed` are its places in the rows between."""
+    caller: Box
+    callee: Box
+    calls: int
+    passed: list[float] = field(default_factory=list)
+    end: float = 0
+    depth: int = 0  # how many labels stand left of its own
 
 
-def share_text(bound, code):
-    own = percent(bound.share(code.cycles))
-    return own if not code.callees else f"{own}, with callees {percent(bound.share(code.inclusive))}"
+class Picture:
+    def __init__(self, bound: Bound) -> None:
+        self.bound, self.say = bound, Numbers(bound)
+        by_weight = sorted(bound.codes, key=lambda it: (-it.inclusive, -it.calls, it.first))
+        shown = {it.first for it in [it for it in by_weight if not it.is_other][:MOST]}
+        self.left_out = len(bound.codes) - len(shown)
+        self.levels = self.levelled(shown)
+        self.rows = packed(self.levels)
+        for turn in range(SWEEPS):
+            order(self.rows, turn % 2 == 0)
+        self.route()
+
+    def levelled(self, shown: set[int]) -> list[list[Box]]:
+        """The boxes by levels, each below all of its callers, with arrows between them."""
+        callers_first = [it for it in self.bound.functions.callees_first() if it.first in shown][::-1]
+        boxes: dict[int, Box] = {}
+        level: dict[int, int] = {}
+        for code in callers_first:
+            boxes[code.first] = Box(code, 0)
+            level.setdefault(code.first, 0)
+            for first in code.callees:
+                if first in shown and first not in boxes:
+                    level[first] = max(level.get(first, 0), level[code.first] + 1)
+        for box in boxes.values():
+            for first, calls in box.code.callees.items():
+                if level.get(first, 0) > level[box.code.first]:
+                    arrow = Arrow(box, boxes[first], calls)
+                    box.callees.append(arrow)
+                    boxes[first].callers.append(arrow)
+        for box in boxes.values():
+            box.width = self.width_of(box)
+        levels: list[list[Box]] = [[] for _ in range(max(level.values(), default=0) + 1)]
+        for box in sorted(boxes.values(), key=lambda it: it.code.first):
+            levels[level[box.code.first]].append(box)
+        return levels
+
+    def share_text(self, code: Code) -> str:
+        if not self.bound.counts.is_known():
+            return ""
+        own = percent(self.bound.share(code.cycles))
+        return own if not code.callees else f"{own}, with callees {percent(self.bound.share(code.inclusive))}"
+
+    def label(self, arrow: Arrow) -> str:
+        return f"{self.say.of(arrow.calls)}×" if self.bound.counts.is_known() else ""
+
+    def width_of(self, box: Box) -> float:
+        """Room for its texts, and for the arrows that end at it, up to so many."""
+        letters = max(len(box.code.title()) + 3, len(self.share_text(box.code)) + 1)
+        label = max((len(self.label(it)) for it in box.callers), default=0) * LABEL_LETTER
+        step = max(LEAST_STEP, (label + 8) / DEEP)
+        return max(letters * LETTER, label + 10, min(len(box.callers), MOST_ENDS) * step)
+
+    # Arrows
+
+    def route(self) -> None:
+        """Leads each arrow through the gaps of the rows that it passes, to a place of its own at its box."""
+        taken: dict[tuple[int, float], int] = defaultdict(int)
+        for box in (box for row in self.rows for box in row):
+            for arrow in box.callees:
+                x = arrow.caller.x
+                for row in range(arrow.caller.row + 1, arrow.callee.row):
+                    goal = x + (arrow.callee.x - x) / (arrow.callee.row - row + 1)
+                    gap = min(gaps_of(self.rows[row]), key=lambda it: abs(it - goal))
+                    lane = taken[row, gap] % LANES
+                    taken[row, gap] += 1
+                    x = gap + (lane + 1) // 2 * (LANE if lane % 2 else -LANE)
+                    arrow.passed.append(x)
+        for box in (box for row in self.rows for box in row):
+            coming = sorted(box.callers, key=lambda it: (it.passed or [it.caller.x])[-1])
+            step = (box.width - 8) / max(1, min(len(coming), MOST_ENDS))
+            for index, arrow in enumerate(coming):
+                place = index if len(coming) <= MOST_ENDS else 0.5 * (MOST_ENDS - 1)
+                arrow.end = box.x + (place - (min(len(coming), MOST_ENDS) - 1) / 2) * step
+                arrow.depth = index % DEEP
+
+    def arrows(self) -> Iterator[Arrow]:
+        return (arrow for row in self.rows for box in row for arrow in box.callees)
 
 
-def box_width(bound, code):
-    """Room for its texts, and for the arrows that end at it, up to so many."""
-    callers = sum(code.first in it.callees for it in bound.codes)
-    return max((len(code.title()) + 4) * LETTER, (len(share_text(bound, code)) + 1) * LETTER, min(callers, MOST_ENDS) * LEAST_STEP)
+def width_of(row: list[Box]) -> float:
+    return sum(it.width + GAP_X for it in row)
 
 
-def laid(bound):
-    """The boxes by rows, and the arrows, each a list of boxes from caller to callee, and its calls."""
-    rows = rows_of(bound)
-    boxes = {it.first: Box(it, rows[it.first], box_width(bound, it)) for it in bound.codes}
-    levels = [[] for _ in range(max(rows.values()) + 1)]
-    for it in boxes.values():
-        levels[it.row].append(it)
-    is_narrow = all(width_of(it) <= WIDEST for it in levels)
-    levels = levels if is_narrow else packed(levels)
-    arrows = [(chain_of(boxes[it.first], boxes[first], levels if is_narrow else None), calls)
-              for it in bound.codes for first, calls in it.callees.items()]
-    for chain, _ in arrows:
-        for one, other in zip(chain, chain[1:]):
-            one.below.append(other)
-            other.above.append(one)
-    return ordered(levels), arrows
-
-
-def width_of(level):
-    return sum(it.width + GAP_X for it in level)
-
-
-def packed(levels):
+def packed(levels: list[list[Box]]) -> list[list[Box]]:
     """Rows that are no wider than the page: what has no room in one stands in further ones below."""
-    rows = []
+    rows: list[list[Box]] = []
     for level in levels:
         rows.append([])
         for it in level:
@@ -85,96 +140,86 @@ def packed(levels):
                 rows.append([])
             rows[-1].append(it)
             it.row = len(rows) - 1
+    for row in rows:
+        spread(row)
     return rows
 
 
-def chain_of(caller, callee, levels):
-    """The boxes that an arrow passes: in each row between them it gets a place of its own, where rows are given."""
-    between = [Box(None, row, BEND) for row in range(caller.row + 1, callee.row)] if levels else []
-    for it in between:
-        levels[it.row].append(it)
-    return [caller, *between, callee]
+def order(rows: list[list[Box]], down: bool) -> None:
+    """Puts the boxes of each row beside each other near those to which arrows lead."""
+    for row in rows if down else rows[::-1]:
+        near = {it: [arrow.caller.x for arrow in it.callers] if down else [arrow.callee.x for arrow in it.callees] for it in row}
+        row.sort(key=lambda it: sum(near[it]) / len(near[it]) if near[it] else it.x)
+        spread(row)
 
 
-def ordered(levels):
-    """The rows with their boxes beside each other, and near those above and below to which arrows lead."""
-    for level in levels:
-        spread(level)
-    for turn in range(SWEEPS):
-        down = turn % 2 == 0
-        for level in levels if down else levels[::-1]:
-            near = {id(it): it.above if down else it.below for it in level}
-            level.sort(key=lambda it: sum(other.x for other in near[id(it)]) / len(near[id(it)]) if near[id(it)] else it.x)
-            spread(level)
-    return levels
-
-
-def spread(level):
+def spread(row: list[Box]) -> None:
     """Puts the boxes of a row beside each other, around the middle."""
-    x = -sum(it.width + GAP_X for it in level) / 2
-    for it in level:
+    x = -width_of(row) / 2
+    for it in row:
         it.x = x + (it.width + GAP_X) / 2
         x += it.width + GAP_X
 
 
-def path_of(chain, end):
-    """A curve through the boxes, from the foot of the first to a place at the head of the last."""
-    x, y = chain[0].x, chain[0].y() + HEIGHT
+def gaps_of(row: list[Box]) -> list[float]:
+    """The middles of the gaps beside and between the boxes of a row."""
+    return [row[0].x - row[0].width / 2 - GAP_X / 2] + [it.x + it.width / 2 + GAP_X / 2 for it in row]
+
+
+# Drawing
+
+def path_of(arrow: Arrow) -> str:
+    """A curve from the foot of the caller through its places in the rows to its end at the head of the callee."""
+    x, y = arrow.caller.x, arrow.caller.y() + HEIGHT
     words = [f"M{x:.1f} {y:.1f}"]
-    for it in chain[1:]:
-        to, top = end if it is chain[-1] else it.x, it.y()
+    for number, to in enumerate([*arrow.passed, arrow.end], 1):
+        top = MARGIN + (arrow.caller.row + number) * (HEIGHT + GAP_Y)
         middle = (y + top) / 2
         words.append(f"C{x:.1f} {middle:.1f} {to:.1f} {middle:.1f} {to:.1f} {top:.1f}")
-        x, y = to, top
-        if it.code is None:
-            y += HEIGHT
+        x, y = to, top + HEIGHT
+        if number <= len(arrow.passed):
             words.append(f"L{x:.1f} {y:.1f}")
     return " ".join(words)
 
 
-def ends_of(arrows):
-    """Where each arrow ends at its box, and how many stand left of it there: beside each other, as they come."""
-    found = {}
-    for box in {id(chain[-1]): chain[-1] for chain, _ in arrows}.values():
-        coming = sorted((chain for chain, _ in arrows if chain[-1] is box), key=lambda it: it[-2].x)
-        step = min(WIDEST_STEP, (box.width - 16) / len(coming))
-        for number_of, chain in enumerate(coming):
-            found[id(chain)] = box.x + (number_of - (len(coming) - 1) / 2) * step, number_of
-    return found
+def arrow_of(picture: Picture, arrow: Arrow) -> Iterator[str]:
+    is_taken = arrow.calls or not picture.bound.counts.is_known()
+    yield f'<path class="{"arrow" if is_taken else "arrow never"}" d="{path_of(arrow)}" marker-end="url(#tip)"/>'
+    callers = len(arrow.callee.callers)
+    if callers <= MOST_ENDS:
+        yield label_at(arrow.end, arrow.callee.y() - 13 - LABEL * arrow.depth, picture.label(arrow))
+    elif arrow.depth == 0 and arrow is arrow.callee.callers[0] and picture.bound.counts.is_known():
+        yield label_at(arrow.end, arrow.callee.y() - 13, f"{picture.say.of(arrow.callee.code.calls)}× by {callers} callers")
 
 
-def arrow_of(chain, calls, end, number_of):
-    kind = "arrow" if calls else "arrow never"
-    yield f'<path class="{kind}" d="{path_of(chain, end)}" marker-end="url(#tip)"/>'
-    yield f'<text class="calls" x="{end:.1f}" y="{chain[-1].y() - 13 - LABEL * (number_of % DEEP)}">{number(calls)}×</text>'
+def label_at(x: float, y: float, text: str) -> str:
+    return f'<text class="calls" x="{x:.1f}" y="{y}">{text}</text>' if text else ""
 
 
-def box_of(bound, box):
-    share = float(bound.share(box.code.cycles))
-    left, top = box.x - box.width / 2, box.y()
-    kind = "box" if box.code.calls else "box never"
-    yield f'<g><title>{escape(box.code.title())}: {number(box.code.cycles)} cycles, called {number(box.code.calls)} times</title>'
+def box_of(picture: Picture, box: Box) -> Iterator[str]:
+    bound, code = picture.bound, box.code
+    left, top, title = box.x - box.width / 2, box.y(), clean(code.title())
+    kind = "box" if code.calls or not bound.counts.is_known() else "box never"
+    yield f'<a href="#f-{code.first:08x}"><title>{title}: {picture.say.of(code.cycles)} cycles, called {picture.say.of(code.calls)} times</title>'
     yield f'<rect class="{kind}" x="{left:.1f}" y="{top}" width="{box.width:.1f}" height="{HEIGHT}" rx="6"/>'
-    yield f'<rect class="part" x="{left + 1:.1f}" y="{top + HEIGHT - 6}" width="{(box.width - 2) * share:.1f}" height="5"/>'
-    yield f'<text class="name" x="{box.x:.1f}" y="{top + 18}">{escape(box.code.title())}</text>'
-    yield f'<text class="share" x="{box.x:.1f}" y="{top + 34}">{share_text(bound, box.code)}</text></g>'
+    yield f'<rect class="part" x="{left + 1:.1f}" y="{top + HEIGHT - 6}" width="{(box.width - 2) * bound.share(code.cycles):.1f}" height="5"/>'
+    share = picture.share_text(code)
+    yield f'<text class="name" x="{box.x:.1f}" y="{top + (18 if share else 28)}">{title}</text>'
+    yield (f'<text class="share" x="{box.x:.1f}" y="{top + 34}">{share}</text>' if share else "") + "</a>"
 
 
-def drawn(bound):
+def drawn(picture: Picture) -> Iterator[str]:
     """The picture, in lines."""
-    levels, arrows = laid(bound)
-    boxes = [it for level in levels for it in level]
-    left = min(it.x - it.width / 2 for it in boxes) - MARGIN
-    right = max(it.x + it.width / 2 for it in boxes) + MARGIN
+    boxes = [it for row in picture.rows for it in row]
+    left = min(it.x - it.width / 2 for it in boxes) - GAP_X - MARGIN
+    right = max(it.x + it.width / 2 for it in boxes) + GAP_X + MARGIN
     width, height = right - left, max(it.y() for it in boxes) + HEIGHT + MARGIN
-    yield (f'<svg xmlns="http://www.w3.org/2000/svg" viewBox="{left:.1f} 0 {width:.1f} {height}" width="{min(width, WIDEST):.0f}" '
-           'role="img" aria-label="the graph of calls">')
+    yield (f'<div class="scroll"><svg xmlns="http://www.w3.org/2000/svg" viewBox="{left:.1f} 0 {width:.1f} {height}" width="{width:.0f}" '
+           f'height="{height}" role="img" aria-label="the graph of calls">')
     yield ('<defs><marker id="tip" viewBox="0 0 8 8" refX="8" refY="4" markerWidth="7" markerHeight="7" orient="auto">'
            '<path d="M0 0L8 4L0 8z"/></marker></defs>')
-    ends = ends_of(arrows)
-    for chain, calls in arrows:
-        yield from arrow_of(chain, calls, *ends[id(chain)])
+    for arrow in picture.arrows():
+        yield from arrow_of(picture, arrow)
     for it in boxes:
-        if it.code is not None:
-            yield from box_of(bound, it)
-    yield "</svg>"
+        yield from box_of(picture, it)
+    yield "</svg></div>"

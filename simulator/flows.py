@@ -1,4 +1,5 @@
 """The flow system of an image and claims, written from docs/CHECKING.md and docs/MACHINE.md alone."""
+from bisect import bisect_right
 from collections import defaultdict, namedtuple
 
 from .costs import DEFAULT
@@ -108,7 +109,8 @@ class System:
 
     def __init__(self, entry, segments, report, costs=DEFAULT):
         self.entry, self.code, self.costs = entry, Code(segments), costs
-        self.regions = report.regions
+        self.regions = [it for it in report.regions if it[0] < it[1]]
+        self.region_firsts = [it[0] for it in self.regions]
         exits = set(report.exits)
         reached = walk(self.code, exits, entry)
         bad = [number for number, it in enumerate(bad_by_itself(report)) if it]
@@ -122,7 +124,8 @@ class System:
 
     def access(self, at):
         """The greatest cost of an access over the regions that its line names, over all where it has none."""
-        letters = next((it for first, end, it in self.regions if first <= at < end), "fsr")
+        index = bisect_right(self.region_firsts, at) - 1
+        letters = self.regions[index][2] if index >= 0 and at < self.regions[index][1] else "fsr"
         return max(cost for name, cost in self.costs.access.items() if LETTERS[name] in letters)
 
     def cost(self, move):

@@ -1,9 +1,16 @@
 """The images of docs/FORMATS.md: the segments of an ELF file, in the regions of docs/MACHINE.md."""
 import struct
+from collections import namedtuple
 
 SEGMENTS_MOST = 16
 X, W, R = 1, 2, 4  # the rights of a segment
 REGIONS = {"flash": (0x0000_0000, 8 << 20), "spm": (0x1000_0000, 64 << 10), "ram": (0x2000_0000, 2 << 20)}
+
+
+HEADER, PROGRAM_HEADER = 52, 32  # bytes
+LOADED = 1  # the type of a program header
+
+Program = namedtuple("Program", "kind offset start physical file_size size rights alignment")
 
 
 class BadImage(Exception):
@@ -39,23 +46,35 @@ def is_bad(start, file_size, size, rights, ends, length):
             or rights & W and rights & X or rights & X and region == "ram" or rights & W and region == "flash")
 
 
+def program_table(data):
+    """Where the program headers of an ELF file begin, and how many there are."""
+    table, = struct.unpack_from("<I", data, 28)
+    each, count = struct.unpack_from("<2H", data, 42)
+    if count and (each != PROGRAM_HEADER or table + PROGRAM_HEADER * count > len(data)):
+        raise BadImage(1)
+    return table, count
+
+
+def programs(data):
+    """The program headers of an ELF file."""
+    table, count = program_table(data)
+    return [Program(*struct.unpack_from("<8I", data, table + PROGRAM_HEADER * index)) for index in range(count)]
+
+
 def read_image(data):
     """The entry and the segments of an ELF image."""
-    if len(data) < 52 or data[:7] != b"\x7fELF\x01\x01\x01":
+    if len(data) < HEADER or data[:7] != b"\x7fELF\x01\x01\x01":
         raise BadImage(1)
-    kind, machine, _, entry, table = struct.unpack_from("<2H3I", data, 16)
-    entry_size, count = struct.unpack_from("<2H", data, 42)
-    if count and (entry_size != 32 or table + 32 * count > len(data)):
-        raise BadImage(1)
+    headers = programs(data)
+    kind, machine, _, entry = struct.unpack_from("<2H2I", data, 16)
     if kind != 2 or machine != 243:
         raise BadImage(2)
     segments = []
-    for index in range(count):
-        kind, offset, start, _, file_size, size, flags, _ = struct.unpack_from("<8I", data, table + 32 * index)
-        if kind != 1:
+    for index, it in enumerate(headers):
+        if it.kind != LOADED:
             continue
-        bad = is_bad(start, file_size, size, flags, offset + file_size, len(data)) or len(segments) == SEGMENTS_MOST
-        one = None if bad else Segment(start, size, flags, data[offset:offset + file_size])
+        bad = is_bad(it.start, it.file_size, it.size, it.rights, it.offset + it.file_size, len(data)) or len(segments) == SEGMENTS_MOST
+        one = None if bad else Segment(it.start, it.size, it.rights, data[it.offset:it.offset + it.file_size])
         if bad or any(one.overlaps(it) for it in segments):
             raise BadImage(3, index)
         segments.append(one)
