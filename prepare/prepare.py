@@ -1,24 +1,32 @@
-"""Makes a source of a C file: `./wcc prepare FILE [-I DIR] [-D NAME[=VALUE]] -o SOURCE`.
+"""Makes a source of a C file: `./wcc prepare FILE [-I DIR] [-D NAME[=VALUE]] [--every] -o SOURCE`.
 
 It runs the preprocessor at hand with the headers of include/ and none of the system's. Line markers stay. In the annotations
-constant expressions become numbers, by the same preprocessor. The source is written whole or not at all.
+constant expressions become numbers, by the same preprocessor. What is written doesn't depend on where include/ lies. The source
+is written whole or not at all; beside it stands a list of the files that were read for it, by which explain/ may show their lines.
 """
-import argparse
 import os
-import re
-import shutil
-import stat
-import subprocess
 import sys
-import tempfile
-from pathlib import Path
-from subprocess import DEVNULL, PIPE
 
-INCLUDE = Path(__file__).resolve().parent.parent / "include"
-PREPROCESSORS = (("gcc", "-E"), ("clang", "-E"), ("cpp",))
-# C11 as the standard says it, on a machine of which nothing is known but that char has no sign.
-FLAGS = ("-x", "c", "-std=c11", "-ffreestanding", "-nostdinc", "-undef", "-funsigned-char", "-D__WCC__=1")
-REFUSED, WRONG_WORDS, READ_FAULT, WRITE_FAULT, NOTHING_AT_HAND = 1, 2, 4, 5, 70
+HERE = os.path.dirname(os.path.realpath(__file__))
+sys.path[:0] = [HERE, os.path.join(os.path.dirname(HERE), "explain")]
+import guard  # noqa: E402
+import argparse  # noqa: E402
+import re  # noqa: E402
+import stat  # noqa: E402
+import tempfile  # noqa: E402
+from pathlib import Path  # noqa: E402
+
+from failing import LIMIT, READ_FAULT, REFUSED, WRITE_FAULT, WRONG_WORDS, Failed, printable, why  # noqa: E402
+from places import digest_of, list_beside, may_be_list, plain  # noqa: E402
+from preprocessing import MOST, Preprocessor, given_of, named  # noqa: E402
+
+TOP = Path(__file__).resolve().parent.parent
+sys.path[:0] = [str(TOP / "explain")]
+from names import LIBRARY  # noqa: E402
+
+INCLUDE = TOP / "include"
+# How line markers of a source name the folder include/, wherever it lies; explain/places.py reads it so.
+OWN_HEADERS = b"<wcc>/"
 DESCRIPTION = "Makes a source for compile and eval of a C file, by the preprocessor at hand and the headers of include/."
 ABOUT = "docs/PORTING.md says what the language leaves out and what to write instead, and what the headers have."
 
@@ -26,19 +34,15 @@ LINE_MARKER = re.compile(rb'# (\d+) "((?:[^"\\]|\\.)*)"')
 ESCAPE = re.compile(rb"\\([0-7]{1,3}|.)")
 ANNOTATION = re.compile(rb"[ \t]*#[ \t]*pragma[ \t]+(loopbound|flowrestriction)\b(.*)")
 BOUND = re.compile(rb"\s*min\s+(\S.*?)\s+max\s+(\S.*?)\s*")
-# A number and what it counts, and what stands behind: names stand there alone.
-TERM = re.compile(rb"\s*((?:(?<!\w)\d\w*(?!\w)|[^\w])+?)\s*\*\s*([A-Za-z_]\w*)\s*(<=|>=|=|\+|$)")
+# The parts of a restriction: a name that is counted, with its `*` before and what stands behind; words and other bytes are of the number.
+PART = re.compile(rb"\*\s*([A-Za-z_]\w*)\s*(<=|>=|=|\+|$)|\w+|\W")
+LONGEST_NUMBER = 4096
 PLAIN = re.compile(rb"0|[1-9][0-9]*")
 NAME = re.compile(rb"(?<![\w.])[A-Za-z_]\w*")
-# What a preprocessor says of a header that isn't there: the place, and the header.
-MISSING = re.compile(rb"^(\S.*?): fatal error: '?([^':\n]+)'?(?:: No such file or directory| file not found)$", re.M)
 CHARACTER = re.compile(rb"'(?:[^'\\]|\\.)*'")
 TYPES = frozenset(b"void char short int long signed unsigned float double const struct union enum _Bool".split())
 # A declaration of a name, on its line.
 DECLARED = rb"\b(?:char|short|int|long|signed|unsigned|const)\s+(?:\w+\s*(?:=[^,;]*)?,\s*)*%s\s*[=;,)[]"
-BITS = 31
-RANGE = b"an annotation takes numbers from 0 to 2147483647"
-
 # What stands in many programs and isn't in the language, by the part of docs/PORTING.md that says what to write instead.
 OUTSIDE = {
     "Names of types": ("typedef",), "enum": ("enum",), "struct": ("struct",), "union and bit-fields": ("union",),
@@ -67,93 +71,6 @@ PIECE = re.compile(rb"""
     | (?P<static>\bstatic\b) | (?P<called>\b[A-Za-z_]\w*(?=\s*\()) | [A-Za-z_]\w* | [{}]""", re.X)
 # The macros of <wcc.h>, of which none is left where it is included.
 ANNOTATED = (b"LOOPBOUND", b"MARKER", b"RESTRICTION")
-# The functions of C's library that programs call, but for those of the headers of include/.
-LIBRARY = frozenset(b"""memset memcpy memmove memcmp memchr strlen strcpy strncpy strcat strncat strcmp strncmp strchr strrchr strstr
-    strtok malloc calloc realloc free exit abort atoi atol strtol strtoul rand srand qsort bsearch abs labs isalnum isalpha isdigit
-    islower isprint ispunct isspace isupper isxdigit tolower toupper sin cos tan asin acos atan atan2 exp log log10 pow sqrt fabs
-    floor ceil fmod round time clock""".split())
-
-
-class Failed(Exception):
-    """Why no source is written, and the status."""
-
-    def __init__(self, status, text):
-        super().__init__(text)
-        self.status = status
-
-
-def why(error):
-    return error.strerror or str(error)
-
-
-class Preprocessor:
-    """The first that is at hand, and what it's told beside its input."""
-
-    def __init__(self, folders, macros):
-        at_hand = [words for words in PREPROCESSORS if shutil.which(words[0])]
-        if not at_hand:
-            raise Failed(NOTHING_AT_HAND, "no preprocessor is on PATH. Install gcc, clang or cpp, as by `apt install gcc`")
-        self.words = [*at_hand[0], *FLAGS]
-        # As the system's own the headers would cut each line with a macro of theirs into pieces.
-        self.asked = [*(f"-I{it}" for it in (*folders, INCLUDE)), *(f"-D{it}" for it in macros)]
-
-    def run(self, path):
-        """What it makes of a file, as far as it comes, and whether it says that this is all."""
-        # A name that begins so would be an option.
-        named = f"./{path}" if path.startswith("-") else path
-        ran = self.preprocessed(named)
-        is_whole = ran.returncode == 0
-        if MISSING.search(ran.stderr):
-            ran = self.without_headers(named, ran)
-        sys.stderr.buffer.write(ran.stderr)
-        sys.stderr.flush()
-        return ran.stdout, is_whole
-
-    def preprocessed(self, *words):
-        return subprocess.run([*self.words, *self.asked, *words], stdin=DEVNULL, stdout=PIPE, stderr=PIPE, env={**os.environ, "LC_ALL": "C"})
-
-    def without_headers(self, named, ran):
-        """Tells each header that isn't there, and goes on as if it were empty, so that all else is told too."""
-        with tempfile.TemporaryDirectory() as absent:
-            while (missing := MISSING.search(ran.stderr)) and made_empty(absent, os.fsdecode(missing[2])):
-                print(f"{os.fsdecode(missing[1])}: error: no header {os.fsdecode(missing[2])} is there: see \"The C library\" in "
-                      "docs/PORTING.md, or give its folder by -I", file=sys.stderr, flush=True)
-                ran = self.preprocessed("-idirafter", absent, named)
-        return ran
-
-    def values(self, asked):
-        """The values of constant expressions, each given with its file and line: the bits that #if sees."""
-        tests, bits = [], []
-        for text, (file, number) in asked:
-            at = b'# %d "%s"' % (number, file)
-            # What is negative keeps its sign.
-            tests += [at, b"#if (%s) >> %d" % (text, BITS), at, b"#error " + RANGE, b"#endif"]
-            bits += [b"value"]
-            for bit in reversed(range(BITS)):
-                bits += [b"#if (%s) >> %d & 1" % (text, bit), b"1", b"#else", b"0", b"#endif"]
-        # What is wrong with one is told once, before its bits are asked for.
-        self.evaluated(tests)
-        return [b"%d" % int(it, 2) for it in b"".join(self.evaluated(bits).split()).split(b"value")[1:]]
-
-    def evaluated(self, lines):
-        """What it makes of lines of its own."""
-        ran = subprocess.run([*self.words, "-P", "-"], input=b"\n".join(lines) + b"\n", stdout=PIPE)
-        if ran.returncode:
-            raise Failed(REFUSED, "an annotation isn't one of constants, as said above")
-        return ran.stdout
-
-
-def made_empty(folder, header):
-    """Makes an empty header within a folder, and answers whether it wasn't there and is now."""
-    path = Path(folder, header)
-    if ".." in path.parts or not path.is_relative_to(folder):
-        return False
-    try:
-        path.parent.mkdir(parents=True, exist_ok=True)
-        path.touch(exist_ok=False)
-    except OSError:
-        return False
-    return True
 
 
 def headers():
@@ -167,16 +84,14 @@ def name_in_marker(quoted):
 
 
 def shown(file, number):
-    return f"{os.fsdecode(name_in_marker(file))}:{number}"
+    return f"{printable(os.fsdecode(name_in_marker(file)))}:{number}"
 
 
-def is_pragma_at(file, number):
-    """Whether an annotation stands in #pragma in a file, as far as that can be read."""
-    try:
-        line = Path(os.fsdecode(name_in_marker(file))).read_bytes().split(b"\n")[number - 1]
-    except (OSError, IndexError):
-        return False
-    return re.match(rb"\s*#\s*pragma\b", line) is not None
+def is_pragma_at(file, number, read):
+    """Whether an annotation stands in #pragma in a file that was read, as far as that can be told."""
+    name = name_in_marker(file)
+    lines = plain(os.fsdecode(name), MOST).split(b"\n") if name in read else []
+    return number <= len(lines) and re.match(rb"\s*#\s*pragma\b", lines[number - 1]) is not None
 
 
 def placed(lines):
@@ -190,20 +105,33 @@ def placed(lines):
             yield index, line, (file, number)
 
 
+def terms_of(text):
+    """The terms of a restriction, each a number, a name and the sign behind it; or nothing where it's of another form."""
+    terms, start, at = [], 0, 0
+    while at < len(text):
+        part = PART.match(text, at)
+        at = part.end()
+        if part[1] is not None:
+            number = text[start:part.start()].strip()
+            if not number:
+                return None
+            terms.append((number, part[1], part[2]))
+            start = at
+        elif part[0][:1].isalpha() or part[0][:1] == b"_":
+            return None
+    return None if text[start:].strip() or not terms else terms
+
+
 class Annotations:
     """The lines of a preprocessed text, in whose annotations numbers may be expressions."""
 
-    def __init__(self, text):
-        self.lines, self.asked = text.split(b"\n"), []
+    def __init__(self, text, read):
+        self.lines, self.asked, self.read = text.split(b"\n"), [], read
         # The parts of each line that has an expression, which are texts and numbers of what is asked.
         self.parts = {}
         for index, line, place in placed(self.lines):
             if annotation := ANNOTATION.fullmatch(line.rstrip(b"\r")):
                 self.note(index, annotation[1], annotation[2], place)
-
-    def files(self):
-        """The names of all files that were read."""
-        return sorted({name_in_marker(it[2]) for it in map(LINE_MARKER.match, self.lines) if it})
 
     def note(self, index, kind, text, place):
         """Keeps what is an expression in an annotation. One of another form is left to the compiler to refuse."""
@@ -211,13 +139,11 @@ class Annotations:
             bound = BOUND.fullmatch(text)
             parts = bound and [b"#pragma loopbound min ", bound[1], b" max ", bound[2]]
         else:
-            terms = list(TERM.finditer(text))
-            parts = [b"#pragma flowrestriction"]
-            for it in terms:
+            terms = terms_of(text)
+            parts = terms and [b"#pragma flowrestriction"]
+            for number, name, sign in terms or ():
                 parts[-1] += b" "
-                parts += [it[1], b"*%s %s" % (it[2], it[3])]
-            if not terms or "".join(it[0].decode("latin-1") for it in terms) != text.decode("latin-1"):
-                parts = None
+                parts += [number, b"*%s %s" % (name, sign)]
         if not parts or all(PLAIN.fullmatch(it) for it in parts[1::2]):
             return
         self.parts[index] = [self.ask(it, place) if odd % 2 else it for odd, it in enumerate(parts)]
@@ -226,6 +152,8 @@ class Annotations:
         """The text where it is a number, and else its place among what is asked."""
         if PLAIN.fullmatch(text):
             return text
+        if len(text) > LONGEST_NUMBER:
+            raise Failed(REFUSED, f"{shown(*place)}: a number in an annotation has more than {LONGEST_NUMBER} bytes")
         if name := NAME.search(CHARACTER.sub(b"0", text)):
             raise Failed(REFUSED, f"{shown(*place)}: `{name[0].decode(errors='replace')}` is no number. {self.why_none(name[0], place)}")
         self.asked.append((text, place))
@@ -237,7 +165,7 @@ class Annotations:
             return "Nothing is cast in an annotation: leave the cast out, or write the number"
         if name == b"sizeof":
             return "Nothing knows sizes where an annotation is computed: write the macro that sizes the array"
-        if is_pragma_at(*place):
+        if is_pragma_at(*place, self.read):
             return "In #pragma no macro is replaced: write LOOPBOUND or RESTRICTION of <wcc.h>, which docs/PORTING.md explains"
         if any(re.search(DECLARED % re.escape(name), it) for it in self.lines):
             return "It is an object, of which no preprocessor knows the value, const or not: make it a macro by #define"
@@ -248,6 +176,16 @@ class Annotations:
         for index, parts in self.parts.items():
             self.lines[index] = b"".join(it if isinstance(it, bytes) else values[it] for it in parts).rstrip()
         return b"\n".join(self.lines)
+
+
+def with_own_headers(text):
+    """The text, with the headers of include/ named in its line markers as they are in every checkout."""
+    folder, lines = os.fsencode(INCLUDE) + b"/", text.split(b"\n")
+    for index, line in enumerate(lines):
+        if (marker := LINE_MARKER.match(line)) and name_in_marker(marker[2]).startswith(folder):
+            name = OWN_HEADERS + name_in_marker(marker[2]).removeprefix(folder)
+            lines[index] = b'# %s "%s"%s' % (marker[1], name, line[marker.end():])
+    return b"\n".join(lines)
 
 
 def is_one_file(path, other):
@@ -263,7 +201,7 @@ def refuse_aliases(source, files):
         return
     for it in files:
         if is_one_file(source, it):
-            raise Failed(WRONG_WORDS, f"{os.fsdecode(it)} and {source} are one file, which would be lost. Nothing is changed")
+            raise Failed(WRONG_WORDS, f"{printable(os.fsdecode(it))} and {printable(source)} are one file, which would be lost. Nothing is changed")
 
 
 def write(path, data):
@@ -273,17 +211,33 @@ def write(path, data):
             device.write(data)
         return
     path = os.path.realpath(path)
-    apart = f"{path}.{os.getpid()}"
+    apart = os.path.join(os.path.dirname(path), f".wcc-{os.getpid()}-{os.urandom(4).hex()}")
     file = open(apart, "xb")
     try:
         with file:
             file.write(data)
+            file.flush()
+            os.fsync(file.fileno())
         if os.path.exists(path):
             os.chmod(apart, stat.S_IMODE(os.stat(path).st_mode))
         os.replace(apart, path)
     except BaseException:
         os.unlink(apart)
         raise
+
+
+def write_list(source, read):
+    """Writes beside a source which files were read for it, each with its digest, but for the headers of include/, unless something
+    else has that name. Where that can't be, lines of these files aren't shown, and all else is as it is."""
+    path = list_beside(source)
+    try:
+        if not may_be_list(path):
+            return
+        lines = [f"{digest_of(plain(it, MOST))}  ".encode() + it for it in sorted(read)
+                 if b"\n" not in it and b"\\" not in it and os.path.dirname(it) != os.fsencode(INCLUDE)]
+        write(path, b"".join(it + b"\n" for it in lines))
+    except OSError:
+        pass
 
 
 def outside(text):
@@ -297,7 +251,7 @@ def outside(text):
                 yield place, *FORMS[kind]
             elif kind == "static" and depth:
                 yield place, "Objects that stay", "a `static` object in a function"
-            elif kind == "called" and it[0] in LIBRARY:
+            elif kind == "called" and word in LIBRARY:
                 # At file level it is declared, and so one's own.
                 own |= set() if depth else {word}
                 if word not in own:
@@ -309,54 +263,73 @@ def outside(text):
             depth += word.startswith("{") and len(word) > 1
 
 
-def tell_outside(text):
-    """Says on standard error what isn't in the language, by the part of the page that is about it, and where it stands first."""
+def tell_outside(text, is_each_told):
+    """Says on standard error what isn't in the language, by the part of the page that is about it: where it stands first and how
+    often, or each place."""
     found = {}
     for place, part, what in outside(text):
-        found.setdefault(part, []).append((place, what))
-    for part, stands in found.items():
-        (place, what), places = stands[0], f" ({len(stands)} places)" if len(stands) > 1 else ""
-        print(f"{shown(*place)}: {what} is outside the language{places}: see \"{part}\" in docs/PORTING.md", file=sys.stderr)
+        found.setdefault((part, what) if not is_each_told else (part, what, place), []).append(place)
+    for (part, what, *_), stands in found.items():
+        places = f" ({len(stands)} places)" if len(stands) > 1 else ""
+        guard.note(f"{shown(*stands[0])}: {what} is outside the language{places}: see \"{part}\" in docs/PORTING.md")
 
 
 def prepare(asked):
-    preprocessor = Preprocessor(asked.folders, asked.macros)
-    try:
-        with open(asked.file, "rb"):
-            pass
-    except OSError as error:
-        raise Failed(READ_FAULT, f"{asked.file} can't be read: {why(error)}") from error
+    given = given_of(asked.file)
     refuse_aliases(asked.source, [asked.file])
-    made, is_whole = preprocessor.run(asked.file)
-    tell_outside(made)
-    if not is_whole:
-        raise Failed(REFUSED, f"{asked.file} isn't prepared, for what {preprocessor.words[0]} says above. The headers are "
-                              f"{headers()}; docs/PORTING.md says what to write in place of others")
-    text = Annotations(made)
-    refuse_aliases(asked.source, text.files())
-    data = text.filled(preprocessor.values(text.asked) if text.asked else [])
+    with tempfile.TemporaryDirectory(prefix="wcc-prepare-") as room:
+        preprocessor = Preprocessor(INCLUDE, asked.folders, asked.macros, room)
+        preprocessor.is_each_told = asked.every
+        made, is_whole = preprocessor.run(asked.file, given)
+        read = preprocessor.files()
+        tell_outside(made, asked.every)
+        if not is_whole:
+            raise Failed(REFUSED, f"{printable(asked.file)} isn't prepared, for what {preprocessor.words[0]} says above. The headers are "
+                                  f"{headers()}; docs/PORTING.md says what to write in place of others")
+        text = Annotations(made, read)
+        refuse_aliases(asked.source, read)
+        data = with_own_headers(text.filled(preprocessor.values(text.asked) if text.asked else []))
     try:
+        if not os.path.exists(asked.source) or os.path.isfile(asked.source):
+            write_list(asked.source, read)
         write(asked.source, data)
     except OSError as error:
-        raise Failed(WRITE_FAULT, f"{asked.source} can't be written: {why(error)}") from error
+        raise Failed(WRITE_FAULT, f"{printable(asked.source)} can't be written: {why(error)}") from error
+
+
+def folder_of(text):
+    if not text:
+        raise argparse.ArgumentTypeError("the name of a folder is empty")
+    return named(text)
+
+
+def macro_of(text):
+    if not re.fullmatch(r"[A-Za-z_]\w*(\([^()\n]*\))?(=[^\n]*)?", text):
+        raise argparse.ArgumentTypeError("a macro is NAME or NAME=VALUE, on one line")
+    return text
+
+
+class Words(argparse.ArgumentParser):
+    """What it says of words goes where nothing of a terminal can be hidden in it."""
+
+    def error(self, message):
+        super().error(printable(message))
 
 
 def main(words):
-    known = argparse.ArgumentParser("wcc prepare", description=DESCRIPTION, epilog=ABOUT, allow_abbrev=False)
+    known = Words("wcc prepare", description=DESCRIPTION, epilog=ABOUT, allow_abbrev=False)
     known.add_argument("file", metavar="FILE", help="a C file")
     known.add_argument("-o", dest="source", metavar="SOURCE", required=True, help="the source that is written")
-    known.add_argument("-I", dest="folders", metavar="DIR", action="append", default=[], help="a folder of headers")
-    known.add_argument("-D", dest="macros", metavar="NAME[=VALUE]", action="append", default=[], help="a macro, as 1 without a value")
+    known.add_argument("-I", dest="folders", metavar="DIR", type=folder_of, action="append", default=[], help="a folder of headers")
+    known.add_argument("-D", dest="macros", metavar="NAME[=VALUE]", type=macro_of, action="append", default=[], help="a macro, as 1 without a value")
+    known.add_argument("--every", action="store_true", help="tell each place of what is outside the language, and each fault of the preprocessor")
     try:
         prepare(known.parse_args(words))
     except Failed as failed:
-        print(f"wcc: {failed}.", file=sys.stderr)
+        guard.note(f"wcc: {failed}.")
         return failed.status
     return 0
 
 
 if __name__ == "__main__":
-    try:
-        sys.exit(main(sys.argv[1:]))
-    except KeyboardInterrupt:
-        sys.exit(130)
+    guard.run(main)

@@ -1,0 +1,19 @@
+"""Why no source is written, and the status."""
+REFUSED, WRONG_WORDS, LIMIT, READ_FAULT, WRITE_FAULT, NOTHING_AT_HAND = 1, 2, 3, 4, 5, 70
+
+
+class Failed(Exception):
+    """Why no source is written, and the status."""
+
+    def __init__(self, status, text):
+        super().__init__(text)
+        self.status = status
+
+
+def why(error):
+    return error.strerror or str(error)
+
+
+def printable(text):
+    """What of a text can be shown without a terminal taking it for a command."""
+    return "".join(it if it.isprintable() else "?" for it in text)
