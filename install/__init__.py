@@ -1,0 +1,1 @@
+"""Installs wcc below a prefix, and takes it away again."""
