@@ -5,17 +5,18 @@ preprocessed source say, and the source line with a caret; and what findings.py 
 can't be found out is left out, and nothing here fails the call.
 """
 import os
-import re
-import stat
 import sys
-from itertools import takewhile
-from pathlib import Path
 
-HERE = Path(__file__).resolve().parent
-sys.path[:0] = [str(HERE), str(HERE.parent)]
+HERE = os.path.dirname(os.path.realpath(__file__))
+sys.path[:0] = [HERE, os.path.dirname(HERE)]
+import guard  # noqa: E402
+import re  # noqa: E402
+import stat  # noqa: E402
+from itertools import takewhile  # noqa: E402
+
 from places import Lines, printable  # noqa: E402
 
-TEXTS = HERE / "texts.txt"
+TEXTS = os.path.join(HERE, "texts.txt")
 COMMANDS = ("compile", "run", "eval", "check", "report", "make", "respond")
 # Lines of these kinds end with a byte place in the source, unless they speak of another file.
 PLACED = ("refused", "undefined", "broken")
@@ -36,10 +37,15 @@ MOST_SOURCE = 1048576
 MOST_LINKS = 6
 
 
+def read_texts():
+    with open(TEXTS, encoding="utf-8") as file:
+        return file.read()
+
+
 def entries():
     """The table: the words of each entry, and the lines below it."""
     table, name = {}, None
-    for line in TEXTS.read_text(encoding="utf-8").split("\n"):
+    for line in read_texts().split("\n"):
         if line.startswith("    "):
             table[name].append(line[4:])
         elif line and not line.startswith("#"):
@@ -110,7 +116,7 @@ class Call:
 
         def both():
             construct = quietly(lambda: self.at is not None and findings.construct(self.line, files, self.at))
-            return construct or None, quietly(lambda: findings.facts(self.line, files, self.at)) or []
+            return construct or None, quietly(lambda: findings.facts(self.asked(), files, self.at)) or []
         return with_deep_stack(both)
 
 
@@ -156,6 +162,8 @@ def included(table, place):
 def explained(table, line, words):
     """What there is to say of a line, but for `usage`."""
     call = Call(line, words)
+    if call.line[0] == "response":
+        return empties_of(table, words) + overlaps_of(table, words)
     if call.line[0] == "late" and (said := late_of(table, int(call.line[1]), words)):
         return said
     texts, rest = entry_of(table, call.asked())
@@ -189,11 +197,40 @@ def taken(tasks, number):
     return f"{', '.join(parts)}: {own + sum(count * it for count, it in zip(jobs, cycles))} cycles"
 
 
+def list_of(words):
+    """The name of the list of tasks, and its lines; an error where it can't be read again."""
+    path = parted(OPTIONS["respond"], words[1:])[0][0]
+    return path, [printable(it) for it in source_of(path).decode(errors="replace").split("\n")]
+
+
+def joined(names):
+    """A list of names as people say it, its middle left out where it is long."""
+    names = list(names) if len(names) <= 2 * MOST_LINKS else [*names[:MOST_LINKS], "..", *names[-MOST_LINKS:]]
+    return names[0] if len(names) == 1 else f"{', '.join(names[:-1])} and {names[-1]}"
+
+
+def empties_of(table, words):
+    """What there is to say of tasks whose reports are empty."""
+    from contradictions import is_empty
+    tasks = [it.split(" ") for it in list_of(words)[1] if it]
+    names = [name for _, name, _, _, report in tasks if quietly(lambda path=report: is_empty(path))]
+    return [f"wcc: {filled(table['found empty report'][0], [joined(names)])}"] if names else []
+
+
+def overlaps_of(table, words):
+    """What there is to say of responses: in which regions images lie at the same addresses, and what that means."""
+    from overlaps import overlapping, spans_of
+    tasks = [it.split(" ") for it in list_of(words)[1] if it]
+    images = [quietly(lambda path=path: spans_of(path)) or [] for _, _, _, path, _ in tasks]
+    said = [filled(table["found overlap"][0], [joined(regions), joined([tasks[it][1] for it in numbers])])
+            for regions, numbers in overlapping(images)]
+    return [f"wcc: {it}" for it in said] + table["response"] if said else []
+
+
 def late_of(table, number, words):
     """What there is to say of a task that is late, where the list can be read again, or None."""
-    path = parted(OPTIONS["respond"], words[1:])[0][0]
     try:
-        lines = [printable(it) for it in source_of(path).decode(errors="replace").split("\n")]
+        path, lines = list_of(words)
         tasks = [it.split(" ") for it in lines[:number]]
         headline, *more = table["late task"]
         shown = [f"{path}:{number}: {filled(headline, tasks[-1][1:])}", f"{number:5} | {lines[number - 1]}"]
@@ -280,14 +317,13 @@ def main(output, words):
     table = entries()
     line = output.split("\n")[0]
     said = usage(table, words) if line == "usage" else explained(table, line, words)
-    if said:
-        sys.stdout.buffer.write(("\n".join(said) + "\n").encode(errors="replace"))
+    try:
+        sys.stdout.buffer.write("".join(f"{it}\n" for it in said).encode(errors="replace"))
         sys.stdout.buffer.flush()
+    except OSError:
+        return guard.WRITE_FAULT
+    return 0
 
 
 if __name__ == "__main__":
-    try:
-        main(sys.argv[1], sys.argv[2:])
-    except Exception:
-        # The answer of wcc is printed already, and stands for itself.
-        sys.exit(1)
+    guard.run(lambda words: main(words[0], words[1:]))

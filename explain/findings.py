@@ -10,6 +10,7 @@ import time
 
 import constructs
 import forms
+from contradictions import contradicting
 from evaluator import tree
 from evaluator.answer import program_of
 from evaluator.facts import MOST_STARTS, Facts, greatest_starts, marker_name, relation_of
@@ -368,6 +369,14 @@ def unknown_name(files, at):
             return
 
 
+def contradictions(files, _):
+    """The restrictions on which it rests that no run keeps the annotations."""
+    restrictions = [it for it in tree.nodes_of(unit(files)) if isinstance(it, tree.Restriction)]
+    found = contradicting(sorted(restrictions, key=lambda it: it.at), files.writes[1])
+    links = [(b" ".join(it.text.split()[1:]).decode(), files.at(it.at)) for it in found]
+    yield ("contradict", ("restriction", links)) if links else ("no restriction",)
+
+
 # Faults of files
 
 def unread(files, _):
@@ -416,5 +425,5 @@ FINDERS = {
     "refused pragma": pragma_fault, "refused name": unknown_name, "undefined": run_to, "broken": run_to,
     "limit depth": too_deep, "limit nodes": largest_part, "limit parameters": many_parameters,
     "limit most": heaviest, "limit globals": largest_object(False), "limit locals": largest_object(True),
-    "read fault": unread, "write fault": unwritten,
+    "cycles empty": contradictions, "read fault": unread, "write fault": unwritten,
 }

@@ -1,4 +1,5 @@
-"""Names that sources use and the language lacks: those of C's headers, and the words of compilers."""
+"""Names that sources use and the language lacks: those of C's headers, and the words of compilers. `prepare` tells them by this table
+too."""
 import re
 from pathlib import Path
 
@@ -15,6 +16,10 @@ TYPES = {
     "time.h": "time_t clock_t".split(),
     "setjmp.h": ["jmp_buf"],
 }
+# The functions of <math.h>: each has a form for `float` and one for `long double` too.
+MATH = """acos asin atan atan2 cos sin tan acosh asinh atanh cosh sinh tanh exp exp2 expm1 frexp ilogb ldexp log log10 log1p log2 logb modf scalbn
+    scalbln cbrt fabs hypot pow sqrt erf erfc lgamma tgamma ceil floor nearbyint rint lrint llrint round lround llround trunc fmod remainder
+    remquo copysign nan nextafter nexttoward fdim fmax fmin fma""".split()
 OTHERS = {
     "stdint.h": [f"{sign}INT{bits}_{end}" for sign in ("", "U") for bits in (8, 16, 32, 64) for end in ("MIN", "MAX", "C")
                  if sign + end != "UMIN"] + "SIZE_MAX INTPTR_MAX UINTPTR_MAX INTMAX_MAX UINTMAX_MAX".split(),
@@ -22,16 +27,18 @@ OTHERS = {
     "stdbool.h": "true false".split(),
     "limits.h": """CHAR_BIT CHAR_MIN CHAR_MAX SCHAR_MIN SCHAR_MAX UCHAR_MAX SHRT_MIN SHRT_MAX USHRT_MAX INT_MIN INT_MAX UINT_MAX
         LONG_MIN LONG_MAX ULONG_MAX LLONG_MIN LLONG_MAX ULLONG_MAX""".split(),
-    "stdio.h": """printf fprintf sprintf snprintf vprintf scanf fscanf sscanf puts fputs gets fgets fgetc fputc getc putc ungetc fopen
-        fclose fread fwrite fflush fseek perror feof ferror EOF BUFSIZ stdin stdout stderr""".split(),
-    "stdlib.h": """malloc calloc realloc free exit abort atexit atoi atol strtol strtoul rand srand qsort bsearch abs labs div ldiv
-        EXIT_SUCCESS EXIT_FAILURE RAND_MAX""".split(),
-    "string.h": """memcpy memmove memset memcmp memchr strlen strcpy strncpy strcat strncat strcmp strncmp strchr strrchr
-        strstr strtok""".split(),
-    "ctype.h": "isalnum isalpha isdigit islower isprint ispunct isspace isupper isxdigit tolower toupper".split(),
+    "stdio.h": """printf fprintf sprintf snprintf vprintf vfprintf vsprintf vsnprintf scanf fscanf sscanf vscanf vfscanf vsscanf puts fputs
+        gets fgets fgetc fputc getc putc ungetc fopen freopen fclose fread fwrite fflush fseek ftell rewind fgetpos fsetpos perror feof
+        ferror clearerr remove rename tmpfile tmpnam setbuf setvbuf EOF BUFSIZ stdin stdout stderr""".split(),
+    "stdlib.h": """malloc calloc realloc aligned_alloc free exit _Exit quick_exit abort atexit at_quick_exit getenv system atoi atol atoll
+        atof strtol strtoul strtoll strtoull strtod strtof strtold rand srand qsort bsearch abs labs llabs div ldiv lldiv EXIT_SUCCESS
+        EXIT_FAILURE RAND_MAX""".split(),
+    "string.h": """memcpy memmove memset memcmp memchr strlen strcpy strncpy strcat strncat strcmp strncmp strcoll strxfrm strchr strrchr
+        strspn strcspn strpbrk strstr strtok strerror""".split(),
+    "ctype.h": "isalnum isalpha isblank iscntrl isdigit isgraph islower isprint ispunct isspace isupper isxdigit tolower toupper".split(),
     "assert.h": "assert static_assert".split(),
-    "math.h": """sin cos tan asin acos atan atan2 exp log log10 pow sqrt fabs floor ceil fmod round sinf cosf sqrtf fabsf
-        M_PI""".split(),
+    "math.h": [f"{name}{kind}" for name in MATH for kind in ("", "f", "l")] + "isfinite isinf isnan isnormal signbit M_PI".split(),
+    "time.h": "time clock difftime mktime gmtime localtime asctime ctime strftime".split(),
     "stdarg.h": "va_start va_arg va_end va_copy".split(),
     "errno.h": ["errno"],
     "setjmp.h": "setjmp longjmp".split(),
@@ -49,6 +56,8 @@ def at_hand():
 
 
 AT_HAND = at_hand()
+# What `./wcc prepare` tells as a call of C's library: what no header of include/ has. Lists of arguments are told by their `...`.
+LIBRARY = {name for header, names in OTHERS.items() for name in names if header != "stdarg.h"} - set(AT_HAND)
 ANNOTATIONS = {"LOOPBOUND", "MARKER", "RESTRICTION"}
 HEADERS_OF_TYPES = {name: header for header, names in TYPES.items() for name in names}
 HEADERS_OF_OTHERS = {name: header for header, names in OTHERS.items() for name in names}

@@ -3,9 +3,14 @@ import os
 import re
 import stat
 from bisect import bisect_right
+from pathlib import Path
 
+# How `./wcc prepare` names the folder of its headers in line markers, and where that is here.
+OWN_HEADERS, INCLUDE = b"<wcc>/", os.fsencode(Path(__file__).resolve().parent.parent / "include") + b"/"
 WIDEST = 100
 LONGEST = 1048576
+# The beginning of a list of files.
+LISTED = re.compile(rb"[0-9a-f]{64}  ")
 # Parts of a line that was cut are looked for so many bytes and lines away.
 LOOKED_AT, PARTS = 4000, 40
 
@@ -24,10 +29,12 @@ def printable(text):
 
 
 def name_in_marker(name):
-    """A file's name as a line marker quotes it: a backslash and octal digits are a byte."""
+    """A file's name as a line marker quotes it: a backslash and octal digits are a byte. A header of include/ is the one of this checkout."""
     def byte(match):
         return bytes([int(match[1], 8) & 255]) if match[1][:1].isdigit() else match[1]
-    return ESCAPE.sub(byte, name).decode(errors="replace")
+    name = ESCAPE.sub(byte, name)
+    header = name.removeprefix(OWN_HEADERS)
+    return (INCLUDE + header if header != name and b"/" not in header else name).decode(errors="replace")
 
 
 class Line:
@@ -63,16 +70,48 @@ def tokens_in(line):
     return [(it.start(), it[0]) for it in TOKEN.finditer(line) if not it[0].startswith(("/*", "//"))]
 
 
-def lines_of(name):
-    """The lines of a file as it stands there, or none where it is no plain file of a source's size."""
+def plain(name, most):
+    """What a plain file of at most so many bytes holds, or nothing. The files of the system itself have no size, and aren't read."""
     try:
-        kept = os.stat(name)
-        if not stat.S_ISREG(kept.st_mode) or kept.st_size > LONGEST:
-            return []
-        with open(name, "rb") as file:
-            return [printable(it.rstrip("\r")) for it in file.read(LONGEST).decode(errors="replace").split("\n")]
+        with open(name, "rb", opener=lambda path, flags: os.open(path, flags | os.O_NONBLOCK)) as file:
+            found = os.fstat(file.fileno())
+            return file.read(most) if stat.S_ISREG(found.st_mode) and 0 < found.st_size <= most else b""
     except (OSError, ValueError):
-        return []
+        return b""
+
+
+def digest_of(data):
+    import hashlib
+    return hashlib.sha256(data).hexdigest()
+
+
+def list_beside(source):
+    """The name of the list of files that were read for a source: `prepare` writes it, in the form of sha256sum."""
+    return f"{source}.files"
+
+
+def may_be_list(path):
+    """Whether a list may be written there: nothing stands there, or an older one."""
+    return not os.path.lexists(path) or LISTED.match(plain(path, LONGEST)) is not None
+
+
+class Given:
+    """The files whose lines may be shown beside a source: those that `prepare` read for it, while they are what it read, and the headers
+    of include/. A source can name any file in its line markers; so no other one is opened, and none is shown of which the list
+    doesn't say what it holds."""
+
+    def __init__(self, source):
+        rows = [it.split(b"  ", 1) for it in plain(list_beside(source), LONGEST).split(b"\n")]
+        self.digests = {printable(row[1].decode(errors="replace")): (row[1], row[0].decode(errors="replace")) for row in rows if len(row) == 2}
+
+    def lines(self, name):
+        """The lines of a file, or none where they may not be shown."""
+        path, digest = self.digests.get(name, (None, None))
+        is_own = os.path.dirname(name) == os.fsdecode(INCLUDE)[:-1]
+        data = plain(path or name, LONGEST) if path or is_own else b""
+        if not is_own and digest_of(data) != digest:
+            return []
+        return [printable(it.rstrip("\r")) for it in data.decode(errors="replace").split("\n")]
 
 
 def place_before(own, line, at, is_first, is_last):
@@ -99,7 +138,7 @@ class Lines:
     def __init__(self, path, source):
         self.source, self.path = source, printable(path)
         # The lines of the files that line markers name, as far as they were asked for.
-        self.files = {}
+        self.files, self.given = {}, Given(path)
         self.lines = [Line(0, 1, File(printable(path)))]
         self.read = 0
         # Whether nothing but blanks and comments stands before what is read on its line.
@@ -172,9 +211,14 @@ class Lines:
         if name == self.path:
             return None
         if name not in self.files:
-            self.files[name] = lines_of(name)
+            self.files[name] = self.given.lines(name)
         lines = self.files[name]
         return lines[line.number - 1] if 0 < line.number <= len(lines) else None
+
+
+    def is_own(self, name):
+        """Whether a file is the source itself, or one that prepare read for it and that is as it was then."""
+        return name == self.path or name in self.given.digests and bool(self.given.lines(name))
 
 
 class Place:
