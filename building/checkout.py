@@ -1,23 +1,49 @@
 """The sources of a checkout, the program that stands for them, and the one that is shipped."""
 import hashlib
 import os
+import shutil
 import subprocess
 import time
-from subprocess import PIPE, CalledProcessError
+from subprocess import DEVNULL, PIPE, CalledProcessError
 
 from crates import PROGRAM, ROOT, Crates, stated, text_of
 from toolchain import Toolchain
 
 # So many seconds the times of files may lie behind the clock.
 LAG = 0.1
+# What tells a file from another one and from itself once it's changed, as the launcher asks for it.
+IDENTITY = ("stat", "-c", "%i %s %.Y %.Z", "--")
+# By this a program dies with the launcher, where it is a setpriv that knows how.
+KEEPER = ("--pdeathsig", "KILL", "--", "true")
 
 
 class Damaged(Exception):
-    """release/wcc.xz cannot be unpacked."""
+    """Why there is no shipped program to be had."""
+
+
+def digest_of(data):
+    return hashlib.sha256(data).hexdigest()
 
 
 def xz(how, data):
     return subprocess.run(["xz", how, "--stdout", "--threads=1"], input=data, stdout=PIPE, stderr=PIPE, check=True).stdout
+
+
+def unpacked(data):
+    """What xz packed, by the command, or by Python where that is missing; or nothing where it isn't whole."""
+    if shutil.which("xz"):
+        try:
+            return xz("--decompress", data)
+        except CalledProcessError:
+            return None
+    try:
+        import lzma
+    except ImportError:
+        raise Damaged("no xz is on PATH, which unpacks the shipped program: install it, as by `apt install xz-utils`") from None
+    try:
+        return lzma.decompress(data, lzma.FORMAT_XZ)
+    except lzma.LZMAError:
+        return None
 
 
 def write(path, data, mode=0o644, changed=None):
@@ -34,6 +60,13 @@ def write(path, data, mode=0o644, changed=None):
         apart.unlink(missing_ok=True)
 
 
+def keeper():
+    """The setpriv by which a program dies with the launcher, or nothing where there is none that can."""
+    found = shutil.which("setpriv")
+    can = found and subprocess.run([found, *KEEPER], stdin=DEVNULL, stdout=DEVNULL, stderr=DEVNULL).returncode == 0
+    return found if can else ""
+
+
 class Checkout:
     """As it is when this is made."""
 
@@ -41,24 +74,39 @@ class Checkout:
         self.began, self.crates, self.toolchain = time.time(), Crates(root), Toolchain()
         self.digest = self.crates.digest(PROGRAM)
         self.program = self.crates.folder(PROGRAM) / "out" / PROGRAM
-        self.note = self.program.with_suffix(".made")
+        self.note, self.looked_at = self.program.with_suffix(".made"), self.program.with_suffix(".files")
         self.packed, self.sources = root / "release" / f"{PROGRAM}.xz", root / "release/sources"
+        self.sum = root / "release" / f"{PROGRAM}.sha256"
 
     def is_of(self, text):
         """Whether what is stated is of these sources, and of this toolchain where there is one."""
         return text == stated(self.toolchain.identity or text.partition("\n")[0], self.digest)
 
     def place(self, data, text):
-        """Has this be the program that stands. The launcher reads the note's first line, and the time of the program."""
-        write(self.program, data, 0o755, self.began - LAG)
-        write(self.note, f"{self.toolchain.command}\n{text}{hashlib.sha256(data).hexdigest()}\n".encode())
+        """Has this be the program that stands."""
+        write(self.program, data, 0o755)
+        self.note_down(data, text)
+
+    def note_down(self, data, text):
+        """Notes that the program which stands was made so. The launcher takes it while it and all that it was made of are as they are now,
+        by the numbers and times of the files: it compares times with that of the note."""
+        names = [*self.crates.looked_at(PROGRAM), *([os.fsencode(self.toolchain.command)] if self.toolchain else [])]
+        write(self.looked_at, b"".join(it + b"\0" for it in names))
+        asked = subprocess.run([*IDENTITY, self.program, self.looked_at], stdin=DEVNULL, stdout=PIPE, check=True)
+        lines = f"{self.toolchain.command}\n{text}{digest_of(data)}\n".encode() + asked.stdout + f"{keeper()}\n".encode()
+        write(self.note, lines, changed=self.began - LAG)
 
     def standing(self):
-        """The program that stands, and what is stated of it, if it is of these sources."""
+        """The program that stands, and what is stated of it, if it is the one that was made of these sources."""
         _, *lines = text_of(self.note).splitlines(keepends=True) or [""]
         text, data = "".join(lines[:2]), self.program.read_bytes() if self.program.is_file() else b""
-        is_noted = lines[2:] == [f"{hashlib.sha256(data).hexdigest()}\n"]
+        is_noted = lines[2:3] == [f"{digest_of(data)}\n"]
         return (data, text) if is_noted and self.is_of(text) else None
+
+    def is_replaced(self):
+        """Whether a program stands there that isn't the one that was noted, whatever that was made of."""
+        _, *lines = text_of(self.note).splitlines() or [""]
+        return self.program.is_file() and lines[2:3] != [digest_of(self.program.read_bytes())]
 
     def why_not_shipped(self):
         """Why the shipped program isn't that of this checkout, or nothing where it is."""
@@ -70,8 +118,18 @@ class Checkout:
         return "" if self.is_of(text) else "the toolchain is not that of the shipped program"
 
     def shipped(self):
-        """What is packed there, whatever it's of."""
+        """What is packed there, whatever it's of. It must be what its digest says."""
         try:
-            return xz("--decompress", self.packed.read_bytes())
-        except (OSError, CalledProcessError) as error:
-            raise Damaged(f"release/{self.packed.name} cannot be unpacked by xz") from error
+            data = unpacked(self.packed.read_bytes())
+        except OSError as error:
+            raise Damaged(f"release/{self.packed.name} cannot be unpacked: {error.strerror}") from error
+        if data is None:
+            raise Damaged(f"release/{self.packed.name} cannot be unpacked: it is cut or damaged, so get the release anew")
+        if text_of(self.sum) != sum_line(data):
+            raise Damaged(f"release/{self.packed.name} is not the program that release/{self.sum.name} is of, so get the release anew")
+        return data
+
+
+def sum_line(data):
+    """The digest of a program as `sha256sum -c` reads it, for one that it's given on standard input."""
+    return f"{digest_of(data)}  -\n"

@@ -79,6 +79,17 @@ class Crates:
         paths = [os.path.join(at, file) for at, _, files in walked for file in (".", *files)]
         return max(os.stat(it).st_ctime for it in (self.root / "crates.txt", *paths))
 
+    def looked_at(self, top):
+        """The files and folders, as bytes and from the root on, by whose times a change of a crate or of one below it shows: what comes or
+        goes changes its folder."""
+        root, found = os.fsencode(self.root), [b"crates.txt"]
+        for name in self.up_to(top):
+            folder = os.fsencode(self.folder(name))
+            walked = [at for part in PARTS for at, _, _ in os.walk(os.path.join(folder, part.encode()))]
+            lacks_a_part = [folder] * (not all((self.folder(name) / part).is_dir() for part in PARTS))
+            found += [it[len(root) + 1:] for it in (*lacks_a_part, *walked, *(os.path.join(folder, path) for path in self.files(name)))]
+        return found
+
     def is_as_in(self, other, name):
         """Whether a crate is what it was when another reading of the checkout was made."""
         return name in self.rows and self.own_digest(name) == other.own_digest(name)

@@ -24,6 +24,7 @@ FOLDER = ROOT / "crates" / PROGRAM
 ROOM = FOLDER / "out/rlib"
 NO_PROGRAM = 70
 SECONDS_BETWEEN_LINES = 60
+WHAT_TO_DO = ". `git status crates crates.txt release` says what was changed, and `git restore` takes it back"
 
 
 def write(text):
@@ -77,7 +78,8 @@ def build(why, anew=False):
         if here.standing() and not anew:
             return here
         if not here.toolchain:
-            raise NotBuilt("cannot build: rt, the command of the Rattle toolchain, is not on PATH")
+            raise NotBuilt(f"there is no program to run{why}; and it cannot be built here, since rt, the command of the Rattle toolchain, "
+                           f"is not on PATH{WHAT_TO_DO * (why != '')}")
         proving, line = Proving(here.crates, here.toolchain, PROGRAM, ROOM), Line()
         say(f"proving and building{why}: about an hour on four processors, with 5 GB of disk. A call after an interrupt goes on")
         try:
@@ -94,10 +96,13 @@ def see_that_it_stands():
     here = Checkout()
     found, why = here.standing(), here.why_not_shipped()
     if found:
-        # Where its time can't be written, the next call asks again.
+        # Where it can't be noted, the next call asks again.
         with suppress(OSError):
-            here.place(*found)
+            here.note_down(*found)
         return
+    if here.is_replaced():
+        say("the program in crates/wcc/out is not the one that was made or shipped, and isn't run. Where rt built it of these sources, "
+            "`building/release compare` takes it")
     try:
         if not why:
             here.place(here.shipped(), text_of(here.sources))

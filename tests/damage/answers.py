@@ -27,6 +27,8 @@ ANSWERS = {
 # The files that a command writes, and the statuses with which it does.
 WRITES = {"compile": (("b.elf", "b.txt"), (0,)), "eval": (("b.out",), (0,)), "run": (("b.out",), (0, 8)),
           "make": (("b.c", "b.elf", "b.txt"), (0,)), "show": (("b.html", "b.elf"), (0,)), "prepare": (("b.c",), (0,))}
+# What `prepare` writes beside b.c.
+LIST = "b.c.files"
 # The lines of a report that say what it claims, and not why.
 CLAIM = re.compile(rb"^(?:exit|never|region|loop|fact) .*$", re.M)
 LOOP = re.compile(rb"^(loop \S+ \S+ \S+ \S+ \S+ \S+) \S+ \S+$|^fact \S+ ", re.M)
@@ -60,6 +62,7 @@ def file_faults(kind, ended, given):
     """Each file is as it was, but for those that are written with this status."""
     names, when = WRITES.get(kind.words[0], ((), ()))
     written = {*names} & {*kind.words} if ended.status in when else {*()}
+    written |= {LIST} if kind.tool == "prepare" and LIST in ended.left and written else {*()}
     for name in given.keys() | ended.left.keys():
         if name in written:
             if ended.left.get(name) in (None, OLDER):

@@ -34,7 +34,7 @@ class Room:
         if line is not None:
             return [*TOOLS["explain"], line, *kind.words]
         if kind.tool in TOOLS and kind.tool != "explain":
-            return [*TOOLS[kind.tool], *([self.program] if kind.tool == "show" else []), *kind.words[1:]]
+            return [*TOOLS[kind.tool], *([self.program] if kind.tool in ("show", "counts") else []), *kind.words[1:]]
         return [self.program, *kind.words]
 
     def call(self, kind, files, line=None):
