@@ -9,8 +9,11 @@ from subprocess import DEVNULL, PIPE, CalledProcessError
 from crates import PROGRAM, ROOT, Crates, stated, text_of
 from toolchain import Toolchain
 
-# So many seconds the times of files may lie behind the clock.
+# So many seconds the times of files may lie behind the clock: what was changed later than this before a reading, and what is changed
+# after it, can't be told apart by their times.
 LAG = 0.1
+# So often a checkout is read anew at most, until what was changed last lies back.
+READINGS = 3
 # What tells a file from another one and from itself once it's changed, as the launcher asks for it.
 IDENTITY = ("stat", "-c", "%i %s %.Y %.Z", "--")
 # By this a program dies with the launcher, where it is a setpriv that knows how.
@@ -87,14 +90,33 @@ class Checkout:
         write(self.program, data, 0o755)
         self.note_down(data, text)
 
+    def names(self):
+        """Those by whose times a change shows, the toolchain's command among them, from the root on."""
+        return [*self.crates.looked_at(PROGRAM), *([os.fsencode(self.toolchain.command)] if self.toolchain else [])]
+
+    def settled(self):
+        """The checkout as it is once the last change lies further back than the times of files lag: it's waited for, and then all is read
+        anew. Where times are ahead of the clock, or changes don't end, it's as it is by then."""
+        here = self
+        for _ in range(READINGS):
+            changed, now = self.crates.last_change(here.names()), time.time()
+            if changed < here.began - LAG or changed > now + LAG:
+                break
+            # A hundredth is more than the grain of the times.
+            time.sleep(max(0, changed + LAG + 0.01 - now))
+            here = Checkout(self.crates.root)
+        return here
+
     def note_down(self, data, text):
         """Notes that the program which stands was made so. The launcher takes it while it and all that it was made of are as they are now,
-        by the numbers and times of the files: it compares times with that of the note."""
-        names = [*self.crates.looked_at(PROGRAM), *([os.fsencode(self.toolchain.command)] if self.toolchain else [])]
-        write(self.looked_at, b"".join(it + b"\0" for it in names))
+        by the numbers and times of the files: it compares times with that of the note. Where something has changed since this was read,
+        or has a time that is ahead, the note is older than that, and the next call asks again."""
+        settled = self.settled()
+        here = settled if settled.is_of(text) else self
+        write(self.looked_at, b"".join(it + b"\0" for it in here.names()))
         asked = subprocess.run([*IDENTITY, self.program, self.looked_at], stdin=DEVNULL, stdout=PIPE, check=True)
-        lines = f"{self.toolchain.command}\n{text}{digest_of(data)}\n".encode() + asked.stdout + f"{keeper()}\n".encode()
-        write(self.note, lines, changed=self.began - LAG)
+        lines = f"{here.toolchain.command}\n{text}{digest_of(data)}\n".encode() + asked.stdout + f"{keeper()}\n".encode()
+        write(self.note, lines, changed=here.began - LAG)
 
     def standing(self):
         """The program that stands, and what is stated of it, if it is the one that was made of these sources."""

@@ -73,22 +73,23 @@ class Crates:
             self.digests[name] = hashlib.sha256("\n".join(parts).encode()).hexdigest()
         return self.digests[name]
 
-    def last_change(self, top):
-        """When a file or a folder of a crate, or of one below it, was changed here, whatever time it carries."""
-        walked = [it for name in self.up_to(top) for part in PARTS for it in os.walk(self.folder(name) / part)]
-        paths = [os.path.join(at, file) for at, _, files in walked for file in (".", *files)]
-        return max(os.stat(it).st_ctime for it in (self.root / "crates.txt", *paths))
-
-    def looked_at(self, top):
-        """The files and folders, as bytes and from the root on, by whose times a change of a crate or of one below it shows: what comes or
-        goes changes its folder."""
+    def sources(self, top):
+        """The files and folders, as bytes and from the root on, that hold a crate and those below it: what comes or goes changes its folder."""
         root, found = os.fsencode(self.root), [b"crates.txt"]
         for name in self.up_to(top):
             folder = os.fsencode(self.folder(name))
             walked = [at for part in PARTS for at, _, _ in os.walk(os.path.join(folder, part.encode()))]
-            lacks_a_part = [folder] * (not all((self.folder(name) / part).is_dir() for part in PARTS))
-            found += [it[len(root) + 1:] for it in (*lacks_a_part, *walked, *(os.path.join(folder, path) for path in self.files(name)))]
+            found += [it[len(root) + 1:] for it in (*walked, *(os.path.join(folder, path) for path in self.files(name)))]
         return found
+
+    def looked_at(self, top):
+        """Those by whose times each change of a crate or of one below it shows: a part that is lacking would come in the crate's folder."""
+        lacking = [name for name in self.up_to(top) if not all((self.folder(name) / part).is_dir() for part in PARTS)]
+        return [*self.sources(top), *(os.fsencode(os.path.join("crates", name)) for name in lacking)]
+
+    def last_change(self, names):
+        """When one of such files and folders was changed here, whatever time it carries."""
+        return max(os.stat(os.path.join(os.fsencode(self.root), it)).st_ctime for it in names)
 
     def is_as_in(self, other, name):
         """Whether a crate is what it was when another reading of the checkout was made."""
