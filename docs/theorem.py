@@ -5,6 +5,9 @@ from collections import Counter
 import reading
 from repository import ROOT
 
+PARTS = ("needed", "language", "restrictions")
+ROW = re.compile(r"^\| \*\*(.+?)\*\* \|.*", re.M)
+NAMED = re.compile(r"\[`(\w+)`\]\(\.\./(crates/\w+/specs/\w+\.antt)\)")
 DOCS = ROOT / "docs"
 # What the headline and the clause `built` are in the contract of `wcc::wcc`.
 HEADLINE, BUILT = ("IsDone", "asked_by"), ("AreBuilt", "IsWritten")
@@ -65,3 +68,17 @@ class Reading:
             if own := sorted(files.get(crate.name, []), key=lambda it: (it.suffix, order.get(it.stem, 0), it.name)):
                 rows.append(f"| `{crate.name}` | {crate.sentence} | {', '.join(f'{linked(it)} ({counts[it]})' for it in own)} |")
         return "\n".join(rows)
+
+    def rows(self, page):
+        """Of each part of the headline on a page, how many lines the definitions have on which it rests, but for those of other parts."""
+        kinds = {id(it): name for name in PARTS for it in self.parts[name]}
+        named = {row[1]: [reading.definitions_of(ROOT / link)[name] for name, link in NAMED.findall(row[0])] for row in ROW.finditer(page)}
+        lines, seen = ["| The headline | Lines | of C | of restrictions |", "|---|---|---|---|"], set()
+        for part, own in named.items():
+            others = {id(it) for its in named.values() for it in its} - {id(it) for it in own}
+            counts = Counter()
+            for it in reading.reached(self.crates, own, lambda it: id(it) in others or id(it) in seen):
+                counts[kinds.get(id(it))] += it.count
+                seen.add(id(it))
+            lines.append(f"| {part} | {' | '.join(f'{counts[it]:,}' for it in PARTS)} |")
+        return "\n".join(lines)
