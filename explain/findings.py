@@ -21,7 +21,7 @@ from evaluator.rules import MOST, Checker, Routine, RuleFault, Thing, check, cou
 from evaluator.tokens import comment_end, tokens_of
 from spot import Spot
 
-# A run is followed for so long.
+# A run is followed for so long, of a processor.
 SECONDS = 1.0
 # The facts on the numbers by which a run is undefined, by its rules.
 NUMBERS = {1: "range", 4: "count", 6: "index"}
@@ -89,7 +89,7 @@ class Followed(Program):
     """A run that notes the calls that it is in, for some time."""
 
     def __init__(self, checker, facts, data):
-        self.ends_at = time.monotonic() + SECONDS
+        self.ends_at = time.process_time() + SECONDS
         super().__init__(checker, facts, data)
 
     def starts_body(self, loop, starts):
@@ -101,7 +101,7 @@ class Followed(Program):
         super().enters(call)
 
     def in_time(self):
-        if time.monotonic() > self.ends_at:
+        if time.process_time() > self.ends_at:
             raise Late
 
 

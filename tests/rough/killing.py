@@ -4,6 +4,7 @@ import random
 import signal
 import subprocess
 import time
+from contextlib import suppress
 from pathlib import Path
 from subprocess import DEVNULL
 
@@ -20,7 +21,23 @@ CALLS = (
 )
 READ = ("fft.c", "first.c", "crc16.c")
 SIGNALS = (signal.SIGKILL, signal.SIGKILL, signal.SIGTERM, signal.SIGINT, signal.SIGHUP)
-SECONDS = 60
+SECONDS = 300
+
+
+def heed():
+    """Has a call take the signals that end it, whatever is ignored where the tests are started."""
+    for it in (signal.SIGINT, signal.SIGTERM, signal.SIGHUP):
+        signal.signal(it, signal.SIG_DFL)
+
+
+def is_running(session):
+    """Whether a process of a session hasn't ended."""
+    for it in Path("/proc").iterdir():
+        with suppress(OSError, ValueError, IndexError):
+            state, _, _, its_session = (it / "stat").read_text().rpartition(")")[2].split()[:4]
+            if it.name.isdigit() and int(its_session) == session and state != "Z":
+                return True
+    return False
 
 
 class Kills:
@@ -36,7 +53,7 @@ class Kills:
 
     def call(self, words):
         return subprocess.Popen([self.wcc, *words.split()], cwd=self.room, stdin=DEVNULL, stdout=DEVNULL, stderr=DEVNULL, start_new_session=True,
-                                preexec_fn=lambda: signal.signal(signal.SIGINT, signal.SIG_DFL))
+                                preexec_fn=heed)
 
     def whole(self, words, written):
         """How long a call takes, and what it writes."""
@@ -57,8 +74,10 @@ class Kills:
         ran = self.call(words)
         time.sleep(after)
         ran.send_signal(number)
-        status = ran.wait(SECONDS)
-        time.sleep(0.02)
+        status, ends = ran.wait(SECONDS), time.monotonic() + SECONDS
+        # A file may be on its way to its place when the launcher is killed.
+        while is_running(ran.pid) and time.monotonic() < ends:
+            time.sleep(0.01)
         found = [(self.room / it).read_bytes() if (self.room / it).exists() else None for it in written]
         for name, data, whole in zip(written, found, wholes):
             if data not in (was[name], whole):
