@@ -3,6 +3,7 @@ import hashlib
 import os
 import signal
 import stat
+import subprocess
 from collections.abc import Iterable, Iterator
 from contextlib import contextmanager, suppress
 from pathlib import Path
@@ -49,6 +50,20 @@ def held() -> Iterator[None]:
         yield
     finally:
         signal.pthread_sigmask(signal.SIG_SETMASK, before)
+
+
+@contextmanager
+def locked(folder: Path) -> Iterator[None]:
+    """Has no other call put its files into a folder meanwhile. Where it can't be locked, or isn't free in ten seconds, that is no matter."""
+    number = -1
+    try:
+        with suppress(OSError):
+            number = os.open(folder, os.O_RDONLY)
+            subprocess.run(["flock", "-w", "10", str(number)], stdin=subprocess.DEVNULL, stderr=subprocess.DEVNULL, pass_fds=[number])
+        yield
+    finally:
+        if number >= 0:
+            os.close(number)
 
 
 def put(made: Path, path: Path) -> None:

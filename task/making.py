@@ -12,7 +12,7 @@ from pathlib import Path
 from typing import Any
 
 from task.calls import TOP, ask, named, tool
-from task.files import Fault, digest, digest_of, held, is_one, place, place_changed, read, why
+from task.files import Fault, digest, digest_of, held, is_one, locked, place, place_changed, read, why
 from task.settings import USAGE, Settings, settings_file
 
 sys.path.append(str(TOP / "explain"))
@@ -206,7 +206,7 @@ def make(program: str, task: Task, room: Path, prepared: bytes, inputs: dict[str
     cycles, kind = bound_of(said.line)
     check(task, program, room, cycles)
     image, report = (read(room / f"{task.stem}{it}") for it in (".elf", ".txt"))
-    with held():
+    with locked(task.folder), held():
         place(room, task.folder, [f"{task.stem}{it}" for it in (".elf", ".txt")])
     draw(task, program, room)
     place(room, task.folder, [f"{task.stem}.html"])
