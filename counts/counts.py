@@ -12,6 +12,7 @@ TOP = os.path.dirname(os.path.dirname(os.path.realpath(__file__)))
 sys.path[:0] = [TOP, os.path.join(TOP, "explain")]
 import guard  # noqa: E402
 import tempfile  # noqa: E402
+from collections.abc import Iterable  # noqa: E402
 
 import explain  # noqa: E402
 from counts.proposals import proposals  # noqa: E402
@@ -24,25 +25,27 @@ from evaluator.rules import MOST  # noqa: E402
 from places import printable  # noqa: E402
 
 USAGE, READ_FAULT, WRITE_FAULT = 2, 4, 5
-CALLED = "wcc counts SOURCE INPUT .. [--derive] [--table FILE] [--write [OUT]]"
+CALLED = "wcc counts SOURCE INPUT .. [--derive] [--table FILE] [--inline N] [--unroll K] [--spm B] [--write [OUT]]"
 HELP = [
     "Runs the source on each input, and says how often its loops started in one entry, how often functions and markers came, how",
     "near the restrictions were, which bounds would say so, and which restrictions would lower the bound that `compile` prints.",
     "Loops may lack their bounds. All of it is seen by the second evaluator, and nothing of it is proved.",
-    "With --derive loops that count have the bounds of their form. --table has the costs. --write as the last word writes the bounds",
-    "that were seen into your own files, before the loops that have none; --write OUT makes a source OUT with them instead.",
+    "With --derive loops that count have the bounds of their form. The other options are those of `compile`, for the bounds that it",
+    "prints. --write as the last word writes the bounds that were seen into your own files, before the loops that have none; --write",
+    "OUT makes a source OUT with them instead.",
     "The status is 0 where each run ended and kept the annotations, 8 where one didn't, 1 where the source is refused, 2 where words",
     "are wrong, 3 and 4 as of `eval`, 5 where something can't be written, and 70 where there is no Python or no program.",
     "counts/README.md shows an example.",
 ]
 OWN = ""
+OPTIONS = explain.OPTIONS["compile"]
 
 
 class Silent(Exception):
     """Standard output can't be written."""
 
 
-def tell(lines):
+def tell(lines: Iterable[str]) -> None:
     try:
         for line in lines:
             sys.stdout.buffer.write((line + "\n").encode(errors="replace"))
@@ -53,32 +56,39 @@ def tell(lines):
         raise Silent from error
 
 
-class Words:
-    """The words of a call. `out` is None where nothing is written, OWN where that goes into the user's files."""
+class Wrong(Exception):
+    """The words aren't those of a call: why, where that can be said."""
 
-    def __init__(self, given):
-        self.names, self.derive, self.table, self.out = [], False, None, None
+
+class Words:
+    """The words of a call: files, and options of `compile`. `out` is None where nothing is written, OWN where that goes into the user's files."""
+
+    def __init__(self, given: list[str]) -> None:
+        self.names: list[str] = []
+        self.options: list[str] = []
+        self.out: str | None = None
         left = [*reversed(given)]
         while left:
             word = left.pop()
-            if word == "--derive" and not self.derive:
-                self.derive = True
-            elif word == "--table" and self.table is None and left:
-                self.table = left.pop()
+            if word in OPTIONS and word not in self.options:
+                self.options += [word] if OPTIONS[word] == explain.FLAG else [word, self.value(word, left.pop() if left else None)]
             elif word == "--write" and len(left) <= 1:
                 self.out = left.pop() if left else OWN
             elif word.startswith("-"):
-                raise ValueError(word)
+                raise Wrong
             else:
                 self.names.append(word)
         if len(self.names) < 2 or (self.out or "").startswith("-"):
-            raise ValueError(given)
+            raise Wrong
 
-    def options(self):
-        return [*["--derive"] * self.derive, *(["--table", self.table] if self.table is not None else [])]
+    @staticmethod
+    def value(option: str, value: str | None) -> str:
+        if wrong := explain.wrong_value(OPTIONS[option], value):
+            raise Wrong(f"{option} {wrong}")
+        return value
 
 
-def read(path, most):
+def read(path: str, most: int) -> bytes:
     """A file, or its first bytes, one more than it may have."""
     try:
         with open(path, "rb") as file:
@@ -87,7 +97,7 @@ def read(path, most):
         raise OSError(0, getattr(error, "strerror", None) or str(error), path) from None
 
 
-def count(program, words):
+def count(program: str, words: Words) -> int:
     path, *names = words.names
     if words.out and os.path.lexists(words.out):
         tell([f"wcc: `{printable(words.out)}` is there already, and only a new file is written."])
@@ -102,7 +112,7 @@ def count(program, words):
         within("source", MOST_SOURCE, source)
         for _, data in inputs:
             within("input", MOST_INPUT, data)
-        seen = Seen(source, words.derive)
+        seen = Seen(source, "--derive" in words.options)
     except FAULTS as fault:
         line, status = line_of(fault)
         tell([line, *explain.explained(explain.entries(), line, ["eval", path, names[0], ""])])
@@ -113,7 +123,7 @@ def count(program, words):
     return written(words, report, seen, source, status)
 
 
-def shown(report, seen, inputs):
+def shown(report: Report, seen: Seen, inputs: list[tuple[str, bytes]]) -> int:
     """Says what is seen, input by input, and answers the status."""
     status = DONE
     tell(["Seen on these inputs by the second evaluator, and not proved:"])
@@ -126,20 +136,20 @@ def shown(report, seen, inputs):
     return status
 
 
-def propose(program, words, report, seen, source):
+def propose(program: str, words: Words, report: Report, seen: Seen, source: bytes) -> None:
     """Says which restrictions would lower the bound, where the source has one."""
     names = [name for at, name in seen.names() if not report.is_given(at)]
     if not names or not seen.runs or len(seen.facts.relations) >= MOST["restrictions"]:
         return
     with tempfile.TemporaryDirectory(prefix="wcc-counts-") as room:
-        found = proposals(program, with_bounds(source, seen), words.options(), names, seen.runs, room)
+        found = proposals(program, with_bounds(source, seen), words.options, names, seen.runs, room)
     if found is None:
         tell(["", "No restriction is looked for, since `compile` gives no bound: loops that were never entered need one too."])
     else:
         tell(report.proposed(*found))
 
 
-def written(words, report, seen, source, status):
+def written(words: Words, report: Report, seen: Seen, source: bytes, status: int) -> int:
     try:
         if words.out == OWN:
             tell(["", *write_own(report, seen)])
@@ -151,15 +161,15 @@ def written(words, report, seen, source, status):
     return status
 
 
-def main(words):
+def main(words: list[str]) -> int:
     try:
         if words[1:] in (["--help"], ["-h"]):
             tell([CALLED, *HELP])
             return DONE
         try:
             asked = Words(words[1:])
-        except ValueError:
-            tell([f"It is called so: {CALLED}"])
+        except Wrong as why:
+            tell([*(f"wcc: {it}." for it in why.args), f"It is called so: {CALLED}"])
             return USAGE
         return with_deep_stack(lambda: count(words[0], asked))
     except Silent:
