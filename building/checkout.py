@@ -4,6 +4,7 @@ import os
 import shutil
 import subprocess
 import time
+from pathlib import Path
 from subprocess import DEVNULL, PIPE, CalledProcessError
 
 from crates import PROGRAM, ROOT, Crates, stated, text_of
@@ -24,15 +25,15 @@ class Damaged(Exception):
     """Why there is no shipped program to be had."""
 
 
-def digest_of(data):
+def digest_of(data: bytes) -> str:
     return hashlib.sha256(data).hexdigest()
 
 
-def xz(how, data):
+def xz(how: str, data: bytes) -> bytes:
     return subprocess.run(["xz", how, "--stdout", "--threads=1"], input=data, stdout=PIPE, stderr=PIPE, check=True).stdout
 
 
-def unpacked(data):
+def unpacked(data: bytes) -> bytes | None:
     """What xz packed, by the command, or by Python where that is missing; or nothing where it isn't whole."""
     if shutil.which("xz"):
         try:
@@ -49,7 +50,7 @@ def unpacked(data):
         return None
 
 
-def write(path, data, mode=0o644, changed=None):
+def write(path: Path, data: bytes, mode: int = 0o644, changed: float | None = None) -> None:
     """Writes a file apart and then puts it in its place, so that nobody meets half of it."""
     path.parent.mkdir(parents=True, exist_ok=True)
     apart = path.with_name(f"{path.name}.{os.getpid()}")
@@ -63,7 +64,7 @@ def write(path, data, mode=0o644, changed=None):
         apart.unlink(missing_ok=True)
 
 
-def keeper():
+def keeper() -> str:
     """The setpriv by which a program dies with the launcher, or nothing where there is none that can."""
     found = shutil.which("setpriv")
     can = found and subprocess.run([found, *KEEPER], stdin=DEVNULL, stdout=DEVNULL, stderr=DEVNULL).returncode == 0
@@ -73,7 +74,7 @@ def keeper():
 class Checkout:
     """As it is when this is made."""
 
-    def __init__(self, root=ROOT):
+    def __init__(self, root: Path = ROOT) -> None:
         self.began, self.crates, self.toolchain = time.time(), Crates(root), Toolchain()
         self.digest = self.crates.digest(PROGRAM)
         self.program = self.crates.folder(PROGRAM) / "out" / PROGRAM
@@ -81,20 +82,20 @@ class Checkout:
         self.packed, self.sources = root / "release" / f"{PROGRAM}.xz", root / "release/sources"
         self.sum = root / "release" / f"{PROGRAM}.sha256"
 
-    def is_of(self, text):
+    def is_of(self, text: str) -> bool:
         """Whether what is stated is of these sources, and of this toolchain where there is one."""
         return text == stated(self.toolchain.identity or text.partition("\n")[0], self.digest)
 
-    def place(self, data, text):
+    def place(self, data: bytes, text: str) -> None:
         """Has this be the program that stands."""
         write(self.program, data, 0o755)
         self.note_down(data, text)
 
-    def names(self):
+    def names(self) -> list[bytes]:
         """Those by whose times a change shows, the toolchain's command among them, from the root on."""
         return [*self.crates.looked_at(PROGRAM), *([os.fsencode(self.toolchain.command)] if self.toolchain else [])]
 
-    def settled(self):
+    def settled(self) -> "Checkout":
         """The checkout as it is once the last change lies further back than the times of files lag: it's waited for, and then all is read
         anew. Where times are ahead of the clock, or changes don't end, it's as it is by then."""
         here = self
@@ -107,7 +108,7 @@ class Checkout:
             here = Checkout(self.crates.root)
         return here
 
-    def note_down(self, data, text):
+    def note_down(self, data: bytes, text: str) -> None:
         """Notes that the program which stands was made so. The launcher takes it while it and all that it was made of are as they are now,
         by the numbers and times of the files: it compares times with that of the note. Where something has changed since this was read,
         or has a time that is ahead, the note is older than that, and the next call asks again."""
@@ -118,19 +119,19 @@ class Checkout:
         lines = f"{here.toolchain.command}\n{text}{digest_of(data)}\n".encode() + asked.stdout + f"{keeper()}\n".encode()
         write(self.note, lines, changed=here.began - LAG)
 
-    def standing(self):
+    def standing(self) -> tuple[bytes, str] | None:
         """The program that stands, and what is stated of it, if it is the one that was made of these sources."""
         _, *lines = text_of(self.note).splitlines(keepends=True) or [""]
         text, data = "".join(lines[:2]), self.program.read_bytes() if self.program.is_file() else b""
         is_noted = lines[2:3] == [f"{digest_of(data)}\n"]
         return (data, text) if is_noted and self.is_of(text) else None
 
-    def is_replaced(self):
+    def is_replaced(self) -> bool:
         """Whether a program stands there that isn't the one that was noted, whatever that was made of."""
         _, *lines = text_of(self.note).splitlines() or [""]
         return self.program.is_file() and lines[2:3] != [digest_of(self.program.read_bytes())]
 
-    def why_not_shipped(self):
+    def why_not_shipped(self) -> str:
         """Why the shipped program isn't that of this checkout, or nothing where it is."""
         text, system = text_of(self.sources), os.uname()
         if (system.sysname, system.machine) != ("Linux", "x86_64"):
@@ -139,7 +140,7 @@ class Checkout:
             return "the sources are not those of the shipped program"
         return "" if self.is_of(text) else "the toolchain is not that of the shipped program"
 
-    def shipped(self):
+    def shipped(self) -> bytes:
         """What is packed there, whatever it's of. It must be what its digest says."""
         try:
             data = unpacked(self.packed.read_bytes())
@@ -152,6 +153,6 @@ class Checkout:
         return data
 
 
-def sum_line(data):
+def sum_line(data: bytes) -> str:
     """The digest of a program as `sha256sum -c` reads it, for one that it's given on standard input."""
     return f"{digest_of(data)}  -\n"

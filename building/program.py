@@ -10,6 +10,7 @@ import shutil
 import signal
 import sys
 import time
+from collections.abc import Iterator
 from contextlib import contextmanager, suppress
 from pathlib import Path
 from subprocess import CalledProcessError
@@ -27,23 +28,23 @@ SECONDS_BETWEEN_LINES = 60
 WHAT_TO_DO = ". `git status crates crates.txt release` says what was changed, and `git restore` takes it back"
 
 
-def write(text):
+def write(text: str) -> None:
     """Writes on standard error, where that can be had: nothing depends on it."""
     with suppress(OSError):
         os.write(2, text.encode())
 
 
-def say(text):
+def say(text: str) -> None:
     write(f"wcc: {text}\n")
 
 
 class Line:
     """A line on standard error that is kept current: on a terminal it is written over, elsewhere it comes once a minute."""
 
-    def __init__(self):
+    def __init__(self) -> None:
         self.is_terminal, self.shown, self.next = os.isatty(2), "", time.monotonic()
 
-    def show(self, text):
+    def show(self, text: str) -> None:
         if self.is_terminal and text != self.shown:
             write(f"\r\x1b[Kwcc: {text}")
             self.shown = text
@@ -51,13 +52,13 @@ class Line:
             say(text)
             self.next = time.monotonic() + SECONDS_BETWEEN_LINES
 
-    def clear(self):
+    def clear(self) -> None:
         if self.shown:
             write("\r\x1b[K")
 
 
 @contextmanager
-def alone():
+def alone() -> Iterator[None]:
     """Waits until no other call, and no rt, works in the crate's folder, and keeps others out."""
     held = os.open(FOLDER, os.O_RDONLY)
     try:
@@ -71,7 +72,7 @@ def alone():
         os.close(held)
 
 
-def build(why, anew=False):
+def build(why: str, anew: bool = False) -> Checkout:
     """Proves and builds the program here, unless another call has done so meanwhile, and returns the checkout that it stands for."""
     with alone():
         here = Checkout()
@@ -92,7 +93,7 @@ def build(why, anew=False):
         return here
 
 
-def see_that_it_stands():
+def see_that_it_stands() -> None:
     here = Checkout()
     found, why = here.standing(), here.why_not_shipped()
     if found:
@@ -113,7 +114,7 @@ def see_that_it_stands():
     build(f", since {why}")
 
 
-def prove():
+def prove() -> int:
     here = build("", anew=True)
     if here.why_not_shipped():
         say(f"release isn't current, so there is nothing to compare: {here.why_not_shipped()}")
@@ -123,7 +124,7 @@ def prove():
     return 0 if is_same else NO_PROGRAM
 
 
-def main(words):
+def main(words: list[str]) -> int:
     if sys.stderr is None:
         # It is closed, and no other file may take its number.
         os.dup2(os.open(os.devnull, os.O_WRONLY), 2)

@@ -12,11 +12,14 @@ import shutil
 import signal
 import subprocess
 import time
+from collections.abc import Callable
 from math import ceil
 from pathlib import Path
 from subprocess import DEVNULL, PIPE, STDOUT
+from typing import Any
 
 from crates import Crates, stated, text_of
+from toolchain import Toolchain
 
 TARGET = "x86_64-unknown-linux-gnu"
 GB_OF_A_PROVER = 2.5
@@ -36,12 +39,12 @@ class NotBuilt(Exception):
     """Why there is no program."""
 
 
-def end_with_the_caller(how=signal.SIGKILL):
+def end_with_the_caller(how: int = signal.SIGKILL) -> None:
     """Has this process get a signal when the one that started it ends, however that ends."""
     LIBC.prctl(PR_SET_PDEATHSIG, how)
 
 
-def numbers(file):
+def numbers(file: str) -> list[int]:
     """The numbers that a file of a control group begins with: none where it sets no limit."""
     try:
         return [int(it) for it in re.match(r"(?:\d+\s*)*", Path("/sys/fs/cgroup", file).read_text())[0].split()]
@@ -49,7 +52,7 @@ def numbers(file):
         return []
 
 
-def workers():
+def workers() -> int:
     """How many provers there are processors and memory for."""
     quota, limit = numbers("cpu.max"), numbers("memory.max")
     processors = len(os.sched_getaffinity(0))
@@ -59,7 +62,7 @@ def workers():
     return max(1, min(processors, int(memory / 2**30 / GB_OF_A_PROVER)))
 
 
-def remove(path):
+def remove(path: Path) -> None:
     if path.is_dir():
         shutil.rmtree(path)
     else:
@@ -69,14 +72,14 @@ def remove(path):
 class Job:
     """A run of the compiler on a crate."""
 
-    def __init__(self, name, jobs, words, **where):
+    def __init__(self, name: str, jobs: int, words: list[str], **where: Any) -> None:
         self.name, self.jobs, self.begun = name, jobs, time.monotonic()
         self.run = subprocess.Popen(words, stdin=DEVNULL, stderr=STDOUT, preexec_fn=end_with_the_caller, **where)
 
-    def seconds(self):
+    def seconds(self) -> float:
         return time.monotonic() - self.begun
 
-    def stop(self):
+    def stop(self) -> None:
         self.run.kill()
         self.run.wait()
 
@@ -84,7 +87,7 @@ class Job:
 class Proving:
     """What stands in the folder `room`, what is being proved, and what is left of a program and the libraries below it."""
 
-    def __init__(self, crates, toolchain, program, room):
+    def __init__(self, crates: Crates, toolchain: Toolchain, program: str, room: Path) -> None:
         self.crates, self.toolchain, self.kit = crates, toolchain, toolchain.folder()
         self.program, self.room, self.names = program, room, crates.up_to(program)
         self.weights = {it: SECONDS + SECONDS_OF_A_LINE * crates.lines(it) for it in self.names}
@@ -96,19 +99,19 @@ class Proving:
         self.standing, self.running, self.killed, self.workers = set(), {}, set(), workers()
         self.weight_ended, self.seconds_of_ended = SECONDS_BEFORE_PACE, SECONDS_BEFORE_PACE
 
-    def built(self, name):
+    def built(self, name: str) -> Path:
         return self.room / (f"{name}.o" if name == self.program else f"{name}.rlib")
 
-    def note(self, name):
+    def note(self, name: str) -> Path:
         return self.room / f"{name}.sources"
 
-    def stated(self, name):
+    def stated(self, name: str) -> str:
         return stated(self.toolchain.identity, self.crates.digest(name))
 
-    def is_ready(self, name):
+    def is_ready(self, name: str) -> bool:
         return self.standing.issuperset(self.crates.libraries(name))
 
-    def take_what_stands(self):
+    def take_what_stands(self) -> None:
         """Takes what an earlier call built of the same libraries, and removes all else, such as what an interrupted one left."""
         self.room.mkdir(parents=True, exist_ok=True)
         for name in self.names:
@@ -121,7 +124,7 @@ class Proving:
             if it not in kept:
                 remove(it)
 
-    def words(self, name, jobs):
+    def words(self, name: str, jobs: int) -> list[str]:
         """The compiler's words for a crate, in whose folder it runs."""
         is_program = name == self.program
         words = [f"{self.kit}/bin/rattle", "build", "--crate-name", name, "src/main.rt" if is_program else "src/lib.rt"]
@@ -135,7 +138,7 @@ class Proving:
         # Those above a library read what it states, and not its proofs, as in the gate.
         return [*words, *(["--toolchain", f"{self.kit}/toolchain", "--backend", "llvm"] if is_program else ["--statements"])]
 
-    def begin(self):
+    def begin(self) -> None:
         ready = [it for it in self.left if self.is_ready(it)]
         for number, name in enumerate(ready):
             idle = self.workers - sum(it.jobs for it in self.running.values())
@@ -147,7 +150,7 @@ class Proving:
                 where = {"cwd": self.crates.folder(name), "stdout": log, "env": {**os.environ, **KEEPING, "TMPDIR": str(self.room)}}
                 self.running[name] = Job(name, jobs, self.words(name, jobs), **where)
 
-    def end(self):
+    def end(self) -> None:
         """Takes what has been built since the last call."""
         for job in [it for it in self.running.values() if it.run.poll() is not None]:
             del self.running[job.name]
@@ -158,7 +161,7 @@ class Proving:
             else:
                 self.keep(job)
 
-    def begin_again(self, name):
+    def begin_again(self, name: str) -> None:
         """Where a proof was killed, most likely for memory, fewer are proved at once."""
         if self.workers == 1 and name in self.killed:
             raise NotBuilt(f"the proof of {name} was killed, most likely for memory")
@@ -166,7 +169,7 @@ class Proving:
         self.workers = max(1, self.workers // 2)
         self.left.insert(0, name)
 
-    def keep(self, job):
+    def keep(self, job: Job) -> None:
         name = job.name
         if not Crates(self.crates.root).is_as_in(self.crates, name):
             raise NotBuilt(f"{name} was changed while it was proved")
@@ -177,7 +180,7 @@ class Proving:
         self.weight_ended += self.weights[name]
         self.seconds_of_ended += job.seconds()
 
-    def seconds_left(self):
+    def seconds_left(self) -> float:
         pace = self.seconds_of_ended / self.weight_ended
         been = {it.name: it.seconds() for it in self.running.values()}
         open_ones = [it for it in self.names if it not in self.standing]
@@ -185,12 +188,12 @@ class Proving:
         longest = max(pace * self.rows[it] - been.get(it, 0) for it in open_ones)
         return max(work / self.workers, longest)
 
-    def progress(self):
+    def progress(self) -> str:
         number, minutes = min(len(self.standing) + 1, len(self.names)), max(1, ceil(self.seconds_left() / 60))
         newest = max(self.running.values(), key=lambda it: it.begun).name
         return f"proving {number} of {len(self.names)}, {newest}, about {minutes} minute{'s' * (minutes > 1)} left"
 
-    def run(self, tell):
+    def run(self, tell: Callable[[str], None]) -> Path:
         """Builds the program, and returns where it stands. Now and then it tells how far it is."""
         self.take_what_stands()
         try:
@@ -204,7 +207,7 @@ class Proving:
                 it.stop()
         return self.linked()
 
-    def linked(self):
+    def linked(self) -> Path:
         """The program, linked and without the names that only a debugger reads."""
         whole, stripped = self.room / f"{self.program}.linked", self.room / self.program
         words = [f"{self.kit}/bin/rattle-link", "--target", TARGET, "--toolchain", f"{self.kit}/toolchain", "-o", whole]

@@ -7,6 +7,7 @@ import re
 import subprocess
 import tempfile
 from collections import defaultdict
+from collections.abc import Callable, Iterator, Mapping
 from concurrent.futures import ThreadPoolExecutor
 from fractions import Fraction
 from itertools import permutations, product
@@ -18,6 +19,9 @@ from typing import NamedTuple
 from evaluator.facts import MOST_FACTOR
 from simulator import reports
 
+# How often functions and markers came: on a path, and in each run.
+Counts = Mapping[str, int | Fraction]
+Runs = list[dict[str, int]]
 MAIN = "main"
 MOST_PROPOSED, MOST_ASKED, MOST_TERMS = 6, 24, 8
 # How many of another one the first name of a budget takes.
@@ -29,21 +33,21 @@ WORTH, NEAR = 100, 50
 
 class Relation(NamedTuple):
     """A sum that is at most so many times a name."""
-    left: tuple  # of (number, name)
-    right: tuple  # (number, name)
+    left: tuple[tuple[int, str], ...]
+    right: tuple[int, str]
 
-    def __str__(self):
+    def __str__(self) -> str:
         return f"{' + '.join(f'{number}*{name}' for number, name in self.left)} <= {self.right[0]}*{self.right[1]}"
 
-    def excess(self, counts):
+    def excess(self, counts: Counts) -> int | Fraction:
         """By how much counts break it."""
         return sum(number * counts.get(name, 0) for number, name in self.left) - self.right[0] * counts.get(self.right[1], 0)
 
-    def weight(self):
+    def weight(self) -> int:
         """The sum of its numbers: a restriction by small ones is more likely to be true of every input."""
         return sum(number for number, _ in (*self.left, self.right))
 
-    def is_known(self):
+    def is_known(self) -> bool:
         """Whether a source may have its numbers."""
         return all(number <= MOST_FACTOR for number, _ in (*self.left, self.right))
 
@@ -51,22 +55,22 @@ class Relation(NamedTuple):
 class Answered(NamedTuple):
     """What `compile` made of a source: the bound, and the counts on its path, or None where no path is listed."""
     cycles: int
-    counts: dict
+    counts: Counts | None
 
 
 # What may be asked
 
-def quotient(one, other):
+def quotient(one: int, other: int) -> int:
     return -(-one // other)
 
 
-def over_main(names, runs):
+def over_main(names: list[str], runs: Runs) -> Iterator[Relation]:
     """How often each came at most."""
     for name in names:
         yield Relation(((1, name),), (max(it[name] for it in runs), MAIN))
 
 
-def between(names, runs):
+def between(names: list[str], runs: Runs) -> Iterator[Relation]:
     """How often one came at most for each time that another did, and how many times another came at least for each of it."""
     for one, other in permutations(names, 2):
         if any(it[one] and not it[other] for it in runs) or not any(it[one] for it in runs):
@@ -76,7 +80,7 @@ def between(names, runs):
         yield Relation(((least, one),), (1, other)) if least > 1 else Relation(((1, one),), (most, other))
 
 
-def budgets(names, runs, path):
+def budgets(names: list[str], runs: Runs, path: Counts) -> Iterator[Relation]:
     """Sums of several: at most what another one gives, each with as many of it as it takes, or at most so many in a run."""
     for first in names:
         rest = [it for it in names if it != first]
@@ -85,7 +89,7 @@ def budgets(names, runs, path):
             yield from grown(first, [it for it in rest if it != other], path, lambda them: shared_sum(them, times, other, runs))
 
 
-def grown(first, rest, path, sum_of):
+def grown(first: str, rest: list[str], path: Counts, sum_of: Callable[[list[str]], Relation | None]) -> Iterator[Relation]:
     """A sum that begins with one name, and takes on what exceeds most."""
     names, best = [first], sum_of([first])
     while best and len(names) < MOST_TERMS:
@@ -98,11 +102,11 @@ def grown(first, rest, path, sum_of):
         yield best
 
 
-def unit_sum(names, runs):
+def unit_sum(names: list[str], runs: Runs) -> Relation:
     return Relation(tuple((1, it) for it in names), (max(sum(run[it] for it in names) for run in runs), MAIN))
 
 
-def shared_sum(names, times, other, runs):
+def shared_sum(names: list[str], times: int, other: str, runs: Runs) -> Relation | None:
     """The first name so many times, and each other one as many as all runs allow; or None where one comes without what it takes."""
     left, terms = [run[other] for run in runs], []
     for name in names:
@@ -115,7 +119,7 @@ def shared_sum(names, times, other, runs):
     return Relation(tuple(terms), (1, other))
 
 
-def candidates(names, runs, path):
+def candidates(names: list[str], runs: Runs, path: Counts) -> Iterator[Relation]:
     """What the runs kept and the path doesn't, what it breaks most first: of single names and of sums as many as there is room for."""
     found = [*over_main(names, runs), *between(names, runs), *budgets(names, runs, path)]
     broken = [it for it in dict.fromkeys(found) if it.is_known() and it.excess(path) > 0]
@@ -127,10 +131,10 @@ def candidates(names, runs, path):
 # Asking
 
 class Asking:
-    def __init__(self, program, source, options, room):
+    def __init__(self, program: str, source: bytes, options: list[str], room: str) -> None:
         self.program, self.source, self.options, self.room = program, source, options, Path(room)
 
-    def ask(self, relations):
+    def ask(self, relations: list[Relation]) -> Answered | None:
         """What `compile` makes of the source with these restrictions, or None where it refuses it."""
         lines = "".join(f"\n#pragma flowrestriction {it}" for it in relations)
         with tempfile.TemporaryDirectory(dir=self.room) as room:
@@ -147,7 +151,7 @@ class Asking:
             return Answered(int(match[1]), counts_in(named[2].read_bytes()) if match[2] == b"greatest" else None)
 
 
-def counts_in(data):
+def counts_in(data: bytes) -> Counts:
     """How often functions and markers come on the path that a report lists."""
     report = reports.read(data)
     counts = defaultdict(Fraction)
@@ -156,7 +160,7 @@ def counts_in(data):
     return {name: sum((counts[at] for at in places), Fraction(0)) for name, places in report.copies}
 
 
-def best_of(asking, taken, now, tried):
+def best_of(asking: Asking, taken: list[Relation], now: Answered, tried: list[Relation]) -> tuple[Answered, Relation] | None:
     """The restriction that lowers the bound most beside those that are taken, with what it gives; or None where none does by much."""
     with ThreadPoolExecutor(len(sched_getaffinity(0))) as pool:
         answers = [(it, relation) for it, relation in zip(pool.map(lambda it: asking.ask([*taken, it]), tried), tried) if it]
@@ -168,7 +172,7 @@ def best_of(asking, taken, now, tried):
     return min(near, key=lambda it: (it[1].weight(), it[0].cycles))
 
 
-def proposals(program, source, options, names, runs, room):
+def proposals(program: str, source: bytes, options: list[str], names: list[str], runs: Runs, room: str) -> tuple[int, list[tuple[str, int]]] | None:
     """The bound of the source, and restrictions with the bound that each gives with those before it; or None where it has none.
 
     What names are to each other comes before what they are in a run: the one may be so in every run, and the other depends on how

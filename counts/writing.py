@@ -2,9 +2,15 @@
 import os
 import re
 import stat
+from collections.abc import Iterator
 from pathlib import Path
 
-from places import printable
+from counts.said import Report
+from counts.seen import Seen
+from places import Place, printable
+
+# Of a file the bounds of loops, the least and the most, by their lines and columns.
+Bounds = dict[tuple[int, int], tuple[int, int]]
 
 MACRO, ALONE, WITHIN = "LOOPBOUND({}, {})", "#pragma loopbound min {} max {}", '_Pragma("loopbound min {} max {}")'
 ODD = "surrogateescape"
@@ -15,14 +21,14 @@ class Unwritten(Exception):
     """What is said can't be written, or a file: why."""
 
 
-def with_bounds(source, seen):
+def with_bounds(source: bytes, seen: Seen) -> bytes:
     """The source with the bound that was seen of each loop that has none."""
     bounds = sorted((loop.at, f'_Pragma("loopbound min {least} max {most}") '.encode()) for loop, least, most in seen.missing())
     ends = [0, *(at for at, _ in bounds)]
     return b"".join(source[start:at] + bound for start, (at, bound) in zip(ends, bounds)) + source[ends[-1]:]
 
 
-def write_new(path, data):
+def write_new(path: str, data: bytes) -> None:
     """Writes a file that isn't there yet, by no name and no link, whole or not at all."""
     try:
         file = open(path, "xb")
@@ -36,7 +42,7 @@ def write_new(path, data):
         raise Unwritten(f"`{printable(path)}` isn't written: {error.strerror}") from error
 
 
-def rewrite(path, data):
+def rewrite(path: str, data: bytes) -> None:
     """Writes a file apart, and then puts it in its place, with its rights."""
     path = os.path.realpath(path)
     apart = os.path.join(os.path.dirname(path), f".wcc-{os.getpid()}-{os.urandom(4).hex()}")
@@ -56,7 +62,7 @@ def rewrite(path, data):
 
 # The user's own files
 
-def by_files(report, seen):
+def by_files(report: Report, seen: Seen) -> tuple[dict[str, Bounds], list[Place]]:
     """The bounds by the files that their loops stand in, from line and column; and the places that aren't in such a file.
 
     The least is 0, which always holds and seldom makes a bound greater.
@@ -74,7 +80,7 @@ def by_files(report, seen):
     return files, elsewhere
 
 
-def bounded(text, bounds, has_macros):
+def bounded(text: str, bounds: Bounds, has_macros: bool) -> str:
     """A file's text with these bounds, each on a line of its own before its loop where nothing else stands there."""
     lines = text.split("\n")
     for (number, column), bound in sorted(bounds.items(), reverse=True):
@@ -89,7 +95,7 @@ def bounded(text, bounds, has_macros):
     return "\n".join(lines)
 
 
-def write_own(report, seen):
+def write_own(report: Report, seen: Seen) -> Iterator[str]:
     """Writes the bounds into the files that the loops stand in, and says so."""
     files, elsewhere = by_files(report, seen)
     has_macros = report.written().bound.startswith("LOOPBOUND")

@@ -3,13 +3,17 @@
 Each function answers the words of an entry of texts.txt and what fills it, or None where it can't be sure.
 """
 import re
+from collections.abc import Callable, Iterator
 
 from evaluator.parser import LOOP, OPERAND, SPECS, TYPE
 from evaluator.rules import BUILT_IN
 from evaluator.tokens import OUTSIDE_WORDS, PRAGMAS
 from names import (ANNOTATIONS, ASSEMBLY, AT_HAND, ATTRIBUTES, COMPILER_WORDS, HEADERS_OF_OTHERS, HEADERS_OF_TYPES,
                    is_compiler_word)
-from spot import CLOSING, OPENING, OUTSIDE
+from spot import CLOSING, OPENING, OUTSIDE, Spot
+
+# The words of an entry of texts.txt and what fills it, or None.
+Construct = tuple[str, ...] | None
 
 # What stands before a bracket that is none of an expression, and what an operand ends with.
 HEADS, OPERANDS = {"if", "while", "for", "switch"}, {"name", ")", "]"}
@@ -35,11 +39,12 @@ CHARACTERS = [
 ]
 
 
-class Elsewhere(tuple):
+class Elsewhere(tuple[str, ...]):
     """The words of an entry and what fills it, of which another place than that of the refusal is shown."""
+    at: int
 
     @classmethod
-    def of(cls, spot, ahead, *words):
+    def of(cls, spot: Spot, ahead: int, *words: str) -> "Elsewhere":
         construct = cls(words)
         construct.at = spot.token(ahead).at
         return construct
@@ -47,7 +52,7 @@ class Elsewhere(tuple):
 
 # What is outside by its tokens
 
-def outside(spot):
+def outside(spot: Spot) -> Construct:
     text = spot.text()
     if text in ("#", "##"):
         return ("inner directive", spot.text(1)) if spot.text(1) in DIRECTIVES | {"pragma"} else ("paste",)
@@ -67,12 +72,12 @@ def outside(spot):
     return keyword(spot, text) if text in OUTSIDE_WORDS else None
 
 
-def directive(text):
+def directive(text: str) -> Construct:
     word = DIRECTIVE.match(text)[1]
     return ("directive", word) if word in DIRECTIVES else None
 
 
-def number(text):
+def number(text: str) -> Construct:
     if whole := WHOLE.fullmatch(text):
         return whole_number(*whole.groups())
     if FLOATING.fullmatch(text):
@@ -80,7 +85,7 @@ def number(text):
     return ("octal", text) if re.fullmatch(r"0[0-9]+[uUlL]*", text) else ("no number", text[:40])
 
 
-def whole_number(digits, suffix):
+def whole_number(digits: str, suffix: str) -> Construct:
     base = {"0x": 16, "0b": 2}.get(digits[:2].lower(), 8 if digits[0] == "0" else 10)
     value = int(digits, base) if len(digits) < 100 else 1 << 64
     if value >= 1 << 32 or "ll" in suffix.lower():
@@ -88,7 +93,7 @@ def whole_number(digits, suffix):
     return ("binary constant", hex(value)) if base == 2 else ("unsigned constant", digits)
 
 
-def quoted(spot, text):
+def quoted(spot: Spot, text: str) -> Construct:
     if text[0] in "LuU":
         return ("wide",)
     if text[0] == "'":
@@ -103,7 +108,7 @@ def quoted(spot, text):
     return ("static assertion",) if called[:1] == ["static_assert"] else ("string",)
 
 
-def calls_around(spot):
+def calls_around(spot: Spot) -> Iterator[str]:
     """The names before the brackets that are open at the place, from the innermost on."""
     opening = 0
     while (opening := spot.opening(opening)) is not None and spot.kind(opening) == "(":
@@ -111,7 +116,7 @@ def calls_around(spot):
             yield called
 
 
-def before_bracket(spot, opening):
+def before_bracket(spot: Spot, opening: int) -> str | None:
     """The name before an open bracket, or before what may stand between `asm` and its bracket."""
     place = opening - 1
     while spot.text(place) in OF_ASSEMBLY:
@@ -119,7 +124,7 @@ def before_bracket(spot, opening):
     return spot.text(place) if spot.kind(place) == "name" and (place == opening - 1 or spot.text(place) in ASSEMBLY) else None
 
 
-def dots(spot):
+def dots(spot: Spot) -> Construct:
     opening = spot.opening(0)
     around = None if opening is None else spot.kind(opening)
     if around == "(" and spot.kind(-1) in (",", "(") and spot.kind(1) == ")":
@@ -132,7 +137,7 @@ def dots(spot):
     return ("case range",) if spot.kind(ahead) == "case" else None
 
 
-def keyword(spot, word):
+def keyword(spot: Spot, word: str) -> Construct:
     place = -1
     while spot.text(place) in OF_ASSEMBLY:
         place -= 1
@@ -143,7 +148,7 @@ def keyword(spot, word):
     return (KEYWORDS.get(word, word),)
 
 
-def has_bit_field(spot):
+def has_bit_field(spot: Spot) -> bool:
     """Whether a member of the structure that begins here has a width."""
     ahead = 2 if spot.kind(1) == "name" else 1
     if spot.kind(ahead) != "{":
@@ -154,7 +159,7 @@ def has_bit_field(spot):
 
 # What is outside by its grammar
 
-def syntax(spot):
+def syntax(spot: Spot) -> Construct:
     wanted = spot.wanted()
     if wanted is None:
         return None
@@ -167,7 +172,7 @@ def syntax(spot):
     return annotation(spot) or compiler_word(spot) or SIGNS.get(spot.kind(), lambda *_: None)(spot, wanted)
 
 
-def annotation(spot):
+def annotation(spot: Spot) -> Construct:
     """A macro of <wcc.h> without its header, at the place or before it."""
     if spot.text() in ANNOTATIONS:
         return lacking(spot, 0)
@@ -176,12 +181,12 @@ def annotation(spot):
     return lacking(spot, opening - 1) if opening is not None and spot.text(opening - 1) in ANNOTATIONS else None
 
 
-def lacking(spot, ahead):
+def lacking(spot: Spot, ahead: int) -> Elsewhere:
     """A name of a header of include/ that isn't included."""
     return Elsewhere.of(spot, ahead, "lacking header", spot.text(ahead), AT_HAND[spot.text(ahead)])
 
 
-def compiler_word(spot):
+def compiler_word(spot: Spot) -> Construct:
     """A word of a compiler at the place, before it, or before the brackets around it or before it."""
     heads = [0, -1]
     opening = 0
@@ -199,7 +204,7 @@ def compiler_word(spot):
     return None
 
 
-def star(spot, wanted):
+def star(spot: Spot, wanted: str) -> Construct:
     if spot.kinds(-1, "[", "*", "]"):
         return ("size in brackets",)
     opening = spot.opening(0)
@@ -209,15 +214,15 @@ def star(spot, wanted):
     return ("pointer",) if is_operator or wanted == "name" or spot.kind(-1) in SPECS else None
 
 
-def ampersand(spot, wanted):
+def ampersand(spot: Spot, wanted: str) -> Construct:
     return ("address",) if wanted == OPERAND and spot.kind(1) in OBJECTS else None
 
 
-def two_ampersands(spot, wanted):
+def two_ampersands(spot: Spot, wanted: str) -> Construct:
     return ("goto",) if wanted == OPERAND and spot.kind(1) == "name" and spot.kind(-1) in ("=", "(", ",", "{") else None
 
 
-def square(spot, wanted):
+def square(spot: Spot, wanted: str) -> Construct:
     before = spot.kind(-1)
     if spot.kind(1) == "[" and (wanted == TYPE or wanted == OPERAND and spot.begins_statement(0)):
         return ("attribute",)
@@ -231,7 +236,7 @@ def square(spot, wanted):
     return ("indexed expression",) if before == ")" and not spot.is_declarator(-1) else None
 
 
-def round_bracket(spot, wanted):
+def round_bracket(spot: Spot, wanted: str) -> Construct:
     before = spot.kind(-1)
     if before in SPECS:
         return bracketed_declarator(spot)
@@ -250,20 +255,20 @@ def round_bracket(spot, wanted):
     return cast_to(spot, opening) if is_cast else ("called expression",)
 
 
-def bracketed_declarator(spot):
+def bracketed_declarator(spot: Spot) -> Construct:
     closing = spot.closing(0)
     if spot.kind(1) == "*" and closing is not None:
         return ("function pointer",) if spot.kind(closing + 1) == "(" else ("pointer",)
     return ("bracketed declarator",) if spot.kinds(1, "name", ")") else None
 
 
-def cast_to(spot, opening):
+def cast_to(spot: Spot, opening: int) -> Construct:
     """`(name)` before an operand, which only a cast would be, or before a bracket, which a call could be too."""
     is_type = spot.kind() != "(" or spot.text(opening + 1) in HEADERS_OF_TYPES
     return type_name(spot, opening + 1) if is_type else ("called expression",)
 
 
-def brace(spot, wanted):
+def brace(spot: Spot, wanted: str) -> Construct:
     before = spot.kind(-1)
     if wanted == OPERAND and before == "(":
         return ("statement expression",) if spot.kind(-2) not in HEADS | OPERANDS else None
@@ -276,57 +281,57 @@ def brace(spot, wanted):
     return ("nested function",) if wanted == ";" and spot.in_block() and spot.is_declarator(-1) else None
 
 
-def closing_brace(spot, wanted):
+def closing_brace(spot: Spot, wanted: str) -> Construct:
     return ("empty list",) if wanted == OPERAND and spot.kinds(-2, "=", "{") else None
 
 
-def colon(spot, wanted):
+def colon(spot: Spot, wanted: str) -> Construct:
     if spot.kind(-1) == "?":
         return ("omitted operand",)
     is_label = wanted == ";" and spot.kind(-1) == "name" and spot.begins_statement(-1)
     return ("label",) if is_label and spot.kind(1) != ":" else None
 
 
-def semicolon(spot, wanted):
+def semicolon(spot: Spot, wanted: str) -> Construct:
     return ("lone semicolon",) if wanted == TYPE and spot.opening(0) is None else None
 
 
-def comma(spot, wanted):
+def comma(spot: Spot, wanted: str) -> Construct:
     return ("several functions",) if wanted == ";" and spot.kind(-1) == ")" and spot.is_declarator(-1) else None
 
 
-def equals(spot, wanted):
+def equals(spot: Spot, wanted: str) -> Construct:
     """`T *p = e`, where `T` is no type: read as a product, to which nothing is assigned."""
     is_pointer = spot.kinds(-3, "name", "*", "name") and spot.begins_statement(-3)
     return type_name(spot, -3) if wanted == ";" and is_pointer else None
 
 
-def specs_word(spot, wanted):
+def specs_word(spot: Spot, wanted: str) -> Construct:
     """`a[static 3]`, and `T *const p` where `T` is no type."""
     if wanted == OPERAND and spot.kind(-1) == "[":
         return ("size in brackets",)
     return type_name(spot, -2) if spot.kinds(-2, "name", "*") and spot.begins_statement(-2) else None
 
 
-def closing_round(spot, wanted):
+def closing_round(spot: Spot, wanted: str) -> Construct:
     """`(T *)e`, where `T` is no type."""
     is_group = spot.kinds(-3, "(", "name", "*") and spot.kind(-4) not in HEADS | OPERANDS
     return type_name(spot, -2) if is_group and spot.kind(1) in ("name", "(", "&", "number") else None
 
 
-def label_word(spot, wanted):
+def label_word(spot: Spot, wanted: str) -> Construct:
     if wanted != OPERAND or not spot.begins_statement(0):
         return None
     return ("nested label",) if spot.in_switch() else ("lone label",)
 
 
-def name(spot, wanted):
+def name(spot: Spot, wanted: str) -> Construct:
     if wanted == TYPE:
         return param_name(spot) if spot.opening(0) is not None else outer_name(spot)
     return behind_name(spot, wanted)
 
 
-def outer_name(spot):
+def outer_name(spot: Spot) -> Construct:
     """A name with which an item of file level begins."""
     if spot.kind(1) in ("name", "*"):
         return type_name(spot, 0)
@@ -343,7 +348,7 @@ def outer_name(spot):
     return ("unknown word", spot.text()) if behind > closing + 1 else None
 
 
-def param_name(spot):
+def param_name(spot: Spot) -> Construct:
     """A name where a parameter's type must stand."""
     if spot.kind(1) in ("name", "*") or spot.kind(1) in SPECS:
         return type_name(spot, 0)
@@ -362,7 +367,7 @@ def param_name(spot):
     return ("old definition",) if are_names and (behind == "name" or behind in SPECS) else None
 
 
-def behind_name(spot, wanted):
+def behind_name(spot: Spot, wanted: str) -> Construct:
     """A name behind another one, which only a type's name could be; or behind a name in brackets, as behind a cast."""
     if spot.kind(-1) == "name" and spot.on_one_line(-1, 0):
         if spot.begins_statement(-1) or spot.kind(-2) in QUALIFIERS and only_qualifiers(spot):
@@ -370,12 +375,12 @@ def behind_name(spot, wanted):
     return operand_behind(spot, wanted)
 
 
-def operand_behind(spot, wanted):
+def operand_behind(spot: Spot, wanted: str) -> Construct:
     is_cast = wanted != OPERAND and spot.kinds(-3, "(", "name", ")") and spot.kind(-4) not in HEADS | OPERANDS
     return cast_to(spot, -3) if is_cast else None
 
 
-def only_qualifiers(spot):
+def only_qualifiers(spot: Spot) -> bool:
     """Whether the words before the name before the place name no type."""
     ahead = -2
     while spot.kind(ahead) in QUALIFIERS:
@@ -383,7 +388,7 @@ def only_qualifiers(spot):
     return spot.kind(ahead) not in SPECS
 
 
-def type_name(spot, ahead):
+def type_name(spot: Spot, ahead: int) -> Construct:
     """A name where only that of a type could stand. One that stands before is that of an object or a function."""
     text = spot.text(ahead)
     if text in AT_HAND:
@@ -401,11 +406,11 @@ SIGNS = {"*": star, "&": ampersand, "&&": two_ampersands, "[": square, "(": roun
 
 # What is outside by its types and names
 
-def typed(spot, rule):
+def typed(spot: Spot, rule: int) -> Construct:
     return RULES.get(rule, lambda _: None)(spot)
 
 
-def words_of_type(spot):
+def words_of_type(spot: Spot) -> Construct:
     """Rule 1: words that spell no type, or stand where they may not."""
     is_cast = spot.kind() == "("
     words, behind = spot.specs(1 if is_cast else 0)
@@ -423,7 +428,7 @@ def words_of_type(spot):
     return ("extern object",) if "extern" in words else None
 
 
-def undeclared(spot):
+def undeclared(spot: Spot) -> Construct:
     """Rule 2: a name that isn't declared."""
     text = spot.text()
     if spot.kind() != "name":
@@ -445,7 +450,7 @@ def undeclared(spot):
     return ("type name", text) if is_pointer else None
 
 
-def not_constant(spot):
+def not_constant(spot: Spot) -> Construct:
     """Rule 4: a name stands in what must be constant: in an array's size, in a label, or in a value at file level."""
     if spot.kind() == "case":
         ahead = 1
@@ -468,7 +473,7 @@ def not_constant(spot):
     return ("variable array",) if is_local else ("constant name", spot.text(names[0]))
 
 
-def far_shift(spot, first, behind):
+def far_shift(spot: Spot, first: int, behind: int) -> Construct:
     """A shift of a number between two distances, whose value is no int."""
     for ahead in range(first, behind):
         if spot.kinds(ahead, "number", "<<", "number"):
@@ -479,7 +484,7 @@ def far_shift(spot, first, behind):
     return None
 
 
-def second_declaration(spot):
+def second_declaration(spot: Spot) -> Construct:
     """Rule 3 at an object of file level that was declared with the same words."""
     words, seen, depth = [], [], 0
     for place, it in enumerate(spot.tokens[:spot.index + 1]):
@@ -495,12 +500,12 @@ def second_declaration(spot):
     return None
 
 
-def array_value(spot):
+def array_value(spot: Spot) -> Construct:
     """Rule 6 at an array's name, and not at an index of what is no array."""
     return ("array value",) if spot.kind() == "name" and spot.kind(1) != "[" else None
 
 
-def function_value(spot):
+def function_value(spot: Spot) -> Construct:
     """Rule 7 at a function's name that isn't called."""
     return ("function pointer",) if spot.kind() == "name" and spot.kind(1) != "(" else None
 
@@ -510,7 +515,7 @@ RULES = {1: words_of_type, 2: undeclared, 3: second_declaration, 4: not_constant
 
 # What no token begins with
 
-def bad(source, at):
+def bad(source: bytes, at: int) -> Construct:
     """A byte or a piece with which no token begins."""
     rest = source[at:at + 200]
     if rest.startswith(b"\xef\xbb\xbf") and not at:
@@ -526,7 +531,7 @@ def bad(source, at):
     return ("other letter",) if rest[:1] >= b"\x80" else ("dollar",) if rest.startswith(b"$") else None
 
 
-def found(line, source, at, spot):
+def found(line: list[str], source: bytes, at: int, spot: Callable[[bytes, int], Spot]) -> Construct:
     """The construct that a line of refusal speaks of, or None. `spot` makes the tokens around the place."""
     if line[1] == "bad":
         return bad(source, at)

@@ -12,10 +12,16 @@ sys.path[:0] = [HERE, os.path.dirname(HERE)]
 import guard  # noqa: E402
 import re  # noqa: E402
 import stat  # noqa: E402
+from collections.abc import Callable, Iterator, Sequence  # noqa: E402
 from itertools import takewhile  # noqa: E402
+from typing import Any, TypeVar  # noqa: E402
 
-from places import Lines, printable  # noqa: E402
+from places import Lines, Place, printable  # noqa: E402
 
+Result = TypeVar("Result")
+# The lines below the words of each entry of texts.txt; and a construct, or None, with the facts that the files show.
+Table = dict[str, list[str]]
+Found = tuple[tuple[str, ...] | None, list[tuple[Any, ...]]]
 TEXTS = os.path.join(HERE, "texts.txt")
 COMMANDS = ("compile", "run", "eval", "check", "report", "make", "respond")
 # Lines of these kinds end with a byte place in the source, unless they speak of another file.
@@ -24,7 +30,8 @@ ELSEWHERE = ("image-", "report-", "table-", "tasks-")
 FROM_SOURCE = ("compile", "eval")
 # The options of commands, each with the numbers that it takes, or None where it takes a file's name; flags take nothing.
 FLAG = "flag"
-OPTIONS = {"compile": {"--spm": range(65537), "--unroll": range(1, 65), "--inline": range(10001), "--table": None, "--derive": FLAG},
+Options = dict[str, range | str | None]
+OPTIONS: dict[str, Options] = {"compile": {"--spm": range(65537), "--unroll": range(1, 65), "--inline": range(10001), "--table": None, "--derive": FLAG},
            "run": {"--limit": range((1 << 62) + 1), "--table": None}, "eval": {"--derive": FLAG},
            "check": {"--table": None}, "respond": {"--table": None}}
 # Which of the files that the words name by their places are read, and which are written.
@@ -37,12 +44,12 @@ MOST_SOURCE = 1048576
 MOST_LINKS = 6
 
 
-def read_texts():
+def read_texts() -> str:
     with open(TEXTS, encoding="utf-8") as file:
         return file.read()
 
 
-def entries():
+def entries() -> Table:
     """The table: the words of each entry, and the lines below it."""
     table, name = {}, None
     for line in read_texts().split("\n"):
@@ -54,7 +61,7 @@ def entries():
     return table
 
 
-def quietly(work):
+def quietly(work: Callable[[], Result]) -> Result | None:
     """What the work gives, or None where it fails."""
     try:
         return work()
@@ -62,7 +69,7 @@ def quietly(work):
         return None
 
 
-def source_of(path):
+def source_of(path: str) -> bytes | None:
     """The bytes of a source, or None where it is no plain file that can be read again."""
     if not stat.S_ISREG(os.stat(path).st_mode):
         return None
@@ -73,7 +80,7 @@ def source_of(path):
 class Call:
     """A line of wcc and the call that it answers: the lines of the source, if there is one, and the place in it, or None."""
 
-    def __init__(self, line, words):
+    def __init__(self, line: str, words: list[str]) -> None:
         self.line, self.command = line.split(), words[0] if words else None
         placed, named, _ = parted(OPTIONS.get(self.command, {}), words[1:])
         self.derives = "--derive" in takewhile(lambda it: it != "--", words)
@@ -83,7 +90,7 @@ class Call:
         self.lines = None if source is None else Lines(placed[0], source)
         self.at = self.place()
 
-    def place(self):
+    def place(self) -> int | None:
         """The place in the source that the line names."""
         line = self.line
         if self.lines is None or line[0] not in PLACED or line[1].startswith(ELSEWHERE):
@@ -91,7 +98,7 @@ class Call:
         at = int(line[-1])
         return at if at <= len(self.lines.source) else None
 
-    def asked(self):
+    def asked(self) -> list[str]:
         """The words by which the line is looked up: what is broken, and whether a source ends too early, among them; of a bound its
         kind before its number."""
         line = list(self.line)
@@ -105,7 +112,7 @@ class Call:
             line.insert(2, "end")
         return line
 
-    def found_out(self):
+    def found_out(self) -> Found | None:
         """The construct at the place, or None, and the facts that the files show; None where nothing can be found out."""
         if self.lines is None and self.line[1:] != ["fault"]:
             return None
@@ -114,13 +121,13 @@ class Call:
         import findings
         files = findings.Files(self.lines, self.reads, self.writes, self.derives)
 
-        def both():
+        def both() -> Found:
             construct = quietly(lambda: self.at is not None and findings.construct(self.line, files, self.at))
             return construct or None, quietly(lambda: findings.facts(self.asked(), files, self.at)) or []
         return with_deep_stack(both)
 
 
-def entry_of(table, line):
+def entry_of(table: Table, line: list[str]) -> tuple[list[str] | None, list[str]]:
     """The longest beginning of a line that the table has, and the words behind it."""
     for count in range(len(line), 0, -1):
         if " ".join(line[:count]) in table:
@@ -128,22 +135,22 @@ def entry_of(table, line):
     return None, []
 
 
-def filled(text, words):
+def filled(text: str, words: Sequence[str]) -> str:
     return re.sub(r"\{([1-9])\}", lambda it: words[int(it[1]) - 1], text)
 
 
-def chain_of(table, key, links):
+def chain_of(table: Table, key: str, links: list[tuple[str, ...]]) -> str:
     """A chain of calls or loops, shown at both its ends where it is long."""
     said = [filled(table[f"found {key}"][0], [printable(word) for word in it]) for it in links]
     return ", ".join(said if len(said) <= 2 * MOST_LINKS else said[:MOST_LINKS] + ["..."] + said[-MOST_LINKS:])
 
 
-def fact_of(table, fact):
+def fact_of(table: Table, fact: tuple[Any, ...]) -> str:
     key, *words = fact
     return filled(table[f"found {key}"][0], [printable(it) if isinstance(it, str) else chain_of(table, *it) for it in words])
 
 
-def construct_of(table, construct):
+def construct_of(table: Table, construct: tuple[str, ...]) -> list[str]:
     """The lines of a construct, and the page that says what to write, unless they say all."""
     key, *words = construct
     is_other = f"other {key}" in table
@@ -151,7 +158,7 @@ def construct_of(table, construct):
     return [filled(it, [printable(it) for it in words]) for it in texts] + ([] if is_other else table["construct"])
 
 
-def included(table, place):
+def included(table: Table, place: Place) -> Iterator[str]:
     """How the file of a place comes into the source."""
     if includers := ", and that at ".join(place.includers()):
         yield filled(table["found included"][0], [includers])
@@ -159,7 +166,7 @@ def included(table, place):
             yield table["found system"][0]
 
 
-def explained(table, line, words):
+def explained(table: Table, line: str, words: list[str]) -> list[str]:
     """What there is to say of a line, but for `usage`."""
     call = Call(line, words)
     if call.line[0] == "response":
@@ -179,7 +186,7 @@ def explained(table, line, words):
     return [f"{place}: {headline}", *place.shown(), *included(table, place), *facts, *more]
 
 
-def cycles_in(path):
+def cycles_in(path: str) -> int | None:
     """The cycles that a report says, in its first lines, or None."""
     if not stat.S_ISREG(os.stat(path).st_mode):
         return None
@@ -188,7 +195,7 @@ def cycles_in(path):
     return int(match[1]) if match else None
 
 
-def taken(tasks, number):
+def taken(tasks: list[list[str]], number: int) -> str:
     """What the period of a late task is taken by: its own job, and the jobs above it that begin in it."""
     (_, _, period, _, report), above = tasks[number - 1], tasks[:number - 1]
     own, cycles = cycles_in(report), [cycles_in(task[4]) for task in above]
@@ -197,19 +204,19 @@ def taken(tasks, number):
     return f"{', '.join(parts)}: {own + sum(count * it for count, it in zip(jobs, cycles))} cycles"
 
 
-def list_of(words):
+def list_of(words: list[str]) -> tuple[str, list[str]]:
     """The name of the list of tasks, and its lines; an error where it can't be read again."""
     path = parted(OPTIONS["respond"], words[1:])[0][0]
     return path, [printable(it) for it in source_of(path).decode(errors="replace").split("\n")]
 
 
-def joined(names):
+def joined(names: Sequence[str]) -> str:
     """A list of names as people say it, its middle left out where it is long."""
     names = list(names) if len(names) <= 2 * MOST_LINKS else [*names[:MOST_LINKS], "..", *names[-MOST_LINKS:]]
     return names[0] if len(names) == 1 else f"{', '.join(names[:-1])} and {names[-1]}"
 
 
-def empties_of(table, words):
+def empties_of(table: Table, words: list[str]) -> list[str]:
     """What there is to say of tasks whose reports are empty."""
     from contradictions import is_empty
     tasks = [it.split(" ") for it in list_of(words)[1] if it]
@@ -217,7 +224,7 @@ def empties_of(table, words):
     return [f"wcc: {filled(table['found empty report'][0], [joined(names)])}"] if names else []
 
 
-def overlaps_of(table, words):
+def overlaps_of(table: Table, words: list[str]) -> list[str]:
     """What there is to say of responses: in which regions images lie at the same addresses, and what that means."""
     from overlaps import overlapping, spans_of
     tasks = [it.split(" ") for it in list_of(words)[1] if it]
@@ -227,7 +234,7 @@ def overlaps_of(table, words):
     return [f"wcc: {it}" for it in said] + table["response"] if said else []
 
 
-def late_of(table, number, words):
+def late_of(table: Table, number: int, words: list[str]) -> list[str] | None:
     """What there is to say of a task that is late, where the list can be read again, or None."""
     try:
         path, lines = list_of(words)
@@ -244,11 +251,11 @@ def late_of(table, number, words):
     return shown + more
 
 
-def number_of(count):
+def number_of(count: int) -> str:
     return "one file" if count == 1 else f"{count} files"
 
 
-def wrong_value(numbers, value):
+def wrong_value(numbers: range | None, value: str | None) -> str | None:
     """What is wrong with the value of an option, or None."""
     if value is None or value.startswith("-") and value != "-":
         return "has no value"
@@ -257,7 +264,7 @@ def wrong_value(numbers, value):
     return None
 
 
-def parted(options, given):
+def parted(options: Options, given: list[str]) -> tuple[list[str], list[str], str | None]:
     """The files that words name by their places, those that options name, and what is wrong with an option, or None."""
     placed, named, seen = [], [], set()
     words = iter(given)
@@ -283,7 +290,7 @@ def parted(options, given):
     return placed, named, None
 
 
-def wrong_words(called, given):
+def wrong_words(called: str, given: list[str]) -> str:
     """Why a command with the words that it has can't be called so."""
     command, *names = called.split(" [")[0].split()[1:]
     placed, named, wrong = parted(OPTIONS.get(command, {}), given)
@@ -301,7 +308,7 @@ def wrong_words(called, given):
     return "wcc: The name of a file is no UTF-8:"
 
 
-def usage(table, words):
+def usage(table: Table, words: list[str]) -> list[str]:
     """How the command that was asked for is called, or which ones there are."""
     word = words[0] if words else None
     if word in ("help", "--help", "-h"):
@@ -313,7 +320,7 @@ def usage(table, words):
     return said + table["help"]
 
 
-def main(output, words):
+def main(output: str, words: list[str]) -> int:
     table = entries()
     line = output.split("\n")[0]
     said = usage(table, words) if line == "usage" else explained(table, line, words)

@@ -7,6 +7,8 @@ import os
 import re
 import stat
 import time
+from collections.abc import Callable, Iterable, Iterator
+from typing import Any
 
 import constructs
 import forms
@@ -14,13 +16,16 @@ from contradictions import contradicting
 from evaluator import tree
 from evaluator.answer import program_of
 from evaluator.facts import MOST_STARTS, Facts, greatest_starts, marker_name, relation_of
-from evaluator.kinds import Undefined
+from evaluator.kinds import Kind, Undefined
 from evaluator.meaning import Broken, Program
 from evaluator.parser import Parser, TooDeep, unit_of
 from evaluator.rules import MOST, Checker, Routine, RuleFault, Thing, check, count_params
 from evaluator.tokens import comment_end, tokens_of
+from places import Lines
 from spot import Spot
 
+# The words of an entry of texts.txt and what fills it: texts, and the parts of a chain under the name of their entry.
+Fact = tuple[Any, ...]
 # A run is followed for so long, of a processor.
 SECONDS = 1.0
 # The facts on the numbers by which a run is undefined, by its rules.
@@ -35,37 +40,40 @@ BOUNDS = re.compile(rb"[ \t]*loopbound[ \t]+min[ \t]+(\w+)[ \t]+max[ \t]+(\w+)[ 
 class Files:
     """The files of a call: the source with its lines, and the names of those that it reads and writes; and whether bounds are derived."""
 
-    def __init__(self, lines, reads, writes, derive):
+    def __init__(self, lines: Lines | None, reads: list[str], writes: list[str], derive: bool) -> None:
         self.lines, self.reads, self.writes, self.derive = lines, reads, writes, derive
-        self.source = lines and lines.source
+        self.source = b"" if lines is None else lines.source
 
-    def at(self, place):
+    def at(self, place: int) -> str:
         return str(self.lines.place(place))
 
 
-def construct(line, files, at):
+Finder = Callable[[Files, Any], Iterable[Fact]]
+
+
+def construct(line: list[str], files: Files, at: int) -> constructs.Construct:
     """The entry of what is refused at a place, or None."""
     return constructs.found(line, files.source, at, Spot)
 
 
-def facts(line, files, at):
+def facts(line: list[str], files: Files, at: int | None) -> list[Fact]:
     finder = FINDERS.get(" ".join(line[:2])) or FINDERS.get(line[0])
     return list(finder(files, at)) if finder else []
 
 
 # Calls
 
-def calls_below(function):
+def calls_below(function: tree.Node) -> list[tree.Call]:
     return [it for it in tree.nodes_of(function) if isinstance(it, tree.Call) and it.refers.node is not None]
 
 
-def chain(files, steps):
+def chain(files: Files, steps: list[tuple[str, tree.Call]]) -> list[Fact]:
     """A fact for a chain of calls: each the name of who calls, and the call."""
     parts = [(caller, call.name, files.at(call.at)) for caller, call in steps]
     return [("chain", ("call", parts))] if parts else []
 
 
-def cycle(files, at):
+def cycle(files: Files, at: int) -> list[Fact]:
     """How the function that is named at the place calls itself, by as few calls as can be."""
     checker = check(unit_of(tokens_of(files.source), len(files.source)))
     start = next(it for it in checker.definitions if it.node.name_at == at)
@@ -88,24 +96,24 @@ class Late(Exception):
 class Followed(Program):
     """A run that notes the calls that it is in, for some time."""
 
-    def __init__(self, checker, facts, data):
+    def __init__(self, checker: Checker, facts: Facts, data: bytes) -> None:
         self.ends_at = time.process_time() + SECONDS
         super().__init__(checker, facts, data)
 
-    def starts_body(self, loop, starts):
+    def starts_body(self, loop: tree.Loop, starts: int) -> None:
         self.in_time()
         super().starts_body(loop, starts)
 
-    def enters(self, call):
+    def enters(self, call: tree.Call) -> None:
         self.in_time()
         super().enters(call)
 
-    def in_time(self):
+    def in_time(self) -> None:
         if time.process_time() > self.ends_at:
             raise Late
 
 
-def input_of(name):
+def input_of(name: str) -> bytes | None:
     """The bytes of an input that can be read again, or None."""
     if not (stat.S_ISREG(os.stat(name).st_mode) or os.path.samefile(name, os.devnull)):
         return None
@@ -113,7 +121,7 @@ def input_of(name):
         return file.read()
 
 
-def run_to(files, at):
+def run_to(files: Files, at: int) -> Iterator[Fact]:
     """How the run comes to the place where it ends: the calls that it is in."""
     data = input_of(files.reads[1])
     if data is None:
@@ -131,7 +139,7 @@ def run_to(files, at):
         return
 
 
-def tested(files, event):
+def tested(files: Files, event: Exception) -> Iterator[Fact]:
     """By what a division by zero is asked for, where a header of include/ has it so."""
     if not isinstance(event, Undefined) or event.rule != 2:
         return
@@ -141,7 +149,7 @@ def tested(files, event):
         yield ("wide",)
 
 
-def how_ended(event):
+def how_ended(event: Exception) -> Iterator[Fact]:
     """The numbers by which a run is undefined, or how often a loop started: as often as it may and once more, or too seldom."""
     if isinstance(event, Undefined) and event.numbers:
         yield NUMBERS[event.rule], *map(str, event.numbers)
@@ -151,7 +159,7 @@ def how_ended(event):
 
 # Limits
 
-def named(node):
+def named(node: tree.Node) -> tuple[str, int]:
     """The name and the place of a part of file level."""
     if isinstance(node, tree.Function):
         return node.name, node.name_at
@@ -160,19 +168,19 @@ def named(node):
     return getattr(node, "name", "flowrestriction"), node.at
 
 
-def unit(files):
+def unit(files: Files) -> tree.Unit:
     return unit_of(tokens_of(files.source), len(files.source))
 
 
-def largest_part(files, _):
+def largest_part(files: Files, _: int | None) -> Iterator[Fact]:
     sizes = [(sum(1 for _ in tree.nodes_of(it)), it) for it in unit(files).items]
     size, item = max(sizes, key=lambda it: it[0])
     name, at = named(item)
     yield "largest", name, files.at(at), str(size)
 
 
-def largest_object(in_function):
-    def find(files, _):
+def largest_object(in_function: bool) -> Finder:
+    def find(files: Files, _: int | None) -> Iterator[Fact]:
         """The object of the most bytes, at file level or within functions."""
         checker = Checker(unit(files))
         checker.run()
@@ -183,7 +191,7 @@ def largest_object(in_function):
     return find
 
 
-def too_deep(files, _):
+def too_deep(files: Files, _: int | None) -> Iterator[Fact]:
     parser = Parser(tokens_of(files.source), len(files.source))
     try:
         parser.unit()
@@ -191,7 +199,7 @@ def too_deep(files, _):
         yield "deep", files.at(parser.tokens[parser.next - 1].at)
 
 
-def heaviest(files, _):
+def heaviest(files: Files, _: int | None) -> Iterator[Fact]:
     """The loops, one in another, in which the most is executed by the bounds."""
     checker = Checker(unit(files))
     checker.run()
@@ -207,7 +215,7 @@ def heaviest(files, _):
         yield "heaviest", ("loop", loops)
 
 
-def parts_of(node):
+def parts_of(node: tree.Node) -> Iterator[tuple[int, tree.Node]]:
     """The parts of a node and the function that it calls, each with how often the node executes it at most."""
     times = max(1, greatest_starts(node)) if isinstance(node, tree.Loop) else 1
     once = [getattr(node, "start", None)]
@@ -216,7 +224,7 @@ def parts_of(node):
     yield from ((1 if it in once else times, it) for it in node.parts())
 
 
-def many_parameters(files, _):
+def many_parameters(files: Files, _: int | None) -> Iterator[Fact]:
     node = next(it for it in tree.nodes_of(unit(files))
                 if isinstance(it, (tree.Function, tree.Prototype)) and count_params(it) > MOST["parameters"])
     yield "function", node.name, files.at(node.at)
@@ -224,14 +232,14 @@ def many_parameters(files, _):
 
 # Rules
 
-def other_main(files, _):
+def other_main(files: Files, _: int | None) -> Iterator[Fact]:
     """A `main` of another type."""
     node = next((it for it in unit(files).items if isinstance(it, tree.Function) and it.name == "main"), None)
     if node:
         yield "main", files.at(node.name_at)
 
 
-def misfit(files, at):
+def misfit(files: Files, at: int) -> Iterable[Fact]:
     """Why a call doesn't fit: what is called, the number of arguments, or an argument for an array parameter."""
     checker = Checker(unit(files))
     try:
@@ -243,7 +251,7 @@ def misfit(files, at):
     return []
 
 
-def misfit_of(call):
+def misfit_of(call: tree.Call) -> Iterator[Fact]:
     routine = call.refers
     if not isinstance(routine, Routine):
         yield "no function", call.name
@@ -254,7 +262,7 @@ def misfit_of(call):
         yield from [it for it in wrong if it][:1]
 
 
-def argument_fault(number, argument, param):
+def argument_fault(number: int, argument: tree.Expr, param: tuple[Kind, bool, bool]) -> Fact | None:
     """What is wrong with an argument for an array parameter."""
     kind, is_array, is_const = param
     thing = argument.refers if isinstance(argument, tree.Name) else None
@@ -269,7 +277,7 @@ def argument_fault(number, argument, param):
 
 # Pragmas
 
-def differences(one, other):
+def differences(one: str, other: str) -> int:
     """How many letters are put in, left out or changed to make one word of another."""
     row = list(range(len(other) + 1))
     for number, letter in enumerate(one, 1):
@@ -279,7 +287,7 @@ def differences(one, other):
     return row[-1]
 
 
-def is_misspelt(word, right):
+def is_misspelt(word: str, right: str) -> bool:
     """Whether a word is another one with other capitals or signs between its parts, one letter wrong, or two changed places."""
     plain = re.sub(r"[-_ ]|[:,;(].*", "", word.lower())
     if word == right or len(plain) > len(right) + 1:
@@ -287,7 +295,7 @@ def is_misspelt(word, right):
     return differences(plain, right) <= (2 if sorted(plain) == sorted(right) else 1)
 
 
-def dropped(files, at):
+def dropped(files: Files, at: int) -> Iterator[Fact]:
     """A pragma right before the loop that was meant as its bound, and is none."""
     spot = Spot(files.source, at)
     if not spot.found:
@@ -299,15 +307,15 @@ def dropped(files, at):
             yield "misspelt", word, files.at(match.start()), BOUND
 
 
-def no_bound(files, at):
+def no_bound(files: Files, at: int) -> Iterable[Fact]:
     """A bound that was dropped; or else what the form of the loop gives, with --derive why it gives nothing."""
     found = list(dropped(files, at))
     if found:
         return found
-    return forms.unbounded(files, unit(files), at) if files.derive else forms.bounded(unit(files), at)
+    return forms.unbounded(files.at, unit(files), at) if files.derive else forms.bounded(unit(files), at)
 
 
-def pragmas(source, place, end):
+def pragmas(source: bytes, place: int, end: int) -> Iterator[re.Match[bytes]]:
     """The pragmas between two places, outside of comments."""
     while place < end:
         if source.startswith((b"/*", b"//"), place):
@@ -319,7 +327,7 @@ def pragmas(source, place, end):
         place = match.end() if match else place + 1
 
 
-def pragma_fault(files, at):
+def pragma_fault(files: Files, at: int) -> Iterable[Fact]:
     """What is wrong with a pragma: the numbers of a bound, or the name of a marker."""
     nodes = list(tree.nodes_of(unit(files)))
     loop = next((it for it in nodes if isinstance(it, tree.Loop) and it.bound_at == at), None)
@@ -329,7 +337,7 @@ def pragma_fault(files, at):
     return marker_fault(files, nodes, marker) if marker else []
 
 
-def bound_fault(loop):
+def bound_fault(loop: tree.Loop) -> Iterator[Fact]:
     match = BOUNDS.fullmatch(loop.bound)
     if not match:
         return
@@ -343,7 +351,7 @@ def bound_fault(loop):
         yield "macro", word
 
 
-def marker_fault(files, nodes, marker):
+def marker_fault(files: Files, nodes: list[tree.Node], marker: tree.Marker) -> Iterator[Fact]:
     """Another marker, or a function, of the same name."""
     name = marker_name(marker)
     for node in nodes if name else []:
@@ -354,7 +362,7 @@ def marker_fault(files, nodes, marker):
             return
 
 
-def unknown_name(files, at):
+def unknown_name(files: Files, at: int) -> Iterator[Fact]:
     """What a restriction names and nothing is."""
     nodes = list(tree.nodes_of(unit(files)))
     known = {it.name for it in nodes if isinstance(it, tree.Function)}
@@ -369,7 +377,7 @@ def unknown_name(files, at):
             return
 
 
-def contradictions(files, _):
+def contradictions(files: Files, _: int | None) -> Iterator[Fact]:
     """The restrictions on which it rests that no run keeps the annotations."""
     restrictions = [it for it in tree.nodes_of(unit(files)) if isinstance(it, tree.Restriction)]
     found = contradicting(sorted(restrictions, key=lambda it: it.at), files.writes[1])
@@ -379,7 +387,7 @@ def contradictions(files, _):
 
 # Faults of files
 
-def unread(files, _):
+def unread(files: Files, _: int | None) -> Iterator[Fact]:
     """The first file that can't be read now, or else the first one that is no file with places to read at."""
     for name in files.reads:
         try:
@@ -396,7 +404,7 @@ def unread(files, _):
             return
 
 
-def why_unwritten(name):
+def why_unwritten(name: str) -> str | None:
     """Why a file can't be written, as far as that is seen without writing; or None."""
     folder = os.path.dirname(name) or "."
     if not name:
@@ -410,7 +418,7 @@ def why_unwritten(name):
     return None
 
 
-def unwritten(files, _):
+def unwritten(files: Files, _: int | None) -> Iterator[Fact]:
     """The first file that can't be written, or the only one that is written."""
     for name in files.writes:
         if reason := why_unwritten(name):
@@ -420,7 +428,7 @@ def unwritten(files, _):
         yield "file", files.writes[0], "writing it failed"
 
 
-FINDERS = {
+FINDERS: dict[str, Finder] = {
     "refused type-7": misfit, "refused type-13": other_main, "refused recursion": cycle, "refused bound": no_bound,
     "refused pragma": pragma_fault, "refused name": unknown_name, "undefined": run_to, "broken": run_to,
     "limit depth": too_deep, "limit nodes": largest_part, "limit parameters": many_parameters,

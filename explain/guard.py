@@ -5,11 +5,12 @@ A tool imports this first and hands its `main` to `run`. A closed stream is one 
 """
 import os
 import sys
+from collections.abc import Callable
 
 WRITE_FAULT, MEMORY, OWN_FAULT, INTERRUPTED = 5, 6, 71, 130
 
 
-def occupy():
+def occupy() -> None:
     """Has no file that is opened take the number of a stream that is closed: what is written there fails, and nothing can be read."""
     for number, way in enumerate((os.O_RDONLY, os.O_WRONLY, os.O_WRONLY)):
         try:
@@ -27,7 +28,7 @@ def occupy():
         it.reconfigure(errors="replace")
 
 
-def note(text):
+def note(text: str) -> None:
     """Says a line on standard error, where that can be had."""
     try:
         os.write(2, ("".join(it if it.isprintable() else "?" for it in text) + "\n").encode(errors="replace"))
@@ -35,7 +36,7 @@ def note(text):
         pass
 
 
-def leave(status):
+def leave(status: int) -> None:
     """Ends with a status, or as a write fault where all else is done and what was said can't be written."""
     for it in (sys.stdout, sys.stderr):
         try:
@@ -46,7 +47,7 @@ def leave(status):
     os._exit(status)
 
 
-def status_of(error):
+def status_of(error: BaseException) -> int:
     """What a call that was ended by an error ends with; it says why."""
     if isinstance(error, SystemExit):
         return error.code if isinstance(error.code, int) else 1 if error.code else 0
@@ -65,11 +66,11 @@ def status_of(error):
     return OWN_FAULT
 
 
-def ended_by(kind, error, trace):
+def ended_by(kind: type[BaseException], error: BaseException, trace: object) -> None:
     leave(status_of(error))
 
 
-def run(main):
+def run(main: Callable[[list[str]], int]) -> None:
     """Runs the tool on its words, and ends with its status."""
     try:
         status = main(sys.argv[1:])

@@ -45,7 +45,7 @@ OTHERS = {
 }
 
 
-def at_hand():
+def at_hand() -> dict[str, str]:
     """The names that the headers of include/ have, each with its header. Those that they refuse are none of them."""
     found = {}
     for header in sorted(INCLUDE.glob("*.h")):
@@ -70,5 +70,5 @@ COMPILER_WORDS = set("""__extension__ __inline __inline__ __const __const__ __re
     __FUNCTION__ __PRETTY_FUNCTION__ __float128 __complex__ __real__ __imag__ __forceinline __int64 __cdecl __packed""".split())
 
 
-def is_compiler_word(name):
+def is_compiler_word(name: str) -> bool:
     return name in COMPILER_WORDS or name.startswith(("__builtin_", "__sync_", "__atomic_"))

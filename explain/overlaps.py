@@ -5,10 +5,11 @@ import stat
 from simulator.images import REGIONS, read_image, region_of
 
 MOST_IMAGE = 16777216
+Spans = list[tuple[int, int]]
 NAMES = {"flash": "flash", "spm": "the scratchpad", "ram": "RAM"}
 
 
-def spans_of(path):
+def spans_of(path: str) -> Spans:
     """From where to where the segments of an image reach; none where it is no plain file that can be read again."""
     if not stat.S_ISREG(os.stat(path).st_mode):
         return []
@@ -17,11 +18,11 @@ def spans_of(path):
     return [(it.start, it.end) for it in segments if it.start < it.end]
 
 
-def meet(spans, others):
+def meet(spans: Spans, others: Spans) -> bool:
     return any(max(start, from_) < min(end, to) for start, end in spans for from_, to in others)
 
 
-def overlapping(images):
+def overlapping(images: list[Spans]) -> list[tuple[list[str], tuple[int, ...]]]:
     """Of images by their spans, the regions in which some share an address, each with the numbers of those images; regions with the
     same images stand together."""
     found = {}

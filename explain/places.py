@@ -3,6 +3,7 @@ import os
 import re
 import stat
 from bisect import bisect_right
+from collections.abc import Iterator
 from pathlib import Path
 
 # How `./wcc prepare` names the folder of its headers in line markers, and where that is here.
@@ -24,13 +25,13 @@ ESCAPE = re.compile(rb"\\([0-7]{1,3}|.)")
 BEGINS, GOES_ON, OF_SYSTEM = b"1", b"2", b"3"
 
 
-def printable(text):
+def printable(text: str) -> str:
     return "".join(it if it.isprintable() or it == "\t" else "?" for it in text)
 
 
-def name_in_marker(name):
+def name_in_marker(name: bytes) -> str:
     """A file's name as a line marker quotes it: a backslash and octal digits are a byte. A header of include/ is the one of this checkout."""
-    def byte(match):
+    def byte(match: re.Match[bytes]) -> bytes:
         return bytes([int(match[1], 8) & 255]) if match[1][:1].isdigit() else match[1]
     name = ESCAPE.sub(byte, name)
     header = name.removeprefix(OWN_HEADERS)
@@ -41,20 +42,20 @@ class Line:
     """A line's beginning in the source, its number and its file."""
     __slots__ = ("start", "number", "file")
 
-    def __init__(self, start, number, file):
+    def __init__(self, start: int, number: int, file: "File") -> None:
         self.start, self.number, self.file = start, number, file
 
-    def __str__(self):
+    def __str__(self) -> str:
         return f"{self.file}:{self.number}"
 
 
 class File:
     """A file's name, the line that includes it, or None, and whether it is a header of the system."""
 
-    def __init__(self, name, includer=None, of_system=False):
+    def __init__(self, name: str, includer: Line | None = None, of_system: bool = False) -> None:
         self.name, self.includer, self.of_system = name, includer, of_system
 
-    def __str__(self):
+    def __str__(self) -> str:
         return self.name
 
 
@@ -65,12 +66,12 @@ MACROS = {"loopbound": "LOOPBOUND", "marker": "MARKER", "flowrestriction": "REST
 OF_MACRO = re.compile(rf"#pragma ({'|'.join(MACROS)})\b")
 
 
-def tokens_in(line):
+def tokens_in(line: str) -> list[tuple[int, str]]:
     """The places and texts of the tokens of a line."""
     return [(it.start(), it[0]) for it in TOKEN.finditer(line) if not it[0].startswith(("/*", "//"))]
 
 
-def plain(name, most):
+def plain(name: str | bytes, most: int) -> bytes:
     """What a plain file of at most so many bytes holds, or nothing. The files of the system itself have no size, and aren't read."""
     try:
         with open(name, "rb", opener=lambda path, flags: os.open(path, flags | os.O_NONBLOCK)) as file:
@@ -80,17 +81,17 @@ def plain(name, most):
         return b""
 
 
-def digest_of(data):
+def digest_of(data: bytes) -> str:
     import hashlib
     return hashlib.sha256(data).hexdigest()
 
 
-def list_beside(source):
+def list_beside(source: str) -> str:
     """The name of the list of files that were read for a source: `prepare` writes it, in the form of sha256sum."""
     return f"{source}.files"
 
 
-def may_be_list(path):
+def may_be_list(path: str) -> bool:
     """Whether a list may be written there: nothing stands there, or an older one."""
     return not os.path.lexists(path) or LISTED.match(plain(path, LONGEST)) is not None
 
@@ -100,11 +101,11 @@ class Given:
     of include/. A source can name any file in its line markers; so no other one is opened, and none is shown of which the list
     doesn't say what it holds."""
 
-    def __init__(self, source):
+    def __init__(self, source: str) -> None:
         rows = [it.split(b"  ", 1) for it in plain(list_beside(source), LONGEST).split(b"\n")]
         self.digests = {printable(row[1].decode(errors="replace")): (row[1], row[0].decode(errors="replace")) for row in rows if len(row) == 2}
 
-    def lines(self, name):
+    def lines(self, name: str) -> list[str]:
         """The lines of a file, or none where they may not be shown."""
         path, digest = self.digests.get(name, (None, None))
         is_own = os.path.dirname(name) == os.fsdecode(INCLUDE)[:-1]
@@ -114,7 +115,7 @@ class Given:
         return [printable(it.rstrip("\r")) for it in data.decode(errors="replace").split("\n")]
 
 
-def place_before(own, line, at, is_first, is_last):
+def place_before(own: str, line: str, at: int, is_first: bool, is_last: bool) -> int | None:
     """The place in a line before preprocessing of what stands at a place of it behind, of which this may be a first or last part;
     or None where that isn't sure."""
     before, behind = tokens_in(own), tokens_in(line)
@@ -135,7 +136,7 @@ def place_before(own, line, at, is_first, is_last):
 class Lines:
     """The lines of a source. They are read once, as far as places are asked for."""
 
-    def __init__(self, path, source):
+    def __init__(self, path: str, source: bytes) -> None:
         self.source, self.path = source, printable(path)
         # The lines of the files that line markers name, as far as they were asked for.
         self.files, self.given = {}, Given(path)
@@ -144,14 +145,14 @@ class Lines:
         # Whether nothing but blanks and comments stands before what is read on its line.
         self.fresh = True
 
-    def read_up_to(self, at):
+    def read_up_to(self, at: int) -> None:
         while self.read < at:
             if self.fresh and self.source.startswith(b"#", self.read):
                 self.directive()
             else:
                 self.piece()
 
-    def piece(self):
+    def piece(self) -> None:
         piece = PIECE.match(self.source, self.read)[0]
         if b"\n" in piece:
             last = self.lines[-1]
@@ -160,7 +161,7 @@ class Lines:
         self.fresh = piece == b"\n" or self.fresh and (piece.isspace() or piece.startswith((b"/*", b"//")))
         self.read += len(piece)
 
-    def directive(self):
+    def directive(self) -> None:
         """A line that begins with `#`. It is the line behind a marker that has its number."""
         end = self.source.find(b"\n", self.read)
         end = len(self.source) if end < 0 else end
@@ -175,7 +176,7 @@ class Lines:
         file = last.file if marker[2] is None else self.file(printable(name_in_marker(marker[2])), (marker[3] or b"").split())
         self.lines.append(Line(end + 1, int(marker[1][-18:]), file))
 
-    def file(self, name, flags):
+    def file(self, name: str, flags: list[bytes]) -> File:
         """The file that a marker behind the last line names."""
         last = self.lines[-1]
         includer = last.file.includer
@@ -187,17 +188,17 @@ class Lines:
             includer = includer and includer.file.includer
         return File(name, includer, OF_SYSTEM in flags)
 
-    def line_at(self, at):
+    def line_at(self, at: int) -> Line:
         self.read_up_to(at)
         return self.lines[self.index_at(at)]
 
-    def index_at(self, at):
+    def index_at(self, at: int) -> int:
         return bisect_right(self.lines, at, key=lambda it: it.start) - 1
 
-    def place(self, at):
+    def place(self, at: int) -> "Place":
         return Place(self, at)
 
-    def is_end_of_parts(self, line):
+    def is_end_of_parts(self, line: Line) -> tuple[bool, bool]:
         """Whether a line is the first and the last one of its number, as a preprocessor puts pragmas on lines of their own."""
         self.read_up_to(min(len(self.source), line.start + LOOKED_AT))
         index = self.index_at(line.start)
@@ -205,7 +206,7 @@ class Lines:
         parts = [it for it in near if str(it) == str(line) and self.source[it.start:it.start + LOOKED_AT].partition(b"\n")[0].strip()]
         return parts[:1] == [line], parts[-1:] == [line]
 
-    def own_line(self, line):
+    def own_line(self, line: Line) -> str | None:
         """A line as it stands in the file that line markers name, or None where it can't be had."""
         name = line.file.name
         if name == self.path:
@@ -215,8 +216,7 @@ class Lines:
         lines = self.files[name]
         return lines[line.number - 1] if 0 < line.number <= len(lines) else None
 
-
-    def is_own(self, name):
+    def is_own(self, name: str) -> bool:
         """Whether a file is the source itself, or one that prepare read for it and that is as it was then."""
         return name == self.path or name in self.given.digests and bool(self.given.lines(name))
 
@@ -224,7 +224,7 @@ class Lines:
 class Place:
     """A byte place in a source, as people name it."""
 
-    def __init__(self, lines, at):
+    def __init__(self, lines: Lines, at: int) -> None:
         source = lines.source
         if at == len(source):
             # Behind the end: the end of the last line that has something.
@@ -241,24 +241,24 @@ class Place:
         if own is not None and own != self.line:
             self.go_to(own, *lines.is_end_of_parts(line))
 
-    def go_to(self, own, is_first, is_last):
+    def go_to(self, own: str, is_first: bool, is_last: bool) -> None:
         """Makes this the place in a line as it was before preprocessing, where that can be found."""
         at = place_before(own, self.line, self.column - 1, is_first, is_last)
         self.is_there = at is not None
         if self.is_there:
             self.line, self.column = own, at + 1
 
-    def __str__(self):
+    def __str__(self) -> str:
         return f"{self.file}:{self.number}:{self.column}" if self.is_there else f"{self.file}:{self.number}"
 
-    def includers(self):
+    def includers(self) -> Iterator[str]:
         """The lines that include the file of the place, from the nearest one on: those of files, not of a command."""
         line = self.file.includer
         while line is not None and not line.file.name.startswith("<"):
             yield str(line)
             line = line.file.includer
 
-    def shown(self):
+    def shown(self) -> list[str]:
         """The line, cut where it is long, and a caret below the place."""
         first = max(0, self.column - WIDEST // 2) if len(self.line) > WIDEST else 0
         line, behind = self.line[first:first + WIDEST], len(self.line) > first + WIDEST

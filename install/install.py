@@ -2,6 +2,7 @@
 import os
 import signal
 import sys
+from collections.abc import Callable
 from contextlib import suppress
 from pathlib import Path
 
@@ -100,7 +101,7 @@ def told(words: list[str]) -> int:
     return DONE
 
 
-def main(words: list[str], work=told) -> int:
+def main(words: list[str], work: Callable[[list[str]], int] = told) -> int:
     for it in (signal.SIGINT, signal.SIGTERM, signal.SIGHUP):
         if signal.getsignal(it) != signal.SIG_IGN:
             signal.signal(it, signal.default_int_handler)

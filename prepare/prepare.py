@@ -14,11 +14,13 @@ import argparse  # noqa: E402
 import re  # noqa: E402
 import stat  # noqa: E402
 import tempfile  # noqa: E402
+from collections.abc import Iterable, Iterator  # noqa: E402
 from pathlib import Path  # noqa: E402
+from typing import NoReturn  # noqa: E402
 
 from failing import LIMIT, READ_FAULT, REFUSED, WRITE_FAULT, WRONG_WORDS, Failed, printable, why  # noqa: E402
 from places import digest_of, list_beside, may_be_list, plain  # noqa: E402
-from preprocessing import MOST, Preprocessor, given_of, named  # noqa: E402
+from preprocessing import MOST, Position, Preprocessor, given_of, named  # noqa: E402
 
 TOP = Path(__file__).resolve().parent.parent
 sys.path[:0] = [str(TOP / "explain")]
@@ -73,28 +75,28 @@ PIECE = re.compile(rb"""
 ANNOTATED = (b"LOOPBOUND", b"MARKER", b"RESTRICTION")
 
 
-def headers():
+def headers() -> str:
     return ", ".join(f"<{it.name}>" for it in sorted(INCLUDE.glob("*.h")))
 
 
-def name_in_marker(quoted):
-    def byte(match):
+def name_in_marker(quoted: bytes) -> bytes:
+    def byte(match: re.Match[bytes]) -> bytes:
         return bytes([int(match[1], 8) & 255]) if match[1][:1].isdigit() else match[1]
     return ESCAPE.sub(byte, quoted)
 
 
-def shown(file, number):
+def shown(file: bytes, number: int) -> str:
     return f"{printable(os.fsdecode(name_in_marker(file)))}:{number}"
 
 
-def is_pragma_at(file, number, read):
+def is_pragma_at(file: bytes, number: int, read: set[bytes]) -> bool:
     """Whether an annotation stands in #pragma in a file that was read, as far as that can be told."""
     name = name_in_marker(file)
     lines = plain(os.fsdecode(name), MOST).split(b"\n") if name in read else []
     return number <= len(lines) and re.match(rb"\s*#\s*pragma\b", lines[number - 1]) is not None
 
 
-def placed(lines):
+def placed(lines: list[bytes]) -> Iterator[tuple[int, bytes, Position]]:
     """Each line with its index, and the file and the number that the line markers before it say."""
     file, number = b"", 0
     for index, line in enumerate(lines):
@@ -105,7 +107,7 @@ def placed(lines):
             yield index, line, (file, number)
 
 
-def terms_of(text):
+def terms_of(text: bytes) -> list[tuple[bytes, bytes, bytes]] | None:
     """The terms of a restriction, each a number, a name and the sign behind it; or nothing where it's of another form."""
     terms, start, at = [], 0, 0
     while at < len(text):
@@ -125,7 +127,7 @@ def terms_of(text):
 class Annotations:
     """The lines of a preprocessed text, in whose annotations numbers may be expressions."""
 
-    def __init__(self, text, read):
+    def __init__(self, text: bytes, read: set[bytes]) -> None:
         self.lines, self.asked, self.read = text.split(b"\n"), [], read
         # The parts of each line that has an expression, which are texts and numbers of what is asked.
         self.parts = {}
@@ -133,7 +135,7 @@ class Annotations:
             if annotation := ANNOTATION.fullmatch(line.rstrip(b"\r")):
                 self.note(index, annotation[1], annotation[2], place)
 
-    def note(self, index, kind, text, place):
+    def note(self, index: int, kind: bytes, text: bytes, place: Position) -> None:
         """Keeps what is an expression in an annotation. One of another form is left to the compiler to refuse."""
         if kind == b"loopbound":
             bound = BOUND.fullmatch(text)
@@ -148,7 +150,7 @@ class Annotations:
             return
         self.parts[index] = [self.ask(it, place) if odd % 2 else it for odd, it in enumerate(parts)]
 
-    def ask(self, text, place):
+    def ask(self, text: bytes, place: Position) -> bytes | int:
         """The text where it is a number, and else its place among what is asked."""
         if PLAIN.fullmatch(text):
             return text
@@ -159,7 +161,7 @@ class Annotations:
         self.asked.append((text, place))
         return len(self.asked) - 1
 
-    def why_none(self, name, place):
+    def why_none(self, name: bytes, place: Position) -> str:
         """Why a name in an annotation has no value."""
         if name in TYPES:
             return "Nothing is cast in an annotation: leave the cast out, or write the number"
@@ -171,14 +173,14 @@ class Annotations:
             return "It is an object, of which no preprocessor knows the value, const or not: make it a macro by #define"
         return "It is no macro here: perhaps a -D, a #define or the #include of its header is missing, or stands further down"
 
-    def filled(self, values):
+    def filled(self, values: list[bytes]) -> bytes:
         """The text, with these values for what is asked."""
         for index, parts in self.parts.items():
             self.lines[index] = b"".join(it if isinstance(it, bytes) else values[it] for it in parts).rstrip()
         return b"\n".join(self.lines)
 
 
-def with_own_headers(text):
+def with_own_headers(text: bytes) -> bytes:
     """The text, with the headers of include/ named in its line markers as they are in every checkout."""
     folder, lines = os.fsencode(INCLUDE) + b"/", text.split(b"\n")
     for index, line in enumerate(lines):
@@ -188,14 +190,14 @@ def with_own_headers(text):
     return b"\n".join(lines)
 
 
-def is_one_file(path, other):
+def is_one_file(path: str, other: str | bytes) -> bool:
     try:
         return os.path.samestat(os.stat(path), os.stat(other))
     except OSError:
         return False
 
 
-def refuse_aliases(source, files):
+def refuse_aliases(source: str, files: Iterable[str | bytes]) -> None:
     """The source may be a device, and none of the files that were read."""
     if not os.path.isfile(source):
         return
@@ -204,7 +206,7 @@ def refuse_aliases(source, files):
             raise Failed(WRONG_WORDS, f"{printable(os.fsdecode(it))} and {printable(source)} are one file, which would be lost. Nothing is changed")
 
 
-def write(path, data):
+def write(path: str, data: bytes) -> None:
     """Writes a file apart and then puts it in its place, with the rights of the one that was there."""
     if os.path.exists(path) and not os.path.isfile(path):
         with open(path, "wb") as device:
@@ -226,7 +228,7 @@ def write(path, data):
         raise
 
 
-def write_list(source, read):
+def write_list(source: str, read: set[bytes]) -> None:
     """Writes beside a source which files were read for it, each with its digest, but for the headers of include/, unless something
     else has that name. Where that can't be, lines of these files aren't shown, and all else is as it is."""
     path = list_beside(source)
@@ -240,7 +242,7 @@ def write_list(source, read):
         pass
 
 
-def outside(text):
+def outside(text: bytes) -> Iterator[tuple[Position, str, str]]:
     """What isn't in the language: its place, the part of the page that is about it, and what it is called."""
     depth, own = 0, set()
     for _, line, place in placed(text.split(b"\n")):
@@ -263,7 +265,7 @@ def outside(text):
             depth += word.startswith("{") and len(word) > 1
 
 
-def tell_outside(text, is_each_told):
+def tell_outside(text: bytes, is_each_told: bool) -> None:
     """Says on standard error what isn't in the language, by the part of the page that is about it: where it stands first and how
     often, or each place."""
     found = {}
@@ -274,7 +276,7 @@ def tell_outside(text, is_each_told):
         guard.note(f"{shown(*stands[0])}: {what} is outside the language{places}: see \"{part}\" in docs/PORTING.md")
 
 
-def prepare(asked):
+def prepare(asked: argparse.Namespace) -> None:
     given = given_of(asked.file)
     refuse_aliases(asked.source, [asked.file])
     with tempfile.TemporaryDirectory(prefix="wcc-prepare-") as room:
@@ -297,13 +299,13 @@ def prepare(asked):
         raise Failed(WRITE_FAULT, f"{printable(asked.source)} can't be written: {why(error)}") from error
 
 
-def folder_of(text):
+def folder_of(text: str) -> str:
     if not text:
         raise argparse.ArgumentTypeError("the name of a folder is empty")
     return named(text)
 
 
-def macro_of(text):
+def macro_of(text: str) -> str:
     if not re.fullmatch(r"[A-Za-z_]\w*(\([^()\n]*\))?(=[^\n]*)?", text):
         raise argparse.ArgumentTypeError("a macro is NAME or NAME=VALUE, on one line")
     return text
@@ -312,11 +314,11 @@ def macro_of(text):
 class Words(argparse.ArgumentParser):
     """What it says of words goes where nothing of a terminal can be hidden in it."""
 
-    def error(self, message):
+    def error(self, message: str) -> NoReturn:
         super().error(printable(message))
 
 
-def main(words):
+def main(words: list[str]) -> int:
     known = Words("wcc prepare", description=DESCRIPTION, epilog=ABOUT, allow_abbrev=False)
     known.add_argument("file", metavar="FILE", help="a C file")
     known.add_argument("-o", dest="source", metavar="SOURCE", required=True, help="the source that is written")

@@ -13,6 +13,7 @@ import sys
 import threading
 from pathlib import Path
 from subprocess import DEVNULL, PIPE
+from typing import IO
 
 from failing import LIMIT, NOTHING_AT_HAND, READ_FAULT, REFUSED, Failed, printable, why
 
@@ -31,6 +32,8 @@ INCLUDED = re.compile(rb"^(?:In file included from | +from )")
 INCLUDES = re.compile(rb'^[ \t]*#[ \t]*include[ \t]*[<"]([^>"\n]+)[>"]')
 # A name in a rule of make: blanks, `#` and `$` are quoted.
 IN_RULE = re.compile(rb"(?:\\[ #]|\$\$|\\(?!\n)|[^ \\\n$]|\$)+")
+# A file, as a line marker quotes it, and a line of it.
+Position = tuple[bytes, int]
 BITS = 31
 RANGE = b"an annotation takes numbers from 0 to 2147483647"
 
@@ -38,21 +41,21 @@ RANGE = b"an annotation takes numbers from 0 to 2147483647"
 class Ended:
     """What the preprocessor made, and said, and whether it says that this is all."""
 
-    def __init__(self, made, said, is_whole):
+    def __init__(self, made: bytes, said: bytes, is_whole: bool) -> None:
         self.made, self.said, self.is_whole = made, said, is_whole
 
 
-def named(path):
+def named(path: str) -> str:
     """A folder's name as the preprocessor takes it for one: no option, no list of options, and no folder of a system of its own."""
     return f"./{path}" if path.startswith(("-", "@", "=", "$")) else path
 
 
-def is_odd(path):
+def is_odd(path: str) -> bool:
     """Whether a preprocessor hands parts of the name on, where they are an option or a list of options."""
     return os.path.basename(path).startswith(("-", "@"))
 
 
-def given_of(path):
+def given_of(path: str) -> bytes | None:
     """The bytes of what is prepared, where it is no plain file that the preprocessor can read by its name, else nothing."""
     try:
         with open(path, "rb") as file:
@@ -66,12 +69,12 @@ def given_of(path):
     return b'# 1 "%s"\n%s' % (quoted(path), data) if is_plain and data is not None else data
 
 
-def quoted(path):
+def quoted(path: str) -> bytes:
     """A name as a line marker has it."""
     return re.sub(rb'[\\"]|[^ -~]', lambda it: b"\\%03o" % it[0][0], os.fsencode(path))
 
 
-def limited():
+def limited() -> None:
     """Limits what is called, and no more than this is limited itself."""
     for kind, most in ((resource.RLIMIT_CPU, SECONDS), (resource.RLIMIT_AS, MEMORY)):
         hard = resource.getrlimit(kind)[1]
@@ -79,23 +82,23 @@ def limited():
         resource.setrlimit(kind, (most, most))
 
 
-def called(words, given):
+def called(words: list[str], given: bytes | None) -> Ended:
     """Runs a command, which is ended where it takes or makes more than it may."""
     environment = {**{it: os.environ[it] for it in KEPT if it in os.environ}, "LC_ALL": "C"}
     ran = subprocess.Popen(words, stdin=DEVNULL if given is None else PIPE, stdout=PIPE, stderr=PIPE, env=environment, preexec_fn=limited,
                            start_new_session=True)
     parts, is_over = {}, threading.Event()
 
-    def end():
+    def end() -> None:
         is_over.set()
         os.killpg(ran.pid, 9)
 
-    def read(stream):
+    def read(stream: IO[bytes]) -> None:
         parts[stream] = stream.read(MOST + 1)
         if len(parts[stream]) > MOST:
             end()
 
-    def feed():
+    def feed() -> None:
         try:
             ran.stdin.write(given)
             ran.stdin.close()
@@ -121,7 +124,7 @@ def called(words, given):
     return Ended(parts[ran.stdout], parts[ran.stderr], ran.returncode == 0)
 
 
-def tell(said):
+def tell(said: bytes) -> None:
     """Says what the preprocessor says, without what a terminal would take for a command."""
     text = "".join(it if it.isprintable() or it in "\n\t" else "?" for it in said.decode(errors="replace"))
     sys.stderr.write(text)
@@ -131,7 +134,7 @@ def tell(said):
 class Preprocessor:
     """The first that is at hand, and what it's told beside its input. `room` is a folder for what it leaves."""
 
-    def __init__(self, include, folders, macros, room):
+    def __init__(self, include: Path, folders: list[str], macros: list[str], room: str) -> None:
         at_hand = [words for words in PREPROCESSORS if shutil.which(words[0])]
         if not at_hand:
             raise Failed(NOTHING_AT_HAND, "no preprocessor is on PATH. Install gcc, clang or cpp, as by `apt install gcc`")
@@ -140,7 +143,7 @@ class Preprocessor:
         self.asked = [*(f"-I{it}" for it in (*folders, include)), *(f"-D{it}" for it in macros)]
         self.rule, self.is_each_told = os.path.join(room, "rule"), False
 
-    def run(self, path, given):
+    def run(self, path: str, given: bytes | None) -> tuple[bytes, bool]:
         """What it makes of a file, or of the bytes that are given in its place, as far as it comes, and whether it says that this is all."""
         self.given, self.path, self.name = given, path, path if given is None else "-"
         if given is not None:
@@ -152,21 +155,21 @@ class Preprocessor:
         tell(ran.said if self.is_each_told else told_once(ran.said))
         return ran.made, is_whole
 
-    def preprocessed(self, *words):
+    def preprocessed(self, *words: str) -> Ended:
         Path(self.rule).unlink(missing_ok=True)
         return called([*self.words, *self.asked, "-MD", "-MF", self.rule, "-MT", "x", *words, self.name], self.given)
 
-    def files(self):
+    def files(self) -> set[bytes]:
         """The names of the files that were read, as line markers have them."""
         found = self.in_rule(Path(self.rule).read_bytes()) if os.path.exists(self.rule) else set()
         return {it for it in {*found, os.fsencode(self.path)} if os.path.isfile(it)}
 
     @staticmethod
-    def in_rule(rule):
+    def in_rule(rule: bytes) -> set[bytes]:
         names = IN_RULE.findall(rule.partition(b":")[2].replace(b"\\\n", b" "))
         return {re.sub(rb"\\([ #])|\$(\$)", lambda it: it[1] or it[2], it) for it in names}
 
-    def without_headers(self, ran):
+    def without_headers(self, ran: Ended) -> Ended:
         """Tells each header that isn't there, and goes on as if it were empty, so that all else is told too."""
         absent = os.path.join(self.room, "absent")
         os.mkdir(absent)
@@ -182,7 +185,7 @@ class Preprocessor:
             tell(place + b": error: no header " + name + b" is there: see \"The C library\" in docs/PORTING.md, or give its folder by -I\n")
         return again
 
-    def places(self, missing):
+    def places(self, missing: list[bytes]) -> dict[bytes, bytes]:
         """Where headers are asked for first, in the files that were read."""
         found, wanted = {}, set(missing)
         for path in sorted(self.files()):
@@ -196,7 +199,7 @@ class Preprocessor:
                     found.setdefault(asked[1], b"%s:%d:%d" % (path, number, asked.start(1)))
         return found
 
-    def values(self, asked):
+    def values(self, asked: list[tuple[bytes, Position]]) -> list[bytes]:
         """The values of constant expressions, each given with its file and line: the bits that #if sees."""
         tests, bits = [], []
         for text, (file, number) in asked:
@@ -210,7 +213,7 @@ class Preprocessor:
         self.evaluated(tests, is_told=True)
         return [b"%d" % int(it, 2) for it in b"".join(self.evaluated(bits).split()).split(b"value")[1:]]
 
-    def evaluated(self, lines, is_told=False):
+    def evaluated(self, lines: list[bytes], is_told: bool = False) -> bytes:
         """What it makes of lines of its own."""
         ran = called([*self.words, "-P", "-"], b"\n".join(lines) + b"\n")
         if is_told:
@@ -220,7 +223,7 @@ class Preprocessor:
         return ran.made
 
 
-def told_once(errors):
+def told_once(errors: bytes) -> bytes:
     """What a preprocessor says, each fault where it first is, with the number of its places."""
     found, before, kept = {}, [], None
     for line in errors.splitlines(keepends=True):
@@ -238,14 +241,14 @@ def told_once(errors):
     return b"".join(counted(lines, places) for lines, places in found.values()) + b"".join(before)
 
 
-def counted(lines, places):
+def counted(lines: list[bytes], places: int) -> bytes:
     """The lines of a fault, the first of which that says it with the number of its places."""
     at = next(number for number, line in enumerate(lines) if FAULT.match(line))
     note = b" (%d places)" % places if places > 1 else b""
     return b"".join([*lines[:at], lines[at].rstrip(b"\n") + note + b"\n", *lines[at + 1:]])
 
 
-def made_empty(folder, header):
+def made_empty(folder: str, header: str) -> bool:
     """Makes an empty header within a folder, and answers whether it wasn't there and is now."""
     path = Path(folder, header)
     if ".." in path.parts or not path.is_relative_to(folder):

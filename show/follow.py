@@ -1,9 +1,11 @@
 """Runs an image and looks whether the run keeps the claims of a report, as docs/CHECKING.md says."""
 from collections import Counter
+from collections.abc import Iterator
 from dataclasses import dataclass
 
-from simulator.flows import LETTERS, limits, moves_of
-from simulator.images import region_of
+from bound import Bound, Fact, Loop
+from simulator.flows import LETTERS, Move, limits, moves_of
+from simulator.images import Segment, region_of
 from simulator.machine import DONE, LIMIT, Ending, Machine
 
 
@@ -13,14 +15,14 @@ class Break:
     cycles: int
     at: int
     what: str
-    loop: object = None
-    fact: object = None
+    loop: Loop | None = None
+    fact: Fact | None = None
 
 
 class Following(Machine):
     """A run that counts visits, and notes what breaks a claim on its way. Counts are judged at its end."""
 
-    def __init__(self, bound, data, limit=LIMIT):
+    def __init__(self, bound: Bound, data: bytes, limit: int = LIMIT) -> None:
         super().__init__(bound.entry, bound.segments, data, limit, bound.costs)
         self.bound, self.visits, self.breaks = bound, Counter(), []
         self.exits, self.nevers = set(bound.report.exits), {it[2] for it in bound.report.nevers}
@@ -29,23 +31,23 @@ class Following(Machine):
         self.starts, self.passed, self.short = Counter(), {}, {}
         self.before, self.returns, self.moves = None, [], {}
 
-    def note(self, what, **of):
+    def note(self, what: str, **of: Fact) -> None:
         self.breaks.append(Break(self.cycles, self.pc, what, **of))
 
-    def move_of(self, at):
+    def move_of(self, at: int) -> Move | None:
         """The first move of an address, or None where it has none."""
         if at not in self.moves:
             self.moves[at] = next(iter(moves_of(self.bound.system.code, self.exits, at)), None)
         return self.moves[at]
 
-    def access(self, kind, address, size, right, trap):
+    def access(self, kind: str, address: int, size: int, right: int, trap: int) -> tuple[Segment, int]:
         place = super().access(kind, address, size, right, trap)
         letters = next((it for first, end, it in self.bound.report.regions if first <= self.pc < end), "fsr")
         if LETTERS[region_of(address)] not in letters:
             self.note(f"it touches {region_of(address)} at {address:08x}, and the report claims that it touches {letters} alone")
         return place
 
-    def step(self):
+    def step(self) -> None:
         at, is_exit = self.pc, self.pc in self.exits
         self.visits[at] += 1
         if at in self.nevers:
@@ -64,7 +66,7 @@ class Following(Machine):
         elif move.to is None and (not self.returns or self.returns.pop() != self.pc):
             self.note("it returns to another place than behind the latest call")
 
-    def start(self, loop):
+    def start(self, loop: Loop) -> None:
         """The loop's header is visited: from its back jump again, and from elsewhere for a new entry."""
         if self.before != loop.back:
             self.leave(loop)
@@ -73,14 +75,14 @@ class Following(Machine):
         if self.starts[loop.header] == loop.most + 1:
             self.passed.setdefault(loop.header, (self.cycles, self.entry_of(loop)))
 
-    def entry_of(self, loop):
+    def entry_of(self, loop: Loop) -> int:
         return self.visits[loop.header] - self.visits[loop.back]
 
-    def leave(self, loop):
+    def leave(self, loop: Loop) -> None:
         if 0 < self.starts[loop.header] < loop.least:
             self.short.setdefault(loop.header, (self.cycles, self.starts[loop.header]))
 
-    def run(self):
+    def run(self) -> Ending:
         """The run's ending."""
         try:
             while True:
@@ -95,7 +97,7 @@ class Following(Machine):
             self.judge(ending.status == DONE)
             return ending
 
-    def judge(self, is_whole):
+    def judge(self, is_whole: bool) -> None:
         """Notes which claims the counts break. Of a run that has no end only what went too far is broken."""
         first = len(self.bound.report.exits) + len(self.bound.report.nevers) + len(self.bound.report.regions)
         loops = dict(enumerate(self.bound.loops, first))
@@ -113,7 +115,7 @@ class Following(Machine):
                 told.add(limit.claim)
                 self.note(f"{facts[limit.claim].text} doesn't hold", fact=facts[limit.claim])
 
-    def of_loop(self, loop):
+    def of_loop(self, loop: Loop) -> Break:
         visits, entries = self.visits[loop.header], self.entry_of(loop)
         said = f"{visits} starts in {entries} {'entry' if entries == 1 else 'entries'}, and the report claims {loop.least} to {loop.most} for each"
         if visits > loop.most * entries:
@@ -123,7 +125,7 @@ class Following(Machine):
         return Break(cycles, loop.header, f"{said}; an entry ended after {starts} at cycle {cycles}", loop=loop)
 
 
-def told(bound, follow, ending):
+def told(bound: Bound, follow: Following, ending: Ending) -> Iterator[str]:
     """The lines on a run, and whether it keeps the claims and the bound."""
     is_done = ending.status == DONE
     over = follow.cycles > bound.report.cycles
@@ -149,5 +151,5 @@ def told(bound, follow, ending):
         yield f"  {more} more {'is' if more == 1 else 'are'} broken after it."
 
 
-def keeps(bound, follow, ending):
+def keeps(bound: Bound, follow: Following, ending: Ending) -> bool:
     return ending.status == DONE and not follow.breaks and follow.cycles <= bound.report.cycles

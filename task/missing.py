@@ -37,6 +37,6 @@ def unbounded(path: str, source: bytes, derive: bool) -> list[dict[str, Any]]:
 
 def described(files: Any, table: Any, loop: Any) -> dict[str, Any]:
     place = files.lines.place(loop.at)
-    found = explain.quietly(lambda: list(findings.dropped(files, loop.at)) or list(forms.unbounded(files, findings.unit(files), loop.at))) or []
+    found = explain.quietly(lambda: list(findings.dropped(files, loop.at)) or list(forms.unbounded(files.at, findings.unit(files), loop.at))) or []
     return {"file": str(place.file), "line": place.number, "column": place.column if place.is_there else None, "place": str(place),
             "shown": place.shown(), "why": [explain.fact_of(table, it) for it in found if it[0] != "form kind"], "write": bound_line(files.source, 0, "N")}
