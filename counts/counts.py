@@ -120,6 +120,7 @@ def count(program: str, words: Words) -> int:
     report = Report(path, source)
     status = shown(report, seen, inputs)
     propose(program, words, report, seen, source)
+    tell(report.unmarked(seen, len(inputs)))
     return written(words, report, seen, source, status)
 
 

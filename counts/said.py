@@ -19,10 +19,11 @@ class Written(NamedTuple):
     title: str
     bound: str
     restriction: str
+    marker: str
 
 
-PRAGMAS = Written("Pragmas", "#pragma loopbound min {} max {}", "#pragma flowrestriction {}")
-MACROS = Written("Annotations", "LOOPBOUND({}, {})", "RESTRICTION({})")
+PRAGMAS = Written("Pragmas", "#pragma loopbound min {} max {}", "#pragma flowrestriction {}", "#pragma marker {}")
+MACROS = Written("Annotations", "LOOPBOUND({}, {})", "RESTRICTION({})", "MARKER({})")
 # A line marker of <wcc.h>, by which a source has its macros.
 WITH_MACROS = re.compile(rb'^# \d+ "(?:[^"\n]*/)?wcc\.h"', re.M)
 
@@ -117,6 +118,12 @@ class Report:
         yield from ["", f"Restrictions that were kept in these runs and would lower the bound of {first:,} cycles. They are observed, and for you to",
                     "confirm: take none that another input can break. Each line has the bound with those above it:"]
         yield from (f"  {cycles:>13,}  {self.written().restriction.format(text)}" for text, cycles in found)
+
+    def unmarked(self, seen: Seen, runs: int) -> Iterator[str]:
+        """What gives restrictions more to say, where loops are entered again and again and no marker stands."""
+        if not seen.markers and any(it.count > runs for it in seen.loops.values()):
+            yield from ["", f"A marker at a dear place of a loop, as {self.written().marker.format('name')}, gives restrictions more to speak of: docs/PORTING.md",
+                        "says how, under \"A budget\"."]
 
     def is_given(self, at: int) -> bool:
         """Whether this is of <wide.h>, which nobody annotates."""
