@@ -83,6 +83,7 @@ def many(program: str, words: Words) -> list[dict[str, Any]]:
     refuse_twins(words)
     wide = max(map(len, words.sources)) + len(": cycles 123456789 greatest")
     records: list[dict[str, Any]] = []
+    progress(f"0 of {len(words.sources)}")
     with ThreadPoolExecutor(words.jobs) as pool:
         try:
             for record, errors in pool.map(lambda it: alone(program, it, words.options()), words.sources):
