@@ -10,7 +10,7 @@ from collections import defaultdict
 from collections.abc import Callable, Iterator, Mapping
 from concurrent.futures import ThreadPoolExecutor
 from fractions import Fraction
-from itertools import permutations, product
+from itertools import combinations, permutations, product
 from os import sched_getaffinity
 from pathlib import Path
 from subprocess import DEVNULL, PIPE
@@ -22,6 +22,7 @@ from simulator import reports
 # How often functions and markers came: on a path, and in each run.
 Counts = Mapping[str, int | Fraction]
 Runs = list[dict[str, int]]
+Terms = tuple[tuple[int, str], ...]
 MAIN = "main"
 MOST_PROPOSED, MOST_ASKED, MOST_TERMS = 6, 24, 8
 # How many of another one the first name of a budget takes.
@@ -31,25 +32,40 @@ SECONDS = 60
 WORTH, NEAR = 100, 50
 
 
+def said(terms: Terms) -> str:
+    return " + ".join(f"{number}*{name}" for number, name in terms)
+
+
+def value(terms: Terms, counts: Counts) -> int | Fraction:
+    return sum(number * counts.get(name, 0) for number, name in terms)
+
+
 class Relation(NamedTuple):
-    """A sum that is at most so many times a name."""
-    left: tuple[tuple[int, str], ...]
-    right: tuple[int, str]
+    """A sum that is at most another one."""
+    left: Terms
+    right: Terms
 
     def __str__(self) -> str:
-        return f"{' + '.join(f'{number}*{name}' for number, name in self.left)} <= {self.right[0]}*{self.right[1]}"
+        return f"{said(self.left)} <= {said(self.right)}"
 
     def excess(self, counts: Counts) -> int | Fraction:
         """By how much counts break it."""
-        return sum(number * counts.get(name, 0) for number, name in self.left) - self.right[0] * counts.get(self.right[1], 0)
+        return value(self.left, counts) - value(self.right, counts)
 
-    def weight(self) -> int:
-        """The sum of its numbers: a restriction by small ones is more likely to be true of every input."""
-        return sum(number for number, _ in (*self.left, self.right))
+    def is_of_main(self) -> bool:
+        return self.right[0][1] == MAIN
+
+    def is_sum(self) -> bool:
+        return len(self.left) + len(self.right) > 2
+
+    def weight(self) -> tuple[int, int]:
+        """The sum of its numbers, and the greatest: a restriction by small ones is more likely to be true of every input."""
+        numbers = [number for number, _ in (*self.left, *self.right)]
+        return sum(numbers), max(numbers)
 
     def is_known(self) -> bool:
         """Whether a source may have its numbers."""
-        return all(number <= MOST_FACTOR for number, _ in (*self.left, self.right))
+        return all(number <= MOST_FACTOR for number, _ in (*self.left, *self.right))
 
 
 class Answered(NamedTuple):
@@ -67,7 +83,7 @@ def quotient(one: int, other: int) -> int:
 def over_main(names: list[str], runs: Runs) -> Iterator[Relation]:
     """How often each came at most."""
     for name in names:
-        yield Relation(((1, name),), (max(it[name] for it in runs), MAIN))
+        yield Relation(((1, name),), ((max(it[name] for it in runs), MAIN),))
 
 
 def between(names: list[str], runs: Runs) -> Iterator[Relation]:
@@ -77,7 +93,17 @@ def between(names: list[str], runs: Runs) -> Iterator[Relation]:
             continue
         met = [it for it in runs if it[one]]
         most, least = max(quotient(it[one], it[other]) for it in met), min(it[other] // it[one] for it in met)
-        yield Relation(((least, one),), (1, other)) if least > 1 else Relation(((1, one),), (most, other))
+        yield Relation(((least, one),), ((1, other),)) if least > 1 else Relation(((1, one),), ((most, other),))
+
+
+def gathered(names: list[str], runs: Runs) -> Iterator[Relation]:
+    """How often one came at most, as each time one of two others did, where neither of these is enough."""
+    for one in names:
+        others = [it for it in names if any(run[one] > run[it] for run in runs)]
+        for pair in combinations(others, 2):
+            relation = Relation(((1, one),), tuple((1, it) for it in pair))
+            if all(relation.excess(run) <= 0 for run in runs):
+                yield relation
 
 
 def budgets(names: list[str], runs: Runs, path: Counts) -> Iterator[Relation]:
@@ -103,7 +129,7 @@ def grown(first: str, rest: list[str], path: Counts, sum_of: Callable[[list[str]
 
 
 def unit_sum(names: list[str], runs: Runs) -> Relation:
-    return Relation(tuple((1, it) for it in names), (max(sum(run[it] for it in names) for run in runs), MAIN))
+    return Relation(tuple((1, it) for it in names), ((max(sum(run[it] for it in names) for run in runs), MAIN),))
 
 
 def shared_sum(names: list[str], times: int, other: str, runs: Runs) -> Relation | None:
@@ -116,16 +142,16 @@ def shared_sum(names: list[str], times: int, other: str, runs: Runs) -> Relation
             return None
         terms.append((allowed if terms else times, name))
         left = [rest - terms[-1][0] * run[name] for rest, run in zip(left, runs)]
-    return Relation(tuple(terms), (1, other))
+    return Relation(tuple(terms), ((1, other),))
 
 
 def candidates(names: list[str], runs: Runs, path: Counts) -> Iterator[Relation]:
     """What the runs kept and the path doesn't, what it breaks most first: of single names and of sums as many as there is room for."""
-    found = [*over_main(names, runs), *between(names, runs), *budgets(names, runs, path)]
+    found = [*over_main(names, runs), *between(names, runs), *gathered(names, runs), *budgets(names, runs, path)]
     broken = [it for it in dict.fromkeys(found) if it.is_known() and it.excess(path) > 0]
-    broken.sort(key=lambda it: -it.excess(path) / (1 + max(it.right[0] * run[it.right[1]] for run in runs)))
+    broken.sort(key=lambda it: -it.excess(path) / (1 + max(value(it.right, run) for run in runs)))
     for is_of_main, is_sum in ((False, False), (False, True), (True, False), (True, True)):
-        yield from [it for it in broken if (it.right[1] == MAIN, len(it.left) > 1) == (is_of_main, is_sum)][:MOST_ASKED // 4]
+        yield from [it for it in broken if (it.is_of_main(), it.is_sum()) == (is_of_main, is_sum)][:MOST_ASKED // 4]
 
 
 # Asking
@@ -184,8 +210,8 @@ def proposals(program: str, source: bytes, options: list[str], names: list[str],
         return None
     while len(found) < MOST_PROPOSED and now.counts is not None:
         tried = list(candidates(names, runs, now.counts))
-        best = (best_of(asking, taken, now, [it for it in tried if it.right[1] != MAIN])
-                or best_of(asking, taken, now, [it for it in tried if it.right[1] == MAIN]))
+        best = (best_of(asking, taken, now, [it for it in tried if not it.is_of_main()])
+                or best_of(asking, taken, now, [it for it in tried if it.is_of_main()]))
         if best is None:
             break
         now, relation = best
