@@ -179,6 +179,8 @@ def fact_heads(bound: Bound) -> tuple[str, str]:
     """What is said above restrictions, and above the words that say which of them count."""
     if bound.kind == reports.EMPTY:
         return "those that are at odds can't hold together with the bounds of the loops", "at odds"
+    if bound.counts.origin != LISTED:
+        return "the bound rests on those that are priced, and `one more` on their right side costs so many cycles", "priced"
     return "where one is tight, `one more` on the right side costs so many cycles", "tight"
 
 

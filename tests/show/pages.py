@@ -144,6 +144,7 @@ def reports_without_a_path(room):
             hold(total - prices == bound and (facts or prices == 0), f"of {name} it says {said[:600]}")
             rows = table_rows(ElementTree.fromstring(room.read("a.html")), "Functions")
             hold(sum(number(it[3]) for it in rows) == total, f"of {name} the functions don't add up to the walk of {total}")
+            hold(("Restrictions; the bound rests on those that are priced" in said) == facts and "  tight" not in said, f"of {name} it calls restrictions tight")
             hold("worst path" not in said and "worst path" not in room.read("a.html").decode(), "it speaks of a worst path")
 
 
