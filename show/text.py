@@ -70,8 +70,9 @@ def basis(bound: Bound) -> list[str]:
     if bound.counts.origin == WALK:
         total, over = bound.counts.total, bound.counts.total - bound.report.cycles
         said.append("What is counted is the dearest walk at the prices that the report sets on the restrictions: it keeps the bounds of loops and need "
-                    f"not keep the restrictions. It takes {number(total)} cycles, and the prices "
-                    + (f"take {number(over)} off." if over >= 0 else f"add {number(-over)}."))
+                    f"not keep the restrictions. It takes {number(total)} cycles, "
+                    + ("as many as the bound." if not over else f"and the prices take {number(over)} off." if over > 0 else
+                       f"and the prices add {number(-over)}."))
     else:
         said.append("How often anything comes can't be told from it: what is known are the bounds of the loops and what one more costs.")
     return said

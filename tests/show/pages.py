@@ -158,9 +158,9 @@ def without_flow(report, kind):
 
 
 def walk_of(said):
-    found = re.search(r"It takes ([\d,]+) cycles, and the prices (take|add) ([\d,]+)(?: off)?\.", said)
+    found = re.search(r"It takes ([\d,]+) cycles, (?:as many as the bound|and the prices (take|add) ([\d,]+)(?: off)?)\.", said)
     hold(found, f"it says {said[:600]}")
-    return number(found[1]), number(found[3]) * (1 if found[2] == "take" else -1)
+    return number(found[1]), number(found[3] or "0") * (1 if found[2] == "take" else -1)
 
 
 @check
