@@ -74,7 +74,7 @@ def tries_text(tries: dict[str, Any], bound: int) -> str:
 def screen(record: dict[str, Any]) -> Iterator[str]:
     """What a bound means, how large the image is, and where the time goes."""
     yield f"  {MEANS[record['kind']].format(record['cycles'])}"
-    if record["status"]:
+    if record["cycles"] > record.get("at_most", record["cycles"]):
         yield f"  That is {record['cycles'] - record['at_most']:,} above the budget of {record['at_most']:,}."
     yield f"  Image: {size_text(record['bytes'])}."
     if record["places"]:
