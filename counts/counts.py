@@ -2,8 +2,7 @@
 
 For each loop it says how often its body started in one entry, the fewest and the most; for each function and marker how
 often a run came there; and how near the restrictions came. Then come the bounds that would say so, and the restrictions that would
-lower the bound of `compile`. All of that was seen on these inputs, by the second evaluator, and nothing of it is proved. README.md
-beside this file says more.
+lower the bound of `compile`. All of that was seen on these inputs, and nothing of it is proved. README.md beside this file says more.
 """
 import os
 import sys
@@ -29,7 +28,7 @@ CALLED = "wcc counts SOURCE INPUT .. [--derive] [--table FILE] [--inline N] [--u
 HELP = [
     "Runs the source on each input, and says how often its loops started in one entry, how often functions and markers came, how",
     "near the restrictions were, which bounds would say so, and which restrictions would lower the bound that `compile` prints.",
-    "Loops may lack their bounds. All of it is seen by the second evaluator, and nothing of it is proved.",
+    "Loops may lack their bounds. All of it is seen on these inputs alone, and nothing of it is proved.",
     "With --derive loops that count have the bounds of their form. The other options are those of `compile`, for the bounds that it",
     "prints. --write as the last word writes the bounds that were seen into your own files, before the loops that have none; --write",
     "OUT makes a source OUT with them instead.",
@@ -112,7 +111,7 @@ def count(program: str, words: Words) -> int:
         within("source", MOST_SOURCE, source)
         for _, data in inputs:
             within("input", MOST_INPUT, data)
-        seen = Seen(source, "--derive" in words.options)
+        seen = Seen(source, "--derive" in words.options, program)
     except FAULTS as fault:
         line, status = line_of(fault)
         tell([line, *explain.explained(explain.entries(), line, ["eval", path, names[0], ""])])
@@ -127,7 +126,7 @@ def count(program: str, words: Words) -> int:
 def shown(report: Report, seen: Seen, inputs: list[tuple[str, bytes]]) -> int:
     """Says what is seen, input by input, and answers the status."""
     status = DONE
-    tell(["Seen on these inputs by the second evaluator, and not proved:"])
+    tell(["Seen on these inputs, and not proved:"])
     for name, data in inputs:
         run, ended = seen.run(name, data)
         tell(report.run(name, run, ended))

@@ -1,12 +1,15 @@
 """What the runs of a source on some inputs show: starts of loops by their entries, calls, markers and restrictions.
 
-It runs the second evaluator. A run that breaks an annotation goes on, and one that is undefined is counted up to there.
+Where the program's `eval` comes to a value, quick.py has the counts; else the second evaluator runs. There a run that breaks an annotation
+goes on, and one that is undefined is counted up to there.
 """
+import resource
 import time
 from collections.abc import Iterator
 from dataclasses import dataclass
 from typing import Any
 
+from counts.quick import Counted, Quick
 from evaluator import tree
 from evaluator.answer import checked, value_line
 from evaluator.facts import MOST_FACTOR, MOST_STARTS, Facts, Relation
@@ -58,8 +61,8 @@ class Entries(Range):
 class Counting(Program):
     """A run that counts the starts of loops, notes the first annotation that it breaks, and goes on."""
 
-    def __init__(self, checker: Checker, facts: Facts, data: bytes, loops: dict[tree.Loop, Entries]) -> None:
-        self.loops, self.gone, self.broken, self.ends_at = loops, 0, None, time.process_time() + MOST_SECONDS
+    def __init__(self, checker: Checker, facts: Facts, data: bytes, loops: dict[tree.Loop, Entries], seconds: float = MOST_SECONDS) -> None:
+        self.loops, self.gone, self.broken, self.ends_at = loops, 0, None, time.process_time() + seconds
         # The values of both sides of the restrictions.
         self.sides = []
         super().__init__(checker, facts, data)
@@ -102,11 +105,26 @@ class Counting(Program):
             self.breaks(relation.at)
 
 
-class Seen:
-    """What the runs of a source on its inputs showed."""
+class Whole:
+    """A run that ended and kept its annotations, of which no more is known than its counts."""
 
-    def __init__(self, source: bytes, derive: bool = False) -> None:
+    def __init__(self, counts: dict[str, int], relations: list[Relation]) -> None:
+        self.counts, self.broken, self.calls = counts, None, []
+        self.sides = [it.sides(counts) for it in relations]
+
+
+def used() -> float:
+    """The seconds of a processor that programs which were called have taken."""
+    taken = resource.getrusage(resource.RUSAGE_CHILDREN)
+    return taken.ru_utime + taken.ru_stime
+
+
+class Seen:
+    """What the runs of a source on its inputs showed: by a built wcc, if one is given, where it can tell."""
+
+    def __init__(self, source: bytes, derive: bool = False, program: str | None = None) -> None:
         self.checker, self.facts = checked(source, need_bounds=False, derive=derive)
+        self.quick = Quick(program, source) if program else None
         nodes = list(tree.nodes_of(self.checker.unit))
         self.loops = {it: Entries() for it in nodes if isinstance(it, tree.Loop)}
         # The counts of the runs that ended.
@@ -117,23 +135,39 @@ class Seen:
         # For each restriction its values on both sides, by the input.
         self.sides = [[] for _ in self.facts.relations]
 
-    def run(self, name: str, data: bytes) -> tuple[Counting, str | Stop]:
+    def run(self, name: str, data: bytes) -> tuple[Counting | Whole, str | Stop]:
         """Runs on an input. Answers the run, its line where it ended, and else what ended it."""
         for loop in self.loops.values():
             loop.is_open = False
-        run = Counting(self.checker, self.facts, data, self.loops)
-        try:
-            ended = value_line(*run.run())
-        except (Undefined, Endless) as event:
-            ended = event
-        for loop in self.loops.values():
-            loop.is_endless |= loop.is_open and isinstance(ended, Endless)
+        begun = used()
+        counted = self.quick.run(data) if self.quick else None
+        run, ended = self.whole(counted) if counted else self.followed(data, MOST_SECONDS - (used() - begun))
         if isinstance(ended, str):
             self.runs.append(dict(run.counts))
         for count in run.counts:
             (self.functions.get(count) or self.markers[count])[1].add(run.counts[count])
         for sides, both in zip(self.sides, run.sides):
             sides.append((*both, name))
+        return run, ended
+
+    def whole(self, counted: Counted) -> tuple[Whole, str]:
+        """By `eval`."""
+        for seen, (entries, fewest, most) in zip(self.loops.values(), counted.loops):
+            if entries:
+                seen.count += entries
+                seen.add(fewest)
+                seen.add(most)
+        return Whole(dict(zip([*self.functions, *self.markers], counted.calls)), self.facts.relations), counted.line
+
+    def followed(self, data: bytes, seconds: float) -> tuple[Counting, str | Stop]:
+        """By the second evaluator."""
+        run = Counting(self.checker, self.facts, data, self.loops, seconds)
+        try:
+            ended = value_line(*run.run())
+        except (Undefined, Endless) as event:
+            ended = event
+        for loop in self.loops.values():
+            loop.is_endless |= loop.is_open and isinstance(ended, Endless)
         return run, ended
 
     def bounds(self) -> Iterator[tuple[tree.Loop, int, int]]:

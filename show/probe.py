@@ -7,6 +7,7 @@ from dataclasses import dataclass
 
 from evaluator import tree
 from evaluator.facts import marker_name
+from evaluator.spans import begin_of
 from source import Source
 
 # Statements before which none stands: a marker would keep a jump from being the branch around it.
@@ -112,11 +113,6 @@ class Probe:
         """Whether a source may have as many markers and nodes."""
         wraps = sum(text.count(b"}") for _, text in self.texts)
         return len(self.marks) <= MOST_MARKERS and len(self.source.nodes) + len(self.marks) + wraps <= MOST_NODES
-
-
-def begin_of(it: tree.Node) -> int:
-    """Where a statement begins: a loop at its pragma."""
-    return it.bound_at if isinstance(it, tree.Loop) and it.bound_at is not None else it.at
 
 
 def unused(data: bytes) -> str:

@@ -5,9 +5,9 @@ from dataclasses import dataclass
 from evaluator import tree
 from evaluator.answer import MOST_SOURCE, within
 from evaluator.facts import Facts, Relation, filling
-from evaluator.parser import Parser
 from evaluator.rules import check
-from evaluator.tokens import Token, tokens_of
+from evaluator.spans import Spans
+from evaluator.tokens import tokens_of
 from places import Line, Lines, Place
 
 KINDS = {tree.While: "while", tree.Do: "do", tree.For: "for"}
@@ -21,27 +21,6 @@ class Part:
     first: int
     last: int
     limits: tuple[int, int] | None = None
-
-
-class Spans(Parser):
-    """A parser that notes where the last token of each statement and object begins; a loop begins at its pragma."""
-
-    def __init__(self, tokens: list[Token], end: int) -> None:
-        super().__init__(tokens, end)
-        self.last: dict[tree.Node, int] = {}
-
-    def noted(self, node: tree.Node) -> tree.Node:
-        self.last[node] = self.tokens[self.next - 1].at
-        return node
-
-    def statement(self, depth: int) -> tree.Node:
-        return self.noted(super().statement(depth))
-
-    def block(self, depth: int) -> tree.Node:
-        return self.noted(super().block(depth))
-
-    def object(self, depth: int, name: Token) -> tree.Node:
-        return self.noted(super().object(depth, name))
 
 
 class Source:
