@@ -1,13 +1,15 @@
 // A program with pointers that step.
-ghost use Rattle.std.specs.Prelude.{◌≡◌, ◌++◌, ◌<◌, ◌≤◌, [], ◌∷◌, suc, true, All, map, IfOk, IfSome};
+ghost use Rattle.std.specs.Prelude.{◌≡◌, ◌*◌, ◌++◌, ◌<◌, ◌≤◌, [], ◌∷◌, suc, true, All, map, IfOk, IfSome};
 ghost use Rattle.std.specs.List.{AllZip};
 ghost use Rattle.low_ir.specs.Programs.{low_of};
-ghost use Rattle.low_ir.specs.Room.{weights};
+ghost use Rattle.low_ir.specs.Room.{room, weights};
 ghost use Rattle.low_ir.specs.View.{claim_of, function_of, program};
-ghost use Rattle.pass_strength_reduction_law.specs.Steps.{IsStepped, MayBeStepped, claims_of, spare_weight};
+ghost use Rattle.pass_strength_reduction_law.specs.Steps.{IsStepped, claims_of, spare_weight};
 ghost use Rattle.pass_strength_reduction.specs.Changing.{IsChanged};
+ghost use Rattle.pass_strength_reduction.specs.Sizes.{IsSteppedWithin};
 
 use super::functions::{Around, changed, kept};
+use super::sizes::is_small_beside;
 use super::weighing::weight;
 use low_ir::{Function, Low};
 use low_parts::rooms::has_room;
@@ -193,8 +195,9 @@ fn planned(alloc: Global, low: &Low) -> Result<Option<Plan>, Memory>
 
 /// A program with other functions and claims.
 fn with_plan(low: Low, plan: Plan) -> Low
-    requires { IsStepped (low_of low) (program plan.functions.items plan.claims.items low.objects.items low.main low.marks) }
-    ensures { IsStepped (low_of low) (low_of result) }
+    requires steps { IsStepped (low_of low) (program plan.functions.items plan.claims.items low.objects.items low.main low.marks) }
+    requires small { room (program plan.functions.items plan.claims.items low.objects.items low.main low.marks) ≤ 2 * room (low_of low) }
+    ensures { IsSteppedWithin (low_of low) (low_of result) }
 {
     let Low {
         functions,
@@ -214,13 +217,33 @@ fn with_plan(low: Low, plan: Plan) -> Low
     }
 }
 
+/// A program as it is.
+fn unchanged(low: Low) -> Low
+    ensures { IsSteppedWithin (low_of low) (low_of result) }
+{
+    low
+}
+
+/// A program with other functions and claims, where that takes at most twice as much.
+fn replaced(low: Low, plan: Plan) -> Low
+    requires { IsStepped (low_of low) (program plan.functions.items plan.claims.items low.objects.items low.main low.marks) }
+    ensures { IsSteppedWithin (low_of low) (low_of result) }
+{
+    if is_small_beside(&plan.functions, &low.functions) {
+        with_plan(low, plan)
+    } else {
+        drop(plan);
+        unchanged(low)
+    }
+}
+
 /// A program that reaches elements through pointers that step with indexes, where that is found.
 pub fn stepped(alloc: Global, low: Low) -> Result<Low, Memory>
-    ensures { IfOk result (λ l. MayBeStepped (low_of low) (low_of l)) }
+    ensures { IfOk result (λ l. IsSteppedWithin (low_of low) (low_of l)) }
 {
     match planned(alloc, &low) {
-        Ok(None) => Ok(low),
-        Ok(Some(plan)) => Ok(with_plan(low, plan)),
+        Ok(None) => Ok(unchanged(low)),
+        Ok(Some(plan)) => Ok(replaced(low, plan)),
         Err(memory) => {
             drop(low);
             Err(memory)

@@ -5,3 +5,5 @@ pub mod Gaining
 pub mod Rows
 pub mod Both
 pub mod Counting
+pub mod Promoted
+pub mod Lowering

@@ -18,6 +18,7 @@ use Rattle.compile_stages.specs.declared.made.Made.{Made}
 use Rattle.compile_stages.specs.declared.made.Stages.{Stages}
 use Rattle.compile_stages.specs.Made.{IsInMemory, IsLowered, IsMade, high_of}
 use Rattle.compile_stages.specs.Placed.{HasNumbers, IsPlacedBy, placed_bytes}
+use Rattle.wcc_compile.specs.Lowered.{IsCodeOf}
 use Rattle.wcc_compile.specs.Passes.{AreStages, passes, stages_of}
 use Rattle.compile_report.specs.Sources.{IsOf, IsReportOn, names_of, tree_of}
 use Rattle.compile_capacity.proofs.Sizes.{limited_fit}
@@ -35,23 +36,24 @@ none_left n (x ∷ xs) b long e t = let f : false ≡ true = sym (e ∙ ap (λ (
 
 module _ (options : Options) (s : Source) where
   -- what is made, with a report on it
-  pub laid_out : (m : Made) → AreStages options (names_of s) (tree_of s) s.facts (stages_of m.stages) → length m.stages.before.items ≡ passes → IsMade (names_of s) (tree_of s) s.facts m
+  pub laid_out : (m : Made) → AreStages options (names_of s) (tree_of s) s.facts (stages_of m.stages) → length m.stages.before.items ≡ passes → IsCodeOf (high_of m) m.code → IsMade (names_of s) (tree_of s) s.facts m
       → (b : Built) → b.made ≡ m → IsReportOn (table_of options.costs) s b.made b.report → IsLaidOut options (names_of s) (tree_of s) s.facts b
-  laid_out m stages all made b same reported = record {
+  laid_out m stages all code made b same reported = record {
     stages = subst (λ (x : Made). AreStages options (names_of s) (tree_of s) s.facts (stages_of x.stages)) (sym same) stages;
     all = subst (λ (x : Made). length x.stages.before.items ≡ passes) (sym same) all;
+    code = subst (λ (x : Made). IsCodeOf (high_of x) x.code) (sym same) code;
     made = subst (IsMade (names_of s) (tree_of s) s.facts) (sym same) made;
     reported = reported;
   }
 
-  pub first_laid : (m : Made) → (text : List ℕ) × IsOf text s → AreStages options (names_of s) (tree_of s) s.facts (stages_of m.stages) → length m.stages.before.items ≡ passes → IsMade (names_of s) (tree_of s) s.facts m → IsPlacedBy [] m
+  pub first_laid : (m : Made) → (text : List ℕ) × IsOf text s → AreStages options (names_of s) (tree_of s) s.facts (stages_of m.stages) → length m.stages.before.items ≡ passes → IsCodeOf (high_of m) m.code → IsMade (names_of s) (tree_of s) s.facts m → IsPlacedBy [] m
       → (r : Result Built Memory) → IfOk r (λ b. b.made ≡ m) → IfOk r (λ b. IsReportOn (table_of options.costs) s b.made b.report) → IfOk r (IsFirst options s)
-  first_laid m is stages all made none (Ok b) same reported = record {
+  first_laid m is stages all code made none (Ok b) same reported = record {
     made_of = record { text = is.0; is_source = is.1; is_made = subst (IsMade (names_of s) (tree_of s) s.facts) (sym same) made };
-    laid_out = laid_out m stages all made b same reported;
+    laid_out = laid_out m stages all code made b same reported;
     none = subst (IsPlacedBy []) (sym same) none;
   }
-  first_laid m is stages all made none (Err e) same reported = tt
+  first_laid m is stages all code made none (Err e) same reported = tt
 
   -- it has room
   pub has_room : (b : Built) → IsFirst options s b → HasRoom (placed_of b.made.code)
@@ -86,13 +88,16 @@ module _ (options : Options) (s : Source) (b : Built) (first : IsFirst options s
         in_memory = memory;
       }
 
+  last_code : IsCodeOf (high_of m) m.code
+  last_code = subst (λ (st : Stages). IsCodeOf (program_of st.last.program) m.code) (sym stages) (subst (λ (x : LowReg). IsCodeOf (high_of b.made) x) (sym code) first.laid_out.code)
+
   pub last_laid : (ids : List ℕ) → AreBest (gains_of (table_of options.costs) b) options.spm ids → IsPlacedBy ids m
       → (r : Result Built Memory) → IfOk r (λ x. x.made ≡ m) → IfOk r (λ x. IsReportOn (table_of options.costs) s x.made x.report) → IfOk r (IsLast options s)
   last_laid ids best by (Ok x) same reported = record {
     laid_out = laid_out options s m
         (subst (λ (st : Stages). AreStages options (names_of s) (tree_of s) s.facts (stages_of st)) (sym stages) first.laid_out.stages)
         (subst (λ (st : Stages). length st.before.items ≡ passes) (sym stages) first.laid_out.all)
-        last_made x same reported;
+        last_code last_made x same reported;
     placed = record {
       first = b;
       is_first = first.laid_out;

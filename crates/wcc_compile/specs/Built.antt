@@ -10,8 +10,9 @@ use Rattle.spm_placement.specs.declared.item.Item.{Item}
 use Rattle.spm_placement.specs.Sets.{AreBest}
 use Rattle.promise_compiler.specs.declared.built.Options.{Options}
 use Rattle.compile_placement.specs.Laws.{items_of}
-use Rattle.compile_stages.specs.Made.{IsMade}
+use Rattle.compile_stages.specs.Made.{IsMade, high_of}
 use Rattle.compile_stages.specs.Placed.{IsPlacedBy}
+use Rattle.wcc_compile.specs.Lowered.{IsCodeOf}
 use Rattle.wcc_compile.specs.Passes.{AreStages, passes, stages_of}
 use Rattle.compile_report_law.specs.Reported.{IsReported}
 use Rattle.wcc_compile.specs.declared.built.Built.{Built}
@@ -22,6 +23,8 @@ pub record IsLaidOut (options : Options) (names : List (List ℕ)) (program : Pr
   pub stages : AreStages options names program facts (stages_of b.made.stages)
   -- no pass is left out
   pub all : length b.made.stages.before.items ≡ passes
+  -- the code of the last program, by each pass of the low form
+  pub code : IsCodeOf (high_of b.made) b.made.code
   -- the last program in the low form with its places, and the image of these, with its claims and lists
   pub made : IsMade names program facts b.made
   -- the report has the copy lines of these copies, the image's claims by the loops of the source, the restrictions over the copy lines, and

@@ -1,4 +1,5 @@
 pub mod Passes
+pub mod Lowered
 pub mod Laws
 pub mod Built
 pub mod Steps

@@ -1,10 +1,9 @@
 // The low passes: from the last program in the high form to its code over places, a line for each pass.
 ghost use Rattle.std.specs.Prelude.{IfOk};
 ghost use Rattle.high_ir.specs.Programs.{program_of};
-ghost use Rattle.high_ir.specs.Tree.{Program};
 ghost use Rattle.low_ir.specs.Programs.{low_of};
-ghost use Rattle.lower_law.specs.Programs.{KeepsProgram};
 ghost use Rattle.compile_stages.specs.Made.{IsLowered};
+ghost use Rattle.wcc_compile.specs.Lowered.{IsCodeOf, IsQuickened, IsShortened};
 
 use high_ir::High;
 use low_ir::{Low, LowReg};
@@ -21,7 +20,7 @@ use wcc_base::Memory;
 
 /// Jump threading, then common subexpression elimination and copy propagation, twice: copies make more values equal.
 fn shortened(alloc: Global, low: Low) -> Result<Low, Memory>
-    ensures { IfOk result (λ l. (p : Program) → KeepsProgram p (low_of low) → KeepsProgram p (low_of l)) }
+    ensures { IfOk result (λ l. IsShortened (low_of low) (low_of l)) }
 {
     let short = threaded(alloc, low)?;
     let loaded = without_reloads(alloc, short)?;
@@ -33,7 +32,7 @@ fn shortened(alloc: Global, low: Low) -> Result<Low, Memory>
 
 /// Strength reduction, then copy propagation, which leaves out the indexes that nothing reads any more, and jump threading.
 fn quickened(alloc: Global, low: Low) -> Result<Low, Memory>
-    ensures { IfOk result (λ l. (p : Program) → KeepsProgram p (low_of low) → KeepsProgram p (low_of l)) }
+    ensures { IfOk result (λ l. IsQuickened (low_of low) (low_of l)) }
 {
     let quick = stepped(alloc, low)?;
     let bare = without_copies(alloc, quick)?;
@@ -43,7 +42,8 @@ fn quickened(alloc: Global, low: Low) -> Result<Low, Memory>
 
 /// The code of a program in the high form: its low form, the passes over that, and a place for each register.
 pub(crate) fn code_of(alloc: Global, program: &High) -> Result<LowReg, Memory>
-    ensures { IfOk result (IsLowered (program_of program.now)) }
+    ensures lowered { IfOk result (IsLowered (program_of program.now)) }
+    ensures passed { IfOk result (IsCodeOf (program_of program.now)) }
 {
     let plain = lower(alloc, program)?;
     let held = promoted(alloc, plain)?;

@@ -8,6 +8,7 @@ ghost use Rattle.low_ir.specs.Placings.{placed_of};
 ghost use Rattle.compile_high_definitions.specs.Carried.{IsPlanned};
 ghost use Rattle.compile_stages.specs.Made.{IsInMemory, IsLowered};
 ghost use Rattle.compile_stages.specs.Placed.{CanBePlaced, Fits, HasNumbers, IsPlacedBy};
+ghost use Rattle.wcc_compile.specs.Lowered.{IsCodeOf};
 
 use crate::low_passes::code_of;
 use compile_stages::{Lowered, Made, Stages};
@@ -33,6 +34,7 @@ pub(crate) fn planned(alloc: Global, source: &Source) -> Result<Carried, Memory>
 pub(crate) fn lowered(alloc: Global, stages: Stages) -> Result<Lowered, Memory>
     ensures stages { IfOk result (λ l. l.stages ≡ stages) }
     ensures code { IfOk result (λ l. IsLowered (program_of stages.last.program) l.code) }
+    ensures passed { IfOk result (λ l. IsCodeOf (program_of stages.last.program) l.code) }
 {
     match code_of(alloc, &stages.last.program) {
         Ok(code) => Ok(Lowered { stages, code }),

@@ -8,8 +8,9 @@ ghost use Rattle.report_laws.specs.Typed.{IsTyped};
 ghost use Rattle.report_text.specs.Lines.{report_text};
 ghost use Rattle.rv_core.specs.Table.{table_of};
 ghost use Rattle.spm_placement.specs.Sets.{AreBest};
-ghost use Rattle.compile_stages.specs.Made.{IsMade};
+ghost use Rattle.compile_stages.specs.Made.{IsMade, high_of};
 ghost use Rattle.compile_stages.specs.Placed.{IsPlacedBy};
+ghost use Rattle.wcc_compile.specs.Lowered.{IsCodeOf};
 ghost use Rattle.wcc_compile.specs.Passes as passes;
 ghost use Rattle.compile_report.specs.Sources as sources;
 ghost use Rattle.wcc_compile.specs.Built.{IsBuilt, gains_of};
@@ -65,6 +66,7 @@ fn made(alloc: Global, source: &Source, options: &Options) -> Result<Made, Memor
     requires { (text : List ℕ) × sources.IsOf text source.now }
     ensures stages { IfOk result (λ m. passes.AreStages options.now (sources.names_of source.now) (sources.tree_of source.now) source.now.facts (passes.stages_of m.stages)) }
     ensures all { IfOk result (λ m. length m.stages.before.items ≡ passes.passes) }
+    ensures code { IfOk result (λ m. IsCodeOf (high_of m) m.code) }
     ensures made { IfOk result (IsMade (sources.names_of source.now) (sources.tree_of source.now) source.now.facts) }
     ensures none { IfOk result (IsPlacedBy []) }
 {

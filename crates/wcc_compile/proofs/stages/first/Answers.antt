@@ -8,4 +8,4 @@ pub returns-clause-laid : goal.returns-clause-laid
 returns-clause-laid c =
     let s = c.args.source.now in
     let from = c.in_ok-made.ensures in
-    first_laid c.args.options.now s c.in_ok-made.made c.requires from.stages from.all from.made from.none c.with_report.result c.with_report.ensures.made c.with_report.ensures.reported
+    first_laid c.args.options.now s c.in_ok-made.made c.requires from.stages from.all from.code from.made from.none c.with_report.result c.with_report.ensures.made c.with_report.ensures.reported

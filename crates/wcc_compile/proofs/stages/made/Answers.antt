@@ -8,6 +8,7 @@ use Rattle.compile_high_definitions.specs.Carried.{IsCarried}
 use Rattle.compile_capacity.proofs.Sizes.{limited_fit}
 use Rattle.compile_stages.specs.Made.{IsLowered}
 use Rattle.compile_stages.specs.declared.made.Stages.{Stages}
+use Rattle.wcc_compile.specs.Lowered.{IsCodeOf}
 use Rattle.wcc_compile.specs.Passes.{AreStages, stages_of}
 use Rattle.compile_report.specs.Sources.{names_of, tree_of}
 use Rattle.wcc_compile.proofs.stages.made.Goals as goal
@@ -25,6 +26,14 @@ returns-clause-stages c =
     let s = c.args.source.now in
     subst (λ (st : Stages). AreStages c.args.options.now (names_of s) (tree_of s) s.facts (stages_of st)) (sym c.in_ok-made.ensures.stages)
     (subst (λ (st : Stages). AreStages c.args.options.now (names_of s) (tree_of s) s.facts (stages_of st)) (sym c.in_ok-lowered.ensures.stages) c.in_ok-stages.ensures.begun.stages)
+
+pub returns-clause-code : goal.returns-clause-code
+returns-clause-code c =
+    let m = c.in_ok-made.made in
+    let last = c.in_ok-made.ensures in
+    let below = c.in_ok-lowered.ensures in
+    subst (λ (st : Stages). IsCodeOf (program_of st.last.program) m.code) (sym last.stages)
+    (subst (λ (st : Stages). IsCodeOf (program_of st.last.program) m.code) (sym below.stages) (subst (λ (code : LowReg). IsCodeOf (program_of c.in_ok-stages.stages.last.program) code) (sym last.code) below.passed))
 
 pub returns-clause-made : goal.returns-clause-made
 returns-clause-made c =
