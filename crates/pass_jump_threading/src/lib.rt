@@ -7,6 +7,8 @@
 //! without a test of its number. The time is linear: a way goes past at most so many blocks, and a block begins with at most so many
 //! facts.
 //!
+//! A block whose mark a pass left where no kept run comes stays even where no way leads to it, so that the image has its place.
+//!
 //! Proved: [`threaded`] gives a program of which `pass_jump_threading_law` speaks, or the program as it was. What is planned is not proved:
 //! where a plan doesn't fit, the program stays as it is.
 //!

@@ -221,10 +221,14 @@ fn by_plan(alloc: Global, function: &Function, plan: &Planned) -> Result<Option<
     }))
 }
 
-/// A function with shorter ways, if its plan fits.
-pub fn function_threaded(alloc: Global, function: &Function) -> Result<Option<Function>, Memory>
+/// A function with shorter ways, if its plan fits. By mark: whether its block stays even where no way leads to it.
+pub fn function_threaded(
+    alloc: Global,
+    function: &Function,
+    never: &[bool],
+) -> Result<Option<Function>, Memory>
     ensures { IfOk result (λ o. IfSome o (λ g. FunctionThreaded (function_of function.now) (function_of g))) }
 {
-    let plan = make_plan(alloc, function)?;
+    let plan = make_plan(alloc, function, never)?;
     by_plan(alloc, function, &plan)
 }

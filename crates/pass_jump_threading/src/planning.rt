@@ -3,7 +3,7 @@ use super::choosing::held_in;
 use super::ends::told;
 use super::facts::{Fact, copied, known, pass_all};
 use super::ways::{goal, lead};
-use low_ir::{End, Function};
+use low_ir::{Block, End, Function};
 use std::alloc::Global;
 use wcc_base::Memory;
 
@@ -126,6 +126,18 @@ impl Sweep {
         }
     }
 
+    /// A block that is left even where no way leads to it.
+    fn keep_idle(&mut self, alloc: Global, block: usize) {
+        if let Some(stay) = self.stays.get_mut(block) {
+            if stay.is_none() {
+                *stay = Some(Stay {
+                    name: 0,
+                    facts: Vec::new(alloc),
+                });
+            }
+        }
+    }
+
     /// The facts where a block begins, if it is left; it gets its number.
     fn begin(&mut self, alloc: Global, block: usize) -> Result<Option<Vec<Fact>>, Memory> {
         if let Some(Some(stay)) = self.stays.get_mut(block) {
@@ -182,14 +194,28 @@ fn begun(alloc: Global, function: &Function) -> Result<Sweep, Memory> {
     Ok(sweep)
 }
 
-/// What is planned for a function.
-pub fn make_plan(alloc: Global, function: &Function) -> Result<Planned, Memory> {
+/// Whether a block has one of the marks that stay.
+fn is_never(never: &[bool], block: &Block) -> bool {
+    match block.mark {
+        None => false,
+        Some(mark) => match never.get(mark as usize) {
+            None => false,
+            Some(is) => *is,
+        },
+    }
+}
+
+/// What is planned for a function, by mark: whether its block stays even where no way leads to it.
+pub fn make_plan(alloc: Global, function: &Function, never: &[bool]) -> Result<Planned, Memory> {
     let held = held_in(alloc, function)?;
     let seen = seen_in(alloc, function)?;
     let nothing: Vec<Option<u32>> = Vec::new(alloc);
     let mut sweep = begun(alloc, function)?;
     for at in 0..function.blocks.len() {
         let block = &function.blocks[at];
+        if is_never(never, block) {
+            sweep.keep_idle(alloc, at);
+        }
         if let Some(facts) = sweep.begin(alloc, at)? {
             let mut facts = facts;
             let base: &[Option<u32>] = if at == 0 { &nothing } else { &held };

@@ -11,20 +11,32 @@ use low_parts::programs::with_functions;
 use std::alloc::Global;
 use wcc_base::Memory;
 
+/// Functions with shorter ways, if the plan of each fits. By mark: whether its block stays even where no way leads to it.
+fn functions_by(
+    alloc: Global,
+    functions: &[Function],
+    never: &[bool],
+) -> Result<Option<Vec<Function>>, Memory>
+    ensures { IfOk result (λ o. IfSome o (λ made. AllZip FunctionThreaded (map function_of functions.now) (map function_of made.items))) }
+{
+    let mut made = Vec::new(alloc);
+    for function in functions {
+        let Some(new) = function_threaded(alloc, function, never)? else {
+            return Ok(None);
+        };
+        made.push(new)?;
+    }
+    Ok(Some(made))
+}
+
+/// Functions with shorter ways, if the plan of each fits.
 pub fn functions_threaded(
     alloc: Global,
     functions: &[Function],
 ) -> Result<Option<Vec<Function>>, Memory>
     ensures { IfOk result (λ o. IfSome o (λ made. AllZip FunctionThreaded (map function_of functions.now) (map function_of made.items))) }
 {
-    let mut made = Vec::new(alloc);
-    for function in functions {
-        let Some(new) = function_threaded(alloc, function)? else {
-            return Ok(None);
-        };
-        made.push(new)?;
-    }
-    Ok(Some(made))
+    functions_by(alloc, functions, &[])
 }
 
 /// A program with other functions.
@@ -36,10 +48,11 @@ fn made_of(low: Low, new: Vec<Function>) -> Low
 }
 
 /// A program whose jumps go past blocks that do nothing; or as it is, where a plan doesn't fit, which no program is known to need.
-pub fn threaded(alloc: Global, low: Low) -> Result<Low, Memory>
+/// By mark: whether its block stays even where no way leads to it.
+pub fn threaded(alloc: Global, low: Low, never: &[bool]) -> Result<Low, Memory>
     ensures { IfOk result (λ l. MayBeThreaded (low_of low) (low_of l)) }
 {
-    match functions_threaded(alloc, &low.functions) {
+    match functions_by(alloc, &low.functions, never) {
         Ok(None) => Ok(low),
         Ok(Some(functions)) => Ok(made_of(low, functions)),
         Err(memory) => {

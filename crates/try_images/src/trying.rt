@@ -110,14 +110,14 @@ fn print_places(
 ) -> Result<(), Fault> {
     let low = lower(rt.alloc(), &made.program)?;
     let low = promoted(rt.alloc(), low)?;
-    let low = threaded(rt.alloc(), low)?;
+    let low = threaded(rt.alloc(), low, &[])?;
     let low = without_reloads(rt.alloc(), low)?;
     let low = without_copies(rt.alloc(), low)?;
     let low = without_reloads(rt.alloc(), low)?;
     let low = without_copies(rt.alloc(), low)?;
     let low = stepped(rt.alloc(), low)?;
     let low = without_copies(rt.alloc(), low)?;
-    let low = threaded(rt.alloc(), low)?;
+    let low = threaded(rt.alloc(), low, &[])?;
     let code = with_places(rt.alloc(), low, places)?;
     let printed = print_both(rt, name, input, meant, &made.copies.marks, &code);
     drop(code);
@@ -165,14 +165,14 @@ fn places_named(word: &str) -> Result<Places, Fault> {
 fn lowered(alloc: Global, program: &High, places: Places) -> Result<LowReg, Memory> {
     let low = lower(alloc, program)?;
     let low = promoted(alloc, low)?;
-    let low = threaded(alloc, low)?;
+    let low = threaded(alloc, low, &[])?;
     let low = without_reloads(alloc, low)?;
     let low = without_copies(alloc, low)?;
     let low = without_reloads(alloc, low)?;
     let low = without_copies(alloc, low)?;
     let low = stepped(alloc, low)?;
     let low = without_copies(alloc, low)?;
-    let low = threaded(alloc, low)?;
+    let low = threaded(alloc, low, &[])?;
     with_places(alloc, low, places)
 }
 

@@ -18,11 +18,12 @@ use register_live_ranges::live;
 use std::alloc::Global;
 use wcc_base::Memory;
 
-/// Jump threading, then common subexpression elimination and copy propagation, twice: copies make more values equal.
-fn shortened(alloc: Global, low: Low) -> Result<Low, Memory>
+/// Jump threading, then common subexpression elimination and copy propagation, twice: copies make more values equal. By mark: whether its
+/// block stays though no run comes there.
+fn shortened(alloc: Global, low: Low, never: &[bool]) -> Result<Low, Memory>
     ensures { IfOk result (λ l. IsShortened (low_of low) (low_of l)) }
 {
-    let short = threaded(alloc, low)?;
+    let short = threaded(alloc, low, never)?;
     let loaded = without_reloads(alloc, short)?;
     let brief = without_copies(alloc, loaded)?;
     let again = without_reloads(alloc, brief)?;
@@ -31,24 +32,25 @@ fn shortened(alloc: Global, low: Low) -> Result<Low, Memory>
 }
 
 /// Strength reduction, then copy propagation, which leaves out the indexes that nothing reads any more, and jump threading.
-fn quickened(alloc: Global, low: Low) -> Result<Low, Memory>
+fn quickened(alloc: Global, low: Low, never: &[bool]) -> Result<Low, Memory>
     ensures { IfOk result (λ l. IsQuickened (low_of low) (low_of l)) }
 {
     let quick = stepped(alloc, low)?;
     let bare = without_copies(alloc, quick)?;
-    let last = threaded(alloc, bare)?;
+    let last = threaded(alloc, bare, never)?;
     Ok(last)
 }
 
-/// The code of a program in the high form: its low form, the passes over that, and a place for each register.
-pub(crate) fn code_of(alloc: Global, program: &High) -> Result<LowReg, Memory>
+/// The code of a program in the high form: its low form, the passes over that, and a place for each register. By mark: whether its block
+/// stays though no run comes there.
+pub(crate) fn code_of(alloc: Global, program: &High, never: &[bool]) -> Result<LowReg, Memory>
     ensures lowered { IfOk result (IsLowered (program_of program.now)) }
     ensures passed { IfOk result (IsCodeOf (program_of program.now)) }
 {
     let plain = lower(alloc, program)?;
     let held = promoted(alloc, plain)?;
-    let brief = shortened(alloc, held)?;
-    let low = quickened(alloc, brief)?;
+    let brief = shortened(alloc, held, never)?;
+    let low = quickened(alloc, brief, never)?;
     let live = live(alloc, &low)?;
     let code = allocate(alloc, low, &live)?;
     Ok(code)

@@ -30,13 +30,33 @@ pub(crate) fn planned(alloc: Global, source: &Source) -> Result<Carried, Memory>
     make(alloc, &source.typed, &source.facts)
 }
 
+/// By mark of a program: whether a pass left it where no kept run comes.
+fn never_reached(alloc: Global, last: &Carried) -> Result<Vec<bool>, Memory> {
+    let mut never = vec![in alloc; false; last.program.marks as usize]?;
+    for each in &last.copies.nevers {
+        if let Some(is) = never.get_mut(each.mark as usize) {
+            *is = true;
+        }
+    }
+    Ok(never)
+}
+
+/// The code of the last program in the high form.
+fn code_behind(alloc: Global, last: &Carried) -> Result<LowReg, Memory>
+    ensures lowered { IfOk result (IsLowered (program_of last.now.program)) }
+    ensures passed { IfOk result (IsCodeOf (program_of last.now.program)) }
+{
+    let never = never_reached(alloc, last)?;
+    code_of(alloc, &last.program, &never)
+}
+
 /// A source in the low form: its last program there, over its places.
 pub(crate) fn lowered(alloc: Global, stages: Stages) -> Result<Lowered, Memory>
     ensures stages { IfOk result (λ l. l.stages ≡ stages) }
     ensures code { IfOk result (λ l. IsLowered (program_of stages.last.program) l.code) }
     ensures passed { IfOk result (λ l. IsCodeOf (program_of stages.last.program) l.code) }
 {
-    match code_of(alloc, &stages.last.program) {
+    match code_behind(alloc, &stages.last) {
         Ok(code) => Ok(Lowered { stages, code }),
         Err(memory) => {
             drop(stages);

@@ -1,1 +1,1 @@
-int main(void){int i;int n=getchar();_Pragma("loopbound min 0 max 0") for(i=5;i<n;i++)putchar(i);return i;}
+int main(void){int i;_Pragma("loopbound min 0 max 0") for(i=5;i<5;i++)putchar(i);return i;}

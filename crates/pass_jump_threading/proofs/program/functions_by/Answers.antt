@@ -5,7 +5,7 @@ use Rattle.low_ir.specs.declared.low.Function.{Function}
 use Rattle.low_ir.specs.View.{function_of}
 use Rattle.pass_jump_threading_law.specs.Threads.{FunctionThreaded}
 use Rattle.low_parts.proofs.Filling.{zip_taken}
-use Rattle.pass_jump_threading.proofs.program.functions_threaded.Goals as goal
+use Rattle.pass_jump_threading.proofs.program.functions_by.Goals as goal
 
 pub loop-function-preserved : goal.loop-function-preserved
 loop-function-preserved c =
