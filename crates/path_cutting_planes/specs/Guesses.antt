@@ -2,7 +2,6 @@
 use Rattle.std.specs.Prelude.{◌≡◌, ℕ, ◌*◌, ◌^◌, ◌≤◌, ◌<◌, unsigned_abs, List, length, All}
 use Rattle.wcc_base.specs.declared.compare.Compare.{Compare}
 use Rattle.simplex_rounds.specs.declared.pricing.Multipliers.{Multipliers}
-use Rattle.simplex_rounds.specs.declared.weighing.Weight.{Weight}
 use Rattle.simplex_laws.specs.RoundLaws.{HaveSigns}
 
 -- a multiplier for each fact, of its sign; each number, times one more than the number of loop claims, is at most 2^44
@@ -12,8 +11,3 @@ pub record IsGuess (os : List Compare) (times : ℕ) (y : Multipliers) : Type 0 
   pub count : length y.facts ≡ length os
   pub facts : All (λ z. unsigned_abs z * times ≤ 2 ^ 44) y.facts
   pub signs : HaveSigns os y.facts
-
--- few weights over 2^44, of so many columns
-pub record AreShares (columns : ℕ) (ws : List Weight) : Type 0 where
-  pub few : length ws ≤ 34
-  pub each : All (λ w. (w.column < columns) × (w.bottom ≡ 2 ^ 44) × (w.top ≤ 2 ^ 44)) ws

@@ -24,6 +24,8 @@ pub struct Master {
     pub(crate) owns: Vec<usize>,
     /// The columns' values, over the unit.
     pub(crate) values: Vec<f64>,
+    /// The facts' totals of one column after the other.
+    pub(crate) totals: Vec<i128>,
     /// The greatest value without facts.
     pub(crate) unit: f64,
     /// What each fact's totals are measured in.
@@ -49,13 +51,14 @@ pub(crate) fn float(number: i128) -> f64 {
     nearest_i64_to_f64(number as i64)
 }
 
+/// A total of a list.
+pub(crate) fn whole_at(totals: &[i128], fact: usize) -> i128 {
+    if fact < totals.len() { totals[fact] } else { 0 }
+}
+
 /// A total of a list as a float.
 pub(crate) fn total_at(totals: &[i128], fact: usize) -> f64 {
-    if fact < totals.len() {
-        float(totals[fact])
-    } else {
-        0.0
-    }
+    float(whole_at(totals, fact))
 }
 
 /// The slack's place.
@@ -109,6 +112,14 @@ impl Master {
         all
     }
 
+    /// Keeps the totals of a column.
+    fn keep_totals(&mut self, totals: &[i128]) -> Result<(), AllocError> {
+        for fact in 0..self.ops.len() {
+            self.totals.push(whole_at(totals, fact))?;
+        }
+        Ok(())
+    }
+
     /// Adds a column, if there is room.
     pub(crate) fn add(&mut self, column: &Column) -> Result<(), AllocError> {
         if self.values.len() >= MOST_COLUMNS {
@@ -121,6 +132,7 @@ impl Master {
         }
         let value = float(column.value) / self.unit;
         self.values.push(value)?;
+        self.keep_totals(column.totals.as_slice())?;
         Ok(())
     }
 }
@@ -168,6 +180,7 @@ pub fn begun(alloc: Global, ops: &[Compare], column: &Column) -> Result<Master, 
         cells,
         owns,
         values: Vec::new(alloc),
+        totals: Vec::new(alloc),
         unit: float(column.value).max(1.0),
         sizes,
         cost: FIRST_COST,

@@ -1,6 +1,6 @@
 -- Guessed multipliers can be asked at, and what the second search keeps of the answers.
-use Rattle.std.proofs.Common.{◌≡◌, ℕ, ◌+◌, ◌*◌, ◌/◌, ◌≤◌, ◌<◌, ◌^◌, ℤ, pos, ◌≤ℤ◌, arith, refl, sym, ap, ◌∙◌, subst, List, [], ◌∷◌, ◌++◌, length, All, inl, inr, ◌⊎◌, Bool, true, false, cond, Option, Some, None, unsigned_abs}
-use Rattle.std.specs.Prelude.{nat_lt, slice_index_or, IfSome}
+use Rattle.std.proofs.Common.{◌≡◌, ℕ, ◌+◌, ◌*◌, ◌≤◌, ◌^◌, ℤ, pos, ◌≤ℤ◌, arith, refl, sym, ◌∙◌, subst, List, [], ◌∷◌, ◌++◌, length, All, inl, inr, ◌⊎◌, Bool, true, false, cond, Option, Some, None, unsigned_abs}
+use Rattle.std.specs.Prelude.{nat_lt, IfSome}
 use Rattle.std.proofs.lemmas.Int.{ints}
 use Rattle.std.proofs.lemmas.List.Elements.{All-append}
 use Rattle.rv_core.specs.Table.{Table}
@@ -9,20 +9,15 @@ use Rattle.code_flow_system.specs.declared.cert.Cert.{Cert}
 use Rattle.code_flow_system.specs.declared.shapes.LoopShape.{LoopShape}
 use Rattle.code_flow_system.specs.declared.shapes.Span.{Span}
 use Rattle.code_flow_system.specs.Systems.{System}
-use Rattle.code_flow_system.specs.Certificates.{fact_limits, IsSigned, PartsAscend}
+use Rattle.code_flow_system.specs.Certificates.{fact_limits, IsSigned}
 use Rattle.simplex_rounds.specs.declared.pricing.Multipliers.{Multipliers}
-use Rattle.simplex_rounds.specs.declared.weighing.Weight.{Weight}
-use Rattle.simplex_rounds.specs.Weighted.{numerator}
 use Rattle.simplex_laws.specs.RoundLaws.{HaveSigns}
 use Rattle.path_fact_kinds.specs.Columns.{ops_of}
-use Rattle.path_conditions.specs.Walking.{IsSearchable}
 use Rattle.path_fact_columns.specs.Conditions.{AreNarrow}
 use Rattle.path_fact_columns.specs.Answers.{certificate_at}
-use Rattle.path_fact_columns.specs.Adding.{AreAsked, AreWeights, amounts_in, flow_of, mixed_parts, shares}
+use Rattle.path_fact_columns.specs.Adding.{AreAsked}
 use Rattle.path_fact_columns.proofs.ScaledLemmas.{limits_signed}
-use Rattle.path_fact_kinds.specs.Mixes.{mix}
-use Rattle.path_cert.proofs.PartLemmas.{parts_ascend}
-use Rattle.path_cutting_planes.specs.Guesses.{IsGuess, AreShares}
+use Rattle.path_cutting_planes.specs.Guesses.{IsGuess}
 use Rattle.path_enum.specs.declared.asking.Answered.{Answered}
 use Rattle.path_enum.specs.declared.guessing.Guesses.{Guesses}
 use Rattle.path_enum.specs.declared.guessing.Walked.{Walked}
@@ -110,9 +105,6 @@ module _ (t : Table) (s : System) (ls : List LoopShape) (ps : List Span) where
       some_same : {x y : Cert} → Some x ≡ Some y → x ≡ y
       some_same e = cc
 
-  pub mixed_ascend : IsSearchable t s ls ps → (ys : List Multipliers) (m : ℕ) (ws : List Weight) → PartsAscend (mixed_parts t s ls ps ys m ws)
-  mixed_ascend is ys m ws = parts_ascend s.moves (amounts_in (mix (shares (flow_of t s ls ps ys) m ws)) s.moves) is.limited.limited.whole.system.ascending
-
   -- with a lesser bound the first search begins as before
   pub begun_less : (a : Answered) (c d : Cert) → IsBegun t s ls ps a → a.cert ≡ Some c → IsBound t s d → d.cycles ≤ c.cycles → IsBegun t s ls ps (answered d a.column a.multipliers)
   begun_less a c d h e bound lt =
@@ -128,22 +120,3 @@ module _ (t : Table) (s : System) (ls : List LoopShape) (ps : List Span) where
     where
       some_same : {x y : Cert} → Some x ≡ Some y → x ≡ y
       some_same e = cc
-
--- ---- weights
-
-share_kept : (n : ℕ) (w : Weight) → (w.column < n) × (w.bottom ≡ 2 ^ 44) × (w.top ≤ 2 ^ 44) → (w.column < n) × (0 < w.bottom) × (w.bottom ≤ 2 ^ 44) × (numerator (2 ^ 44) w ≤ 2 ^ 44)
-share_kept n w h =
-    let b = h.1 in
-    let one : (2 ^ 44) / w.bottom ≡ 1 = ap (λ k. (2 ^ 44) / k) b in
-    let top : numerator (2 ^ 44) w ≡ w.top * 1 = ap (λ k. w.top * k) one in
-    let small = h.2 in (h.0, omega (arith, b), omega (arith, b), omega (arith, top, small))
-
-pub shares_are : (n : ℕ) (ws : List Weight) → AreShares n ws → AreWeights n (2 ^ 44) ws
-shares_are n ws h = record {
-  few = (let f = h.few in omega (arith, f));
-  small = omega arith;
-  each = All-map ws h.each;
-}
-  where
-    All-map : (ws : List Weight) → All (λ (w : Weight). (w.column < n) × (w.bottom ≡ 2 ^ 44) × (w.top ≤ 2 ^ 44)) ws → All (λ (w : Weight). (w.column < n) × (0 < w.bottom) × (w.bottom ≤ 2 ^ 44) × (numerator (2 ^ 44) w ≤ 2 ^ 44)) ws
-    All-map ws a k d lt = share_kept n (slice_index_or ws k d) (a k d lt)

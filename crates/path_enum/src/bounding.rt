@@ -92,8 +92,12 @@ fn both(alloc: Global, searched: Searched, first: Answered) -> Result<Bounded, M
     }
 }
 
-/// The bound of a system, as [`bound`] has it: where it is a bound alone, it is the least of those that either search made.
-pub fn least_bound(
+/// The bound of a system: its certificate, and whether it is the greatest value of a flow, there is no flow, or it is a bound
+/// alone, the least of those that either search made.
+///
+/// The conditions: all moves are reached, as those of a system that is found are (`path_places::systems_are_reached`), and
+/// loops, costs and restrictions are within the limits of a search.
+pub fn bound(
     alloc: Global,
     system: &System,
     shapes: &[LoopShape],
@@ -121,23 +125,4 @@ pub fn least_bound(
         Asked::NoFlow(cert) => Ok(alone(alloc, cert, Kind::Empty)),
         Asked::Found(first) => both(alloc, searched, first),
     }
-}
-
-/// The bound of a system: its certificate, and whether it is the greatest value of a flow, there is no flow, or it is a bound
-/// alone.
-///
-/// The conditions: all moves are reached, as those of a system that is found are (`path_places::systems_are_reached`), and
-/// loops, costs and restrictions are within the limits of a search.
-pub fn bound(
-    alloc: Global,
-    system: &System,
-    shapes: &[LoopShape],
-    spans: &[Span],
-    costs: &Costs,
-) -> Result<Bounded, Memory>
-    requires reached { AreReached system.now }
-    requires can { CanSearch (table_of costs.now) system.now shapes.now spans.now }
-    ensures { IfOk result (IsFound (table_of costs.now) system.now) }
-{
-    least_bound(alloc, system, shapes, spans, costs)
 }

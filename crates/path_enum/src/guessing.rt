@@ -1,10 +1,10 @@
-// The second search: multipliers by cutting planes, and a flow of small numbers by the weights of their columns.
-ghost use Rattle.std.specs.Prelude.{◌≡◌, ◌⊎◌, ◌<◌, ◌≤◌, ◌^◌, ◌++◌, ◌∷◌, [], IfOk, All};
+// The second search: multipliers by cutting planes, and the flow that the weights of their columns make.
+ghost use Rattle.std.specs.Prelude.{◌≡◌, ◌⊎◌, ◌++◌, ◌∷◌, [], IfOk, IfSome, All};
 ghost use Rattle.rv_core.specs.Table.{table_of};
-ghost use Rattle.code_flow_system.specs.Certificates.{PartsAscend};
 ghost use Rattle.path_fact_kinds.specs.Columns.{ops_of};
 ghost use Rattle.path_conditions.specs.Walking.{IsSearchable};
 ghost use Rattle.path_fact_columns.specs.Adding.{AreAsked};
+ghost use Rattle.path_guessed_flows.specs.Guesses.{IsGuessed};
 ghost use Rattle.path_enum.specs.declared.guessing.Walked.TheVariants as walks;
 ghost use Rattle.path_enum.specs.Marks.{least_of};
 ghost use Rattle.path_enum.specs.Steps.{IsAnswered};
@@ -14,10 +14,10 @@ use crate::asking::{Answered, Asked, Searched, ask};
 use crate::marking::least_of;
 use crate::stepping::loop_factor;
 use code_flow_answer::Column;
-use code_flow_system::{Cert, Part};
-use path_cutting_planes::{MOST_COLUMNS, Master, WHOLE, begun, multipliers, simplest, weights};
-use path_fact_columns::{Found, mixed};
-use path_guessed_flows::{Outcome, rounded, tested, unit_of};
+use code_flow_system::Cert;
+use path_cutting_planes::{MOST_COLUMNS, Master, begun, equations_of, multipliers, simplest};
+use path_fact_columns::Found;
+use path_guessed_flows::{Guessed, Outcome, solved_flow, tested};
 use simplex_rounds::Multipliers;
 use std::alloc::{AllocError, Global};
 use wcc_base::{Compare, Items};
@@ -47,13 +47,12 @@ pub enum Walked {
     Stays(Guesses),
 }
 
-/// A guess of the greatest flow: the solution of a master program, its weighted flow over the great unit, and a small unit.
+/// A guess of the greatest flow: the solution of a master program, and its weighted flow.
 #[derive(Clone, Copy)]
 pub struct Guess<'a> {
     pub master: &'a Master,
     pub ops: &'a [Compare],
-    pub flow: &'a [Part],
-    pub unit: u64,
+    pub flow: &'a Guessed,
 }
 
 /// Multipliers once more.
@@ -176,16 +175,16 @@ fn rounds(
     Ok(Walked::Stays(guesses))
 }
 
-/// The flows of the columns, weighted as the solution weights them, over the great unit.
+/// The flow of the columns, weighted as the solution weights them.
 fn weighted(
     alloc: Global,
     searched: Searched,
     master: &Master,
     asked: &[Multipliers],
-) -> Result<Vec<Part>, AllocError>
+) -> Result<Option<Guessed>, AllocError>
     requires searchable { IsSearchable (table_of searched.costs.now) searched.system.now searched.shapes.now searched.spans.now }
     requires asked { All (AreAsked (table_of searched.costs.now) searched.system.now searched.shapes.now searched.spans.now) asked.now }
-    ensures { IfOk result (λ v. PartsAscend v.items) }
+    ensures { IfOk result (λ o. IfSome o IsGuessed) }
 {
     let Searched {
         system,
@@ -193,7 +192,7 @@ fn weighted(
         spans,
         costs,
     } = searched;
-    let weights = weights(alloc, master, asked.len())?;
+    let equations = equations_of(alloc, master, asked.len())?;
     let found = Found {
         system,
         shapes,
@@ -201,7 +200,7 @@ fn weighted(
         costs,
         asked,
     };
-    mixed(alloc, found, u128::from(WHOLE), &weights)
+    solved_flow(alloc, found, &equations.columns, &equations.rows)
 }
 
 /// Whether the guessed flow has the value that an answer bounds, and keeps all claims.
@@ -215,9 +214,7 @@ fn judged(
     requires guesses { AreGuesses (table_of searched.costs.now) searched.system.now searched.shapes.now searched.spans.now guesses }
     requires answer { IsAnswered (table_of searched.costs.now) searched.system.now searched.shapes.now searched.spans.now answer.multipliers answer }
     requires asked { AreAsked (table_of searched.costs.now) searched.system.now searched.shapes.now searched.spans.now answer.multipliers }
-    requires flow { PartsAscend guess.flow.now }
-    requires some { 0 < guess.unit }
-    requires unit { guess.unit ≤ 2 ^ 40 }
+    requires flow { IsGuessed guess.flow.now }
     ensures { IfOk result (IsWalked (table_of searched.entry.costs.now) searched.entry.system.now searched.entry.shapes.now searched.entry.spans.now guesses.least.cycles) }
 {
     let Answered {
@@ -232,13 +229,13 @@ fn judged(
             Ok(Walked::Goes(guesses))
         }
         Some(cert) => {
-            let parts = rounded(alloc, guess.flow, guess.unit)?;
+            let parts = Vec::from_slice(alloc, &guess.flow.parts)?;
             let outcome = tested(
                 alloc,
                 searched.system,
                 searched.costs,
                 cert,
-                guess.unit,
+                guess.flow.unit,
                 parts,
             );
             match outcome {
@@ -267,9 +264,7 @@ fn tried(
     requires searchable { IsSearchable (table_of searched.costs.now) searched.system.now searched.shapes.now searched.spans.now }
     requires ops { guess.ops.now ≡ ops_of searched.system.now.claims.facts }
     requires guesses { AreGuesses (table_of searched.costs.now) searched.system.now searched.shapes.now searched.spans.now guesses }
-    requires flow { PartsAscend guess.flow.now }
-    requires some { 0 < guess.unit }
-    requires unit { guess.unit ≤ 2 ^ 40 }
+    requires flow { IsGuessed guess.flow.now }
     ensures { IfOk result (IsWalked (table_of searched.entry.costs.now) searched.entry.system.now searched.entry.shapes.now searched.entry.spans.now guesses.least.cycles) }
 {
     let times = loop_factor(searched.system);
@@ -295,9 +290,7 @@ fn tries(
     requires searchable { IsSearchable (table_of searched.costs.now) searched.system.now searched.shapes.now searched.spans.now }
     requires ops { guess.ops.now ≡ ops_of searched.system.now.claims.facts }
     requires guesses { AreGuesses (table_of searched.costs.now) searched.system.now searched.shapes.now searched.spans.now guesses }
-    requires flow { PartsAscend guess.flow.now }
-    requires some { 0 < guess.unit }
-    requires unit { guess.unit ≤ 2 ^ 40 }
+    requires flow { IsGuessed guess.flow.now }
     ensures { IfOk result (IsWalked (table_of searched.entry.costs.now) searched.entry.system.now searched.entry.shapes.now searched.entry.spans.now guesses.least.cycles) }
 {
     let mut guesses = guesses;
@@ -325,15 +318,13 @@ fn ended(
     requires guesses { AreGuesses (table_of searched.costs.now) searched.system.now searched.shapes.now searched.spans.now guesses }
     ensures { IfOk result (IsWalked (table_of searched.entry.costs.now) searched.entry.system.now searched.entry.shapes.now searched.entry.spans.now guesses.least.cycles) }
 {
-    let flow = weighted(alloc, searched, master, &guesses.asked)?;
-    let Some(unit) = unit_of(&flow) else {
+    let Some(flow) = weighted(alloc, searched, master, &guesses.asked)? else {
         return Ok(Walked::Stays(guesses));
     };
     let guess = Guess {
         master,
         ops,
         flow: &flow,
-        unit,
     };
     tries(alloc, searched, guess, guesses)
 }

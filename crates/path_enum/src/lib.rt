@@ -10,8 +10,7 @@
 //! with the least bound that was found, where a number is too wide, or 200 columns or 10,000 pivots don't suffice.
 //!
 //! Proved: the certificate is in form and accepted, it is greatest with a listed flow or empty where the kind says so, and a
-//! bound alone has its cause; [`least_bound`] says besides that no certificate is less that was made at the multipliers of a column, or
-//! at those that were guessed.
+//! bound alone has its cause, and no certificate is less that was made at the multipliers of a column, or at those that were guessed.
 //!
 //! What [`loops_fit`] promises stands at its own place, `path_fit`; what is answered is of `code_flow_answer`, on which reports stand without
 //! standing on a search. Beside them stand the laws of the best flow at prices of both signs ([`best_flows_are_found`] and
@@ -28,7 +27,7 @@ mod searching;
 mod stepping;
 mod weighing;
 
-pub use bounding::{bound, least_bound};
+pub use bounding::bound;
 pub use code_flow_answer::{Bounded, Column, Kind, LoopShape, Span};
 pub use path_cert::{best_flows_are_found, fact_flows_are_best};
 pub use path_fit::loops_fit;

@@ -45,11 +45,7 @@ pub(crate) fn add_flow(amounts: &mut [u128], moves: &[Move], parts: &[Part], oft
 }
 
 /// The moves that are made, and how often.
-pub(crate) fn parts_of(
-    alloc: Global,
-    moves: &[Move],
-    amounts: &[u128],
-) -> Result<Vec<Part>, AllocError>
+pub fn parts_of(alloc: Global, moves: &[Move], amounts: &[u128]) -> Result<Vec<Part>, AllocError>
     requires long { length amounts.now ≡ length moves.now }
     requires fits { All (λ u. u < 2 ^ 127) amounts.now }
     ensures { IfOk result (λ v. v.items ≡ parts_of moves.now amounts.now) }

@@ -22,6 +22,7 @@ mod counting;
 mod laws;
 mod mixing;
 
+pub use adding::parts_of;
 pub use answering::{Answer, answer_at};
 pub use columns::column;
 pub use laws::{first_answers_are_best, solved_are_greatest};

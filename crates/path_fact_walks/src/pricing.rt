@@ -1,5 +1,5 @@
 // Prices of moves that pay for facts.
-ghost use Rattle.std.specs.Prelude.{◌≡◌, ◌≤◌, ◌<◌, ◌^◌, ◌*ℤ◌, ◌-ℤ◌, unsigned_abs, length, map, IfOk, All};
+ghost use Rattle.std.specs.Prelude.{◌≡◌, ◌≤◌, ◌<◌, ◌+◌, ◌*◌, ◌^◌, pos, ℤ, ◌*ℤ◌, ◌-ℤ◌, unsigned_abs, List, length, map, false, IfOk, All};
 ghost use Rattle.frac128.specs.Terms.{coefficient};
 ghost use Rattle.rv_core.specs.Table.{table_of};
 ghost use Rattle.code_flow_system.specs.Systems.{IsPlaced};
@@ -7,8 +7,8 @@ ghost use Rattle.code_flow_system.specs.Certificates.{fact_limits, held};
 ghost use Rattle.path_cert.specs.Priced.{fact_price, sizes_of, fact_low};
 ghost use Rattle.path_fact_walks.specs.Sizes.{IsLimited, AreMultiplied};
 
-use code_flow_lookup::move_cost;
-use code_flow_system::{FactClaim, LoopShape, Move, System};
+use code_flow_lookup::{mentions_at, move_cost};
+use code_flow_system::{FactClaim, LoopShape, Mention, Move, System};
 use rv_core::Costs;
 use std::alloc::{AllocError, Global};
 
@@ -58,6 +58,46 @@ fn held(facts: &[FactClaim], multipliers: &[i128], at: u32) -> i128
     sum
 }
 
+/// The number of the first fact's limit.
+fn first_fact(system: &System) -> usize
+    ensures { result ≡ length system.now.claims.nevers + 2 * length system.now.claims.loops }
+{
+    let claims = system.claims();
+    claims.nevers().len() + 2 * claims.loops().len()
+}
+
+/// Whether a mention is of a limit from one on.
+fn any_from(mentions: &[Mention], first: usize) -> bool
+    ensures { result ≡ false → All (λ m. m.limit < first) mentions.now }
+{
+    for i in 0..mentions.len() {
+        if mentions[i].limit >= first {
+            return true;
+        }
+    }
+    false
+}
+
+/// Whether the index of a system has a fact at an address. At most addresses it has none.
+fn is_mentioned(system: &System, at: u32) -> bool
+    ensures { result ≡ false → (ys : List ℤ) → length ys ≡ length system.now.claims.facts → held (fact_limits system.now.claims.facts ys) at ≡ pos 0 }
+{
+    let first = first_fact(system);
+    any_from(mentions_at(system.mentions(), at), first)
+}
+
+/// What the multiplied facts have at an address, quickly where none mentions it.
+fn held_at(multiplied: Multiplied, at: u32) -> i128
+    requires fits { AreMultiplied multiplied.system.now multiplied.scale multiplied.facts.now }
+    ensures value { result ≡ held (fact_limits multiplied.entry.system.now.claims.facts multiplied.entry.facts.now) at }
+    ensures small { unsigned_abs result ≤ 2 ^ 114 }
+{
+    if !is_mentioned(multiplied.system, at) {
+        return 0;
+    }
+    held(multiplied.system.claims().facts(), multiplied.facts, at)
+}
+
 fn price(multiplied: Multiplied, step: &Move) -> i128
     requires placed { IsPlaced step.now.at }
     requires fits { AreMultiplied multiplied.system.now multiplied.scale multiplied.facts.now }
@@ -67,11 +107,10 @@ fn price(multiplied: Multiplied, step: &Move) -> i128
         system,
         costs,
         scale,
-        facts,
         ..
     } = multiplied;
     let cost = i128::from(move_cost(system, costs, step)) * i128::from(scale);
-    cost - held(system.claims().facts(), facts, step.at)
+    cost - held_at(multiplied, step.at)
 }
 
 /// The prices of the moves, in their order.

@@ -26,7 +26,7 @@ returns-clause-value c =
     let m = c.args.made.now in
     let told = c.requires.claims in
     let can = c.made_can_be_bounded.ensures h.text (names_of s) (tree_of s) s.facts m told.0 c.args.system.now.claims c.args.costs.now c.args.system.now h.is_source h.is_made told.1 c.requires.system in
-    let found = c.in_ok-bounded.ensures in
+    let found = c.in_ok-bounded.ensures.found in
     value_small (table_of c.args.costs.now) c.args.system.now c.in_ok-bounded.bounded.cert m.laid.claimed.shapes.items m.laid.lists.spans.items can found.form found.accepted c.weak_duality.ensures.promise
 
 pub returns-clause-cycles : goal.returns-clause-cycles
@@ -37,5 +37,5 @@ returns-clause-cycles c =
     let told = c.requires.claims in
     let can = c.made_can_be_bounded.ensures h.text (names_of s) (tree_of s) s.facts m told.0 c.args.system.now.claims c.args.costs.now c.args.system.now h.is_source h.is_made told.1 c.requires.system in
     let bounded = c.in_ok-bounded.bounded in
-    let found = c.in_ok-bounded.ensures in
+    let found = c.in_ok-bounded.ensures.found in
     cycles_below (table_of c.args.costs.now) c.args.system.now bounded.cert m.laid.claimed.shapes.items m.laid.lists.spans.items can found.form found.accepted c.weak_duality.ensures.promise bounded.columns bounded.kind found.kind

@@ -5,7 +5,7 @@ use Rattle.code_flow_system.specs.Certificates.{fact_limits, IsSigned}
 use Rattle.simplex_rounds.specs.declared.pricing.Multipliers.{Multipliers}
 use Rattle.path_enum.specs.Steps.{IsAnswered, IsAsked}
 use Rattle.path_enum.proofs.BoundLemmas.{none_signed, begun}
-use Rattle.path_enum.proofs.bounding.least_bound.Goals as goal
+use Rattle.path_enum.proofs.bounding.bound.Goals as goal
 
 pub ask-requires-clause-signs : goal.ask-requires-clause-signs
 ask-requires-clause-signs c =
