@@ -1,0 +1,5 @@
+pub mod Words
+pub mod Said
+pub mod Tree
+pub mod Spelling
+pub mod Formed
